@@ -1,0 +1,31 @@
+//! What everything in kqsim means: the types of a trace and of a report, and in `specs/` the
+//! definitions of the simulated system.
+#![tactic(auto)]
+
+mod change;
+mod errno;
+mod event;
+mod event_flags;
+mod filter;
+mod kevent;
+mod memory;
+mod object;
+mod reply;
+mod row;
+mod series;
+mod trace;
+mod why;
+
+pub use change::Change;
+pub use errno::Errno;
+pub use event::Event;
+pub use event_flags::EvFlags;
+pub use filter::Filter;
+pub use kevent::Kevent;
+pub use memory::Memory;
+pub use object::{Hint, Named, Target, View};
+pub use reply::Reply;
+pub use row::Row;
+pub use series::Series;
+pub use trace::Trace;
+pub use why::Why;

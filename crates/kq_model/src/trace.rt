@@ -1,0 +1,12 @@
+ghost use Rattle.std.specs.Prelude.{◌≡◌, ◌<◌, ◌^◌, length};
+
+use crate::{Event, Series};
+
+/// A recorded run: the version of its format and its events, of which the first has place 1.
+#[derive(Drop)]
+pub struct Trace {
+    pub version: u32,
+    pub events: Series<Event>,
+    ghost version_one: { version ≡ 1 },
+    ghost countable: { length events < 2 ^ 31 },
+}
