@@ -1,2 +1,11 @@
 pub mod Errno
 pub mod FlagNames
+pub mod Limits
+pub mod Bits
+pub mod Views
+pub mod Knote
+pub mod Kqueue
+pub mod Look
+pub mod Registration
+pub mod Retrieval
+pub mod Call
