@@ -9,3 +9,10 @@ pub mod Look
 pub mod Registration
 pub mod Retrieval
 pub mod Call
+pub mod FaultNames
+pub mod Names
+pub mod Lines
+pub mod Members
+pub mod ChangeText
+pub mod Reading
+pub mod Spelling
