@@ -16,3 +16,6 @@ pub mod Members
 pub mod ChangeText
 pub mod Reading
 pub mod Spelling
+pub mod World
+pub mod System
+pub mod Report
