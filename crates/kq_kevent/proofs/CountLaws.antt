@@ -1,5 +1,5 @@
 -- Keys that differ and are all of some knote are no more than the knotes.
-use Rattle.std.proofs.Common.{◌≡◌, ℕ, suc, ◌+◌, ◌≤◌, Bool, true, false, cond, not, ◌||◌, List, [], ◌∷◌, filter, length, None, refl, sym, ap, ◌∙◌, subst, arith}
+use Rattle.std.proofs.Common.{◌≡◌, suc, ◌+◌, ◌≤◌, Bool, true, false, cond, not, List, [], ◌∷◌, length, None, refl, sym, ◌∙◌, subst, arith}
 use Rattle.std.proofs.lemmas.List.{length-map}
 use Rattle.std.proofs.lemmas.Bool.{or_right, or_left, true≢false}
 use Rattle.kq_model.specs.declared.key.Key.{Key}
@@ -31,10 +31,10 @@ length-keys [] ks once present = omega arith
 length-keys (k ∷ q) ks once present =
     let here : find_knote k ks ≡ None → ⊥ = present k (or_left (key_eq k k) (has_key k q) (key_eq-refl k)) in
     let rest : length q ≤ length (without_knote k ks) =
-        length-keys q (without_knote k ks) once.1 (λ key there none.
-            by_test (λ b. key_eq k key ≡ b → ⊥) (key_eq k key)
-            (λ _ same. true≢false (sym there ∙ subst (λ (other : Key). has_key other q ≡ false) (same_key k key same) once.0))
-            (λ _ apart. present key (or_right (key_eq key k) (has_key key q) there) (sym (find_knote-without_other key k ks apart) ∙ none)) refl) in
+    length-keys q (without_knote k ks) once.1 (λ key there none.
+    by_test (λ b. key_eq k key ≡ b → ⊥) (key_eq k key)
+    (λ _ same. true≢false (sym there ∙ subst (λ (other : Key). has_key other q ≡ false) (same_key k key same) once.0))
+    (λ _ apart. present key (or_right (key_eq key k) (has_key key q) there) (sym (find_knote-without_other key k ks apart) ∙ none)) refl) in
     omega (arith, length-without_present k ks here)
 
 pub length-with_knote : (k : Knote) (ks : List Knote) → length (with_knote k ks) ≡ length ks

@@ -1,15 +1,13 @@
 -- What a change leaves of a knote: its key, and that it is active.
-use Rattle.std.proofs.Common.{◌≡◌, ℕ, Bool, true, false, cond, Option, Some, None, refl, sym, ap, ◌∙◌}
+use Rattle.std.proofs.Common.{◌≡◌, ℕ, false, cond, Option, Some, None, refl, sym, ◌∙◌}
 use Rattle.std.proofs.lemmas.Bool.{true≢false, cond_both}
 use Rattle.kq_model.specs.declared.change.Change.{Change}
 use Rattle.kq_model.specs.declared.filter.Filter.{Filter}
 use Rattle.kq_model.specs.declared.filter.Filter.TheVariants.{Read, Write, Vnode, Proc, Signal, Timer, User, Aio, Lio, Fs, Procdesc, Sendfile, Empty}
-use Rattle.kq_model.specs.declared.key.Key.{Key}
 use Rattle.kq_model.specs.Bits.{asks, add}
 use Rattle.kq_model.specs.Knote.{Knote}
 use Rattle.kq_model.specs.Look.{Seen, look}
 use Rattle.kq_model.specs.Registration.{key_of, fresh, begun, replaced, changed, switched, activated, attended, made, modified}
-use Rattle.kq_model.specs.Retrieval.{rested, reset}
 use Rattle.kq_model.specs.Views.{Views}
 use Rattle.kq_knote.proofs.KnoteLaws.{by_test}
 

@@ -4,3 +4,4 @@ pub mod KnoteSteps
 pub mod SoundLaws
 pub mod RegisterLaws
 pub mod TurnLaws
+pub mod CallLaws

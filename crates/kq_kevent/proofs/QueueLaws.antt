@@ -1,6 +1,6 @@
 -- The queue as a list of keys: what is in it, and that no key stands in it twice, after each change.
 use Rattle.std.proofs.Common.{◌≡◌, Bool, true, false, cond, not, ◌&&◌, ◌||◌, List, [], ◌∷◌, ◌++◌, refl, sym, ap, ◌∙◌, subst}
-use Rattle.std.proofs.lemmas.Bool.{or_parts, or_from, true≢false}
+use Rattle.std.proofs.lemmas.Bool.{or_parts}
 use Rattle.kq_model.specs.declared.key.Key.{Key}
 use Rattle.kq_model.specs.Knote.{Knote, key_eq, has_key, without_key, queued}
 use Rattle.kq_model.specs.Kqueue.{AreOnce}
@@ -83,7 +83,7 @@ unfolding queue_for
 has_key-queue_for_other key k q apart =
     by_test (λ e. has_key key (queue_by k q e k.active) ≡ has_key key q) k.enabled
     (λ _. by_test (λ a. has_key key (queue_by k q true a) ≡ has_key key q) k.active
-        (λ _. has_key-queued_other key k.key q apart) (λ _. refl))
+    (λ _. has_key-queued_other key k.key q apart) (λ _. refl))
     (λ _. has_key-without_other key k.key q apart)
 
 -- where a knote that is not active is not in the queue, the knote is in it when active and enabled
@@ -92,7 +92,7 @@ unfolding queue_for
 has_key-queue_for_same k q idle =
     by_test (λ e. has_key k.key (queue_by k q e k.active) ≡ k.active && e) k.enabled
     (λ _. by_test (λ a. (a ≡ false → has_key k.key q ≡ false) → has_key k.key (queue_by k q true a) ≡ a && true) k.active
-        (λ _ _. has_key-queued_same k.key q) (λ _ absent. absent refl) idle)
+    (λ _ _. has_key-queued_same k.key q) (λ _ absent. absent refl) idle)
     (λ _. has_key-without_same k.key q ∙ sym (and-false k.active))
   where
     and-false : (b : Bool) → b && false ≡ false

@@ -1,6 +1,6 @@
 -- What registration comes to in each case, and how the code's steps make it up.
-use Rattle.std.proofs.Common.{◌≡◌, ℕ, Bool, true, false, cond, not, ◌&&◌, ◌||◌, List, [], ◌∷◌, ◌++◌, Option, Some, None, refl, sym, ap, ◌∙◌, subst}
-use Rattle.std.proofs.lemmas.Bool.{or_parts, or_cases, not-true, not-false, cond-true, cond-false}
+use Rattle.std.proofs.Common.{◌≡◌, ℕ, Bool, true, false, cond, not, ◌&&◌, ◌||◌, List, Option, Some, None, refl, sym, ap, ◌∙◌, subst}
+use Rattle.std.proofs.lemmas.Bool.{or_parts, not-false}
 use Rattle.kq_model.specs.declared.change.Change.{Change}
 use Rattle.kq_model.specs.declared.errno.Errno.TheVariants.{ENOENT, EINVAL}
 use Rattle.kq_model.specs.declared.filter.Filter.{Filter}
@@ -10,7 +10,7 @@ use Rattle.kq_model.specs.Bits.{asks, add, delete, enable, disable}
 use Rattle.kq_model.specs.Knote.{Knote, find_knote}
 use Rattle.kq_model.specs.Kqueue.{Kqueue, IsSound}
 use Rattle.kq_model.specs.Look.{is_simulated}
-use Rattle.kq_model.specs.Registration.{key_of, fresh, begun, replaced, changed, switched, attended, made, modified, decided, decision, Decision, Refuse, Remove, Make, Modify, carried_out, register, Registered}
+use Rattle.kq_model.specs.Registration.{key_of, fresh, begun, replaced, changed, switched, attended, made, modified, decided, decision, Refuse, Remove, Make, Modify, carried_out, register}
 use Rattle.kq_model.specs.Views.{Views}
 use Rattle.kq_kevent.specs.Steps.{is_malformed, with_made, with_removed, with_modified}
 

@@ -1,14 +1,12 @@
 -- The kqueue stays sound: keys differ, and the queue holds each active enabled knote once and nothing else.
-use Rattle.std.proofs.Common.{◌≡◌, ℕ, ◌+◌, ◌≤◌, Bool, true, false, ◌&&◌, ◌||◌, List, [], ◌∷◌, ◌++◌, length, Option, Some, None, refl, sym, ap, ◌∙◌, subst, arith}
+use Rattle.std.proofs.Common.{◌≡◌, ◌+◌, ◌≤◌, false, ◌&&◌, ◌||◌, List, [], ◌∷◌, ◌++◌, length, Option, Some, None, refl, sym, ap, ◌∙◌, subst, arith}
 use Rattle.std.proofs.lemmas.Bool.{true≢false, and_left}
 use Rattle.std.proofs.lemmas.Option.{none-some}
 use Rattle.std.specs.Option.{option_map}
-use Rattle.kq_model.specs.declared.change.Change.{Change}
 use Rattle.kq_model.specs.declared.key.Key.{Key}
 use Rattle.kq_model.specs.Knote.{Knote, key_eq, has_key, without_key, find_knote, with_knote, without_knote}
-use Rattle.kq_model.specs.Kqueue.{Kqueue, AreOnce, HaveOwnKeys, is_waiting, IsSound, empty_kqueue}
-use Rattle.kq_model.specs.Registration.{queue_for, modified}
-use Rattle.kq_model.specs.Views.{Views}
+use Rattle.kq_model.specs.Kqueue.{Kqueue, HaveOwnKeys, is_waiting, IsSound, empty_kqueue}
+use Rattle.kq_model.specs.Registration.{queue_for}
 use Rattle.kq_knote.proofs.KeyLaws.{same_key, key_eq-refl, key_eq-sym, has_key-without_same, has_key-without_other}
 use Rattle.kq_knote.proofs.KnoteLaws.{by_test, found_or, find_knote-none, find_knote-here, find_knote-later, find_knote-append, find_knote-with_same, find_knote-with_other, find_knote-without_same, find_knote-without_other, HaveOwnKeys-append, HaveOwnKeys-with, HaveOwnKeys-without}
 use Rattle.kq_kevent.proofs.QueueLaws.{has_key-queue_for_same, has_key-queue_for_other, AreOnce-queue_for, AreOnce-without}
@@ -42,10 +40,13 @@ length-queue kq sound =
 -- and less, where some knote is not in it
 pub length-queue_besides : (kq : Kqueue) → IsSound kq → (key : Key) (k : Knote) → find_knote key kq.knotes ≡ Some k → has_key key kq.queue ≡ false → length kq.queue + 1 ≤ length kq.knotes
 length-queue_besides kq sound key k there idle =
-    omega (arith, length-keys (key ∷ kq.queue) kq.knotes (idle, sound.once) (λ other here none.
-        by_test (λ b. key_eq other key ≡ b → ⊥) (key_eq other key)
-        (λ _ same. none-some k (sym (subst (λ (o : Key). find_knote o kq.knotes ≡ None) (same_key other key same) none) ∙ there))
-        (λ _ apart. true≢false (sym (sym (ap (λ b. b || has_key other kq.queue) apart) ∙ here) ∙ IsSound-absent kq sound other none)) refl))
+    omega (
+      arith,
+      length-keys (key ∷ kq.queue) kq.knotes (idle, sound.once) (λ other here none.
+          by_test (λ b. key_eq other key ≡ b → ⊥) (key_eq other key)
+          (λ _ same. none-some k (sym (subst (λ (o : Key). find_knote o kq.knotes ≡ None) (same_key other key same) none) ∙ there))
+          (λ _ apart. true≢false (sym (sym (ap (λ b. b || has_key other kq.queue) apart) ∙ here) ∙ IsSound-absent kq sound other none)) refl),
+    )
 
 -- a knote comes, or takes the place of the one of its key, and its key goes where it belongs
 IsSound-put : (kq : Kqueue) (ks : List Knote) (k : Knote) → IsSound kq → HaveOwnKeys ks → find_knote k.key ks ≡ Some k → ((key : Key) → key_eq k.key key ≡ false → find_knote key ks ≡ find_knote key kq.knotes) → (k.active ≡ false → has_key k.key kq.queue ≡ false) → IsSound (record { knotes = ks; queue = queue_for k kq.queue })
@@ -55,7 +56,7 @@ IsSound-put kq ks k sound own here others idle = record {
   waiting = λ key.
       by_test (λ b. key_eq k.key key ≡ b → has_key key (queue_for k kq.queue) ≡ is_waiting (find_knote key ks)) (key_eq k.key key)
       (λ _ same. subst (λ (other : Key). has_key other (queue_for k kq.queue) ≡ is_waiting (find_knote other ks)) (same_key k.key key same)
-          (has_key-queue_for_same k kq.queue idle ∙ sym (waiting-some k) ∙ ap is_waiting (sym here)))
+      (has_key-queue_for_same k kq.queue idle ∙ sym (waiting-some k) ∙ ap is_waiting (sym here)))
       (λ _ apart. has_key-queue_for_other key k kq.queue apart ∙ sound.waiting key ∙ ap is_waiting (sym (others key apart))) refl;
 }
 
@@ -86,6 +87,6 @@ IsSound-removed kq gone sound = record {
   waiting = λ key.
       by_test (λ b. key_eq gone key ≡ b → has_key key (without_key gone kq.queue) ≡ is_waiting (find_knote key (without_knote gone kq.knotes))) (key_eq gone key)
       (λ _ same. subst (λ (other : Key). has_key other (without_key gone kq.queue) ≡ is_waiting (find_knote other (without_knote gone kq.knotes))) (same_key gone key same)
-          (has_key-without_same gone kq.queue ∙ sym (ap is_waiting (find_knote-without_same gone kq.knotes) ∙ waiting-none)))
+      (has_key-without_same gone kq.queue ∙ sym (ap is_waiting (find_knote-without_same gone kq.knotes) ∙ waiting-none)))
       (λ _ apart. has_key-without_other key gone kq.queue apart ∙ sound.waiting key ∙ ap is_waiting (sym (find_knote-without_other key gone kq.knotes apart))) refl;
 }

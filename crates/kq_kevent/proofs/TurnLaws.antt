@@ -1,13 +1,12 @@
 -- The kqueue stays sound through each turn of a retrieval, and the turns make up the retrieval.
-use Rattle.std.proofs.Common.{◌≡◌, ℕ, zero, suc, ◌+◌, ◌-◌, ◌≤◌, Bool, true, false, cond, not, ◌&&◌, ◌||◌, List, [], ◌∷◌, ◌++◌, length, take, drop, Option, Some, None, refl, sym, ap, ◌∙◌, subst, arith}
+use Rattle.std.proofs.Common.{◌≡◌, ℕ, suc, ◌+◌, ◌-◌, ◌≤◌, Bool, true, false, cond, not, ◌&&◌, ◌||◌, List, [], ◌∷◌, ◌++◌, length, take, drop, Option, Some, None, refl, sym, ap, ◌∙◌, subst, arith}
 use Rattle.std.proofs.lemmas.Bool.{true≢false, or_left}
-use Rattle.std.proofs.lemmas.Option.{none-some}
-use Rattle.std.proofs.lemmas.List.{append_assoc, take_all, drop_all, take_at, drop_at, take-append-drop, take-append-le, drop-append-le, append-nil, length_push}
+use Rattle.std.proofs.lemmas.List.{append_assoc, take_all, drop_all, take-append-drop, take-append-le, drop-append-le, append-nil, length_push}
 use Rattle.std.specs.Option.{option_map}
 use Rattle.kq_model.specs.declared.kevent.Kevent.{Kevent}
 use Rattle.kq_model.specs.declared.key.Key.{Key}
 use Rattle.kq_model.specs.Knote.{Knote, key_eq, has_key, find_knote, with_knote, without_knote}
-use Rattle.kq_model.specs.Kqueue.{Kqueue, HaveOwnKeys, AreOnce, is_waiting, IsSound}
+use Rattle.kq_model.specs.Kqueue.{Kqueue, HaveOwnKeys, is_waiting, IsSound}
 use Rattle.kq_model.specs.Look.{Seen, look}
 use Rattle.kq_model.specs.Retrieval.{event_of, reset, rested, knotes_after, stays, back_after, Retrieved, delivered, at_look, at_front, retrieve, retrieval}
 use Rattle.kq_model.specs.Views.{Views}
@@ -16,7 +15,7 @@ use Rattle.kq_knote.proofs.KnoteLaws.{by_test, find_knote-key, find_knote-with_s
 use Rattle.kq_kevent.proofs.QueueLaws.{has_key-push_same, has_key-push_other, AreOnce-push}
 use Rattle.kq_kevent.proofs.CountLaws.{length-without_knote, length-with_knote}
 use Rattle.kq_kevent.proofs.SoundLaws.{waiting-none, waiting-some}
-use Rattle.kq_kevent.specs.Turn.{Turned, with_idle, with_delivered, turned_at_look, turned_at, turned_by, turned}
+use Rattle.kq_kevent.specs.Turn.{with_idle, with_delivered, turned_at_look, turned_at, turned_by, turned}
 
 -- ---- soundness
 
@@ -41,8 +40,8 @@ IsSound-idled ks key rest k idle sound here same inactive =
     let at : key ≡ idle.key = find_knote-key key ks k here ∙ sym same in
     IsSound-off ks (with_knote idle ks) key rest sound (HaveOwnKeys-with idle ks sound.own_keys)
     (ap (λ o. is_waiting (find_knote o (with_knote idle ks))) at
-        ∙ ap is_waiting (find_knote-with_same idle ks ∙ ap (option_map (λ _. idle)) (ap (λ o. find_knote o ks) (sym at) ∙ here))
-        ∙ waiting-some idle ∙ ap (λ b. b && idle.enabled) inactive)
+    ∙ ap is_waiting (find_knote-with_same idle ks ∙ ap (option_map (λ _. idle)) (ap (λ o. find_knote o ks) (sym at) ∙ here))
+    ∙ waiting-some idle ∙ ap (λ b. b && idle.enabled) inactive)
     (λ other apart. find_knote-with_other other idle ks (ap (λ o. key_eq o other) (sym at) ∙ apart))
 
 pub IsSound-with_idle : (ks : List Knote) (key : Key) (rest : List Key) (k : Knote) → IsSound (record { knotes = ks; queue = key ∷ rest }) → find_knote key ks ≡ Some k → IsSound (with_idle k ks rest)
@@ -72,13 +71,13 @@ IsSound-with_delivered ks key rest k sound here =
     let at : key ≡ k.key = find_knote-key key ks k here in
     rw (or_assoc k.oneshot k.clear k.dispatch)
     (by_test (λ o. IsSound (record { knotes = knotes_by k ks o (k.clear || k.dispatch); queue = back_by k rest (o || (k.clear || k.dispatch)) })) k.oneshot
-        (λ _. subst (λ (o : Key). IsSound (record { knotes = without_knote o ks; queue = rest })) at
-            (IsSound-off ks (without_knote key ks) key rest sound (HaveOwnKeys-without key ks sound.own_keys)
-                (ap is_waiting (find_knote-without_same key ks) ∙ waiting-none)
-                (λ other apart. find_knote-without_other other key ks apart)))
-        (λ _. by_test (λ r. IsSound (record { knotes = knotes_by k ks false r; queue = back_by k rest r })) (k.clear || k.dispatch)
-            (λ _. IsSound-idled ks key rest k (rested k) sound here (rested-key k) (rested-active k))
-            (λ _. subst (λ (o : Key). IsSound (record { knotes = ks; queue = rest ++ o ∷ [] })) at (to_back ks key rest sound))))
+    (λ _. subst (λ (o : Key). IsSound (record { knotes = without_knote o ks; queue = rest })) at
+    (IsSound-off ks (without_knote key ks) key rest sound (HaveOwnKeys-without key ks sound.own_keys)
+    (ap is_waiting (find_knote-without_same key ks) ∙ waiting-none)
+    (λ other apart. find_knote-without_other other key ks apart)))
+    (λ _. by_test (λ r. IsSound (record { knotes = knotes_by k ks false r; queue = back_by k rest r })) (k.clear || k.dispatch)
+    (λ _. IsSound-idled ks key rest k (rested k) sound here (rested-key k) (rested-active k))
+    (λ _. subst (λ (o : Key). IsSound (record { knotes = ks; queue = rest ++ o ∷ [] })) at (to_back ks key rest sound))))
   where
     to_back : (ks : List Knote) (key : Key) (rest : List Key) → IsSound (record { knotes = ks; queue = key ∷ rest }) → IsSound (record { knotes = ks; queue = rest ++ key ∷ [] })
     to_back ks key rest sound = record {
@@ -87,7 +86,7 @@ IsSound-with_delivered ks key rest k sound here =
       waiting = λ other.
           by_test (λ b. key_eq key other ≡ b → has_key other (rest ++ key ∷ []) ≡ is_waiting (find_knote other ks)) (key_eq key other)
           (λ _ same. subst (λ (o : Key). has_key o (rest ++ key ∷ []) ≡ is_waiting (find_knote o ks)) (same_key key other same)
-              (has_key-push_same key rest ∙ sym (or_left (key_eq key key) (has_key key rest) (key_eq-refl key)) ∙ sound.waiting key))
+          (has_key-push_same key rest ∙ sym (or_left (key_eq key key) (has_key key rest) (key_eq-refl key)) ∙ sound.waiting key))
           (λ _ apart. has_key-push_other other key rest apart ∙ sym (other_waits key other rest apart) ∙ sound.waiting other) refl;
     }
 
@@ -103,7 +102,7 @@ length-knotes_after k ks =
     by_test (λ o. length (knotes_by k ks o (k.clear || k.dispatch)) ≤ length ks) k.oneshot
     (λ _. length-without_knote k.key ks)
     (λ _. by_test (λ r. length (knotes_by k ks false r) ≤ length ks) (k.clear || k.dispatch)
-        (λ _. omega (arith, length-with_knote (rested k) ks)) (λ _. omega arith))
+    (λ _. omega (arith, length-with_knote (rested k) ks)) (λ _. omega arith))
 
 -- ---- the cases of a turn
 
@@ -152,6 +151,7 @@ going-full views n kq =
   where
     whole : List Knote → List Key → Retrieved
     whole ks q = record { kq = record { knotes = ks; queue = q }; events = [] }
+
     at_keys : (keys back : List Key) (ks : List Knote) → retrieve views keys back 0 ks ≡ whole ks (keys ++ back)
     at_keys [] back ks = refl
     at_keys (key ∷ keys) back ks = refl
@@ -227,8 +227,8 @@ pub loop_start : (views : Views) (room n : ℕ) (kq : Kqueue) (events : List Kev
 loop_start views room n kq events none all =
     subst (λ (es : List Kevent). retrieval views room kq ≡ preceded es (going views (n - 0) (room - length es) kq)) (sym none)
     (retrieval-going views room kq
-        ∙ ap (λ m. going views m room kq) (let e : length kq.queue ≡ n - 0 = omega arith in e)
-        ∙ ap (λ r. going views (n - 0) r kq) (let e : room ≡ room - 0 = omega arith in e))
+    ∙ ap (λ m. going views m room kq) (let e : length kq.queue ≡ n - 0 = omega arith in e)
+    ∙ ap (λ r. going views (n - 0) r kq) (let e : room ≡ room - 0 = omega arith in e))
 
 pub loop_idle : (views : Views) (r : Retrieved) (events : List Kevent) (m k n j : ℕ) (kq next : Kqueue) → r ≡ preceded events (going views m k kq) → m ≡ suc n → k ≡ suc j → suc n ≤ length kq.queue → next ≡ (turned views kq).kq → None ≡ (turned views kq).event → r ≡ preceded events (going views n (suc j) next)
 loop_idle views r events m k n j kq next so_far more left within is none =
@@ -236,8 +236,8 @@ loop_idle views r events m k n j kq next so_far more left within is none =
     ∙ ap (λ x. preceded events (going views x k kq)) more
     ∙ ap (λ x. preceded events (going views (suc n) x kq)) left
     ∙ ap (preceded events) (going-turned views n j kq within
-        ∙ ap (λ e. after_turn views n j e (turned views kq).kq) (sym none)
-        ∙ ap (going views n (suc j)) (sym is))
+    ∙ ap (λ e. after_turn views n j e (turned views kq).kq) (sym none)
+    ∙ ap (going views n (suc j)) (sym is))
 
 preceded-delivered : (events : List Kevent) (e : Kevent) (r : Retrieved) → preceded events (delivered e r) ≡ preceded (events ++ e ∷ []) r
 unfolding delivered
@@ -252,8 +252,8 @@ loop_delivers views r events m k n j kq next e so_far more left within is some =
     ∙ ap (λ x. preceded events (going views x k kq)) more
     ∙ ap (λ x. preceded events (going views (suc n) x kq)) left
     ∙ ap (preceded events) (going-turned views n j kq within
-        ∙ ap (λ ev. after_turn views n j ev (turned views kq).kq) (sym some)
-        ∙ ap (λ next_kq. delivered e (going views n j next_kq)) (sym is))
+    ∙ ap (λ ev. after_turn views n j ev (turned views kq).kq) (sym some)
+    ∙ ap (λ next_kq. delivered e (going views n j next_kq)) (sym is))
     ∙ preceded-delivered events e (going views n j next)
 
 preceded-done : (events : List Kevent) (kq : Kqueue) → preceded events (record { kq = kq; events = [] }) ≡ record { kq = kq; events = events }

@@ -1,3 +1,4 @@
+pub mod Ending
 pub mod Held
 pub mod Steps
 pub mod Turn

@@ -23,9 +23,10 @@ impl Model for Kq {
     ghost Value = { Held };
 
     ghost view = { λ k. record {
-        kq = record { knotes = k.knotes.knotes; queue = k.queue.keys };
-        owner = k.owner;
-        room = min k.knotes.room (k.queue.capacity - length k.knotes.knotes) } };
+      kq = record { knotes = k.knotes.knotes; queue = k.queue.keys };
+      owner = k.owner;
+      room = min k.knotes.room (k.queue.capacity - length k.knotes.knotes);
+    } };
 
     ghost invariant = { λ k. IsKept k.knotes.knotes k.queue };
 }

@@ -1,8 +1,10 @@
 //! One kqueue of user events: registering changes, and kevent calls (kqueue(2)).
 #![tactic(auto)]
 
+mod call;
 mod kq;
 mod look;
+mod process;
 mod queue;
 mod register;
 mod retrieve;

@@ -64,7 +64,11 @@ pub fn attend(knote: &mut Knote)
 fn event_flags(knote: &Knote, seen: Seen) -> EvFlags
     ensures { result ≡ event_flags knote.now seen }
 {
-    let flags = flag_if(knote.oneshot, EvFlags::ONESHOT, EvFlags::from_bits_retain(0));
+    let flags = flag_if(
+        knote.oneshot,
+        EvFlags::ONESHOT,
+        EvFlags::from_bits_retain(0),
+    );
     let flags = flag_if(knote.clear, EvFlags::CLEAR, flags);
     let flags = flag_if(knote.dispatch, EvFlags::DISPATCH, flags);
     flag_if(seen.eof, EvFlags::EOF, flags)

@@ -30,6 +30,10 @@ impl Queue {
         }
     }
 
+    pub fn allocator(&self) -> Global {
+        *self.keys.allocator()
+    }
+
     pub fn len(&self) -> usize
         ensures { result ≡ length self.now.keys }
     {

@@ -11,12 +11,14 @@ ghost use Rattle.kq_knote.specs.Reserved.{IsPlaceOf};
 
 use crate::Kq;
 use crate::look::attend;
+use crate::process::number_of;
 use crate::queue::Queue;
 use bitflags::Flags;
 use kq_knote::Knote;
 use kq_model::{Change, Errno, EvFlags, Filter, Key};
 
-fn asks(flags: EvFlags, flag: EvFlags) -> bool
+/// Whether the flags have this one.
+pub(crate) fn asks(flags: EvFlags, flag: EvFlags) -> bool
     ensures { result ≡ asks flags flag.0 }
 {
     flags.contains(flag)
@@ -65,10 +67,7 @@ impl Kq {
         ensures owner { self.new.owner ≡ self.old.owner }
         ensures room { self.old.room ≤ self.new.room + 1 }
     {
-        match self.apply(change) {
-            None => 0,
-            Some(error) => error.code(),
-        }
+        number_of(self.apply(change))
     }
 
     /// Registers one change, and gives the error with which it is refused. The refusals stand in

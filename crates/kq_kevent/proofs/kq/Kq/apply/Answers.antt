@@ -1,6 +1,6 @@
-use Rattle.std.proofs.Common.{◌≡◌, Some, None, true, false, sym, ap, ◌∙◌}
+use Rattle.std.proofs.Common.{sym, ap, ◌∙◌}
 use Rattle.kq_model.specs.Knote.{find_knote}
-use Rattle.kq_model.specs.Registration.{Registered, register, key_of}
+use Rattle.kq_model.specs.Registration.{Registered, key_of}
 use Rattle.kq_knote.proofs.PlaceLaws.{IsPlaceOf-some}
 use Rattle.kq_kevent.specs.Held.{Held}
 use Rattle.kq_kevent.proofs.RegisterLaws.{register-malformed, register-unknown, register-made, register-removed, register-modified, formed-user}

@@ -1,19 +1,17 @@
-use Rattle.std.proofs.Common.{◌≡◌, ℕ, ◌≤◌, ◌<◌, ◌+◌, ◌++◌, ◌∷◌, [], length, Some, None, true, false, sym, ap, ◌∙◌, subst, cond, arith}
-use Rattle.std.proofs.lemmas.List.{length_push, length-map}
+use Rattle.std.proofs.Common.{◌≡◌, length, sym, ap, ◌∙◌, subst, cond, arith}
+use Rattle.std.proofs.lemmas.List.{length-map}
 use Rattle.std.proofs.lemmas.Option.{same_Some}
 use Rattle.kq_model.specs.declared.key.Key.{Key}
-use Rattle.kq_model.specs.Knote.{Knote, find_knote, with_knote, without_knote, has_key, without_key, key_eq}
-use Rattle.kq_model.specs.Registration.{register, queue_for, key_of, made, modified}
+use Rattle.kq_model.specs.Knote.{Knote, find_knote, key_eq}
+use Rattle.kq_model.specs.Registration.{key_of, modified}
 use Rattle.kq_model.specs.Kqueue.{Kqueue, is_waiting}
 use Rattle.kq_knote.proofs.KnoteLaws.{find_knote-key}
-use Rattle.kq_knote.specs.Reserved.{IsPlaceOf, Reserved}
-use Rattle.kq_kevent.specs.Held.{Held, Keys, IsKept}
-use Rattle.kq_kevent.specs.Steps.{with_made, with_removed, with_modified}
-use Rattle.kq_kevent.proofs.CountLaws.{length-without_knote}
-use Rattle.kq_kevent.proofs.KnoteSteps.{made-key, modified-key, modified-active}
-use Rattle.kq_kevent.proofs.QueueLaws.{without_key-absent}
-use Rattle.kq_kevent.proofs.RegisterLaws.{nothing_seen, same_kqueue, IsSound-at, made-by, modified-by}
-use Rattle.kq_kevent.proofs.SoundLaws.{IsSound-absent, IsSound-made, IsSound-removed, IsSound-modified, length-queue, length-queue_besides}
+use Rattle.kq_knote.specs.Reserved.{IsPlaceOf}
+use Rattle.kq_kevent.specs.Held.{Held}
+use Rattle.kq_kevent.specs.Steps.{with_modified}
+use Rattle.kq_kevent.proofs.KnoteSteps.{modified-key, modified-active}
+use Rattle.kq_kevent.proofs.RegisterLaws.{nothing_seen, same_kqueue, IsSound-at, modified-by}
+use Rattle.kq_kevent.proofs.SoundLaws.{IsSound-modified, length-queue_besides}
 use Rattle.kq_kevent.proofs.kq.Kq.modify.Goals as goal
 
 pub put_at-requires : goal.put_at-requires
@@ -61,7 +59,7 @@ invariant_of-self c =
     record {
       sound = IsSound-at c.put_at.new.self.knotes c.place.new.self.keys (with_modified c.attend.new.knote kq) c.put_at.ensures.knotes c.place.ensures.keys
           (IsSound-modified kq c.attend.new.knote c.at.result.now c.self.invariant.sound there
-              (λ idle. modified-active nothing_seen change c.at.result.now (ap (λ (k : Knote). k.active) (sym is) ∙ idle)));
+          (λ idle. modified-active nothing_seen change c.at.result.now (ap (λ (k : Knote). k.active) (sym is) ∙ idle)));
       capacity = omega (arith, ap (length {A = Knote}) c.put_at.ensures.knotes, length-map ks (λ k. cond (key_eq c.attend.new.knote.key k.key) c.attend.new.knote k), c.place.ensures.capacity, c.self.invariant.capacity);
     }
 
@@ -74,6 +72,6 @@ returns-clause-kq c = λ views x present.
     let same = same_Some c.at.result.now x (sym found ∙ ap (λ (v : Held). find_knote (key_of change) v.kq.knotes) c.self.view_is ∙ present) in
     same_kqueue c.put_at.new.self.knotes c.place.new.self.keys (with_modified c.attend.new.knote kq) c.put_at.ensures.knotes c.place.ensures.keys
     ∙ ap (λ k. with_modified k kq)
-        (modified-by views change c.at.result.now c.replace.new.self c.control.new.self c.switch.new.self c.attend.new.knote c.replace.ensures c.control.ensures c.switch.ensures (c.attend.ensures views)
-            ∙ ap (modified views change) same)
+    (modified-by views change c.at.result.now c.replace.new.self c.control.new.self c.switch.new.self c.attend.new.knote c.replace.ensures c.control.ensures c.switch.ensures (c.attend.ensures views)
+    ∙ ap (modified views change) same)
     ∙ ap (λ (v : Held). with_modified (modified views change x) v.kq) c.self.view_is

@@ -1,4 +1,4 @@
-use Rattle.std.proofs.Common.{◌≡◌, ◌≤◌, length, ap, arith}
+use Rattle.std.proofs.Common.{length, ap, arith}
 use Rattle.kq_model.specs.Kqueue.{empty_kqueue}
 use Rattle.kq_model.specs.Knote.{Knote}
 use Rattle.kq_kevent.proofs.RegisterLaws.{IsSound-at}

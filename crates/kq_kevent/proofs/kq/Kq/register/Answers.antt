@@ -1,11 +1,8 @@
-use Rattle.std.proofs.Common.{◌≡◌, ap, ◌∙◌}
-use Rattle.kq_model.specs.Call.{number_of}
+use Rattle.std.proofs.Common.{◌≡◌, ◌<◌, subst}
+use Rattle.kq_model.specs.Kqueue.{Kqueue}
+use Rattle.kq_kevent.proofs.CallLaws.{refused_by}
 use Rattle.kq_kevent.proofs.kq.Kq.register.Goals as goal
 
-pub returns-in-None-clause-error : goal.returns-in-None-clause-error
-unfolding number_of
-returns-in-None-clause-error c = λ views. ap number_of (c.in-None.ensures.error views)
-
-pub returns-in-Some-clause-error : goal.returns-in-Some-clause-error
-unfolding number_of
-returns-in-Some-clause-error c = λ views. c.code.ensures ∙ ap number_of (c.in-Some.ensures.error views)
+pub returns-clause-refused : goal.returns-clause-refused
+returns-clause-refused c = λ positive.
+    refused_by c.apply.result (◌≡◌ {A = Kqueue} c.apply.new.self.kq c.args.self.now.kq) (subst (λ n. 0 < n) c.number_of.ensures positive) c.apply.ensures.refused

@@ -1,4 +1,4 @@
-use Rattle.std.proofs.Common.{◌≡◌, ◌≤◌, length, ap, arith}
+use Rattle.std.proofs.Common.{length, ap, arith}
 use Rattle.kq_model.specs.Knote.{Knote}
 use Rattle.kq_kevent.proofs.SoundLaws.{length-queue}
 use Rattle.kq_kevent.proofs.kq.Kq.reserve.Goals as goal

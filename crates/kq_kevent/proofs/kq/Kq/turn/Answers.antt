@@ -1,8 +1,7 @@
-use Rattle.std.proofs.Common.{◌≡◌, ◌≤◌, ◌<◌, ◌+◌, suc, List, [], ◌∷◌, length, Some, None, false, refl, sym, ap, ◌∙◌, subst, arith}
+use Rattle.std.proofs.Common.{List, [], length, Some, false, refl, sym, ap, ◌∙◌, subst, arith}
 use Rattle.kq_model.specs.declared.key.Key.{Key}
 use Rattle.kq_model.specs.Knote.{Knote, find_knote, with_knote}
 use Rattle.kq_model.specs.Kqueue.{Kqueue, IsSound}
-use Rattle.kq_model.specs.Retrieval.{knotes_after, back_after}
 use Rattle.kq_knote.specs.Reserved.{IsPlaceOf}
 use Rattle.kq_knote.proofs.KnoteLaws.{find_knote-key}
 use Rattle.kq_kevent.specs.Held.{Held}

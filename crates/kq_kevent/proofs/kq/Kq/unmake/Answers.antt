@@ -1,19 +1,12 @@
-use Rattle.std.proofs.Common.{◌≡◌, ℕ, ◌≤◌, ◌<◌, ◌+◌, ◌++◌, ◌∷◌, [], length, Some, None, true, false, sym, ap, ◌∙◌, subst, arith}
-use Rattle.std.proofs.lemmas.List.{length_push}
-use Rattle.std.proofs.lemmas.Option.{same_Some}
-use Rattle.kq_model.specs.declared.key.Key.{Key}
-use Rattle.kq_model.specs.Knote.{Knote, find_knote, with_knote, without_knote, has_key, without_key}
-use Rattle.kq_model.specs.Registration.{register, queue_for, key_of, made, modified}
+use Rattle.std.proofs.Common.{length, sym, ap, ◌∙◌, arith}
+use Rattle.kq_model.specs.Knote.{Knote}
 use Rattle.kq_model.specs.Kqueue.{Kqueue, is_waiting}
-use Rattle.kq_knote.proofs.KnoteLaws.{find_knote-key}
-use Rattle.kq_knote.specs.Reserved.{IsPlaceOf, Reserved}
-use Rattle.kq_kevent.specs.Held.{Held, Keys, IsKept}
-use Rattle.kq_kevent.specs.Steps.{with_made, with_removed, with_modified}
+use Rattle.kq_kevent.specs.Held.{Held}
+use Rattle.kq_kevent.specs.Steps.{with_removed}
 use Rattle.kq_kevent.proofs.CountLaws.{length-without_knote}
-use Rattle.kq_kevent.proofs.KnoteSteps.{made-key, modified-key, modified-active}
 use Rattle.kq_kevent.proofs.QueueLaws.{without_key-absent}
-use Rattle.kq_kevent.proofs.RegisterLaws.{nothing_seen, same_kqueue, IsSound-at, made-by, modified-by}
-use Rattle.kq_kevent.proofs.SoundLaws.{IsSound-absent, IsSound-made, IsSound-removed, IsSound-modified, length-queue, length-queue_besides}
+use Rattle.kq_kevent.proofs.RegisterLaws.{same_kqueue, IsSound-at}
+use Rattle.kq_kevent.proofs.SoundLaws.{IsSound-removed}
 use Rattle.kq_kevent.proofs.kq.Kq.unmake.Goals as goal
 
 pub invariant_of-self : goal.invariant_of-self

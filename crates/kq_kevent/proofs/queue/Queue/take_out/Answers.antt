@@ -1,4 +1,4 @@
-use Rattle.std.proofs.Common.{◌≡◌, not, ap, ◌∙◌, refl, rules}
+use Rattle.std.proofs.Common.{not, ap, ◌∙◌, rules}
 use Rattle.std.proofs.lemmas.Fn.{filter_same}
 use Rattle.kq_model.specs.Knote.{key_eq, without_key}
 use Rattle.kq_kevent.specs.Held.{Keys}
