@@ -1,3 +1,5 @@
 pub mod Opened
 pub mod Builders
 pub mod StoredRun
+pub mod ReadingOpened
+pub mod StoredRunText
