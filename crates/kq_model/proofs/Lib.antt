@@ -3,3 +3,7 @@ pub mod Builders
 pub mod StoredRun
 pub mod ReadingOpened
 pub mod StoredRunText
+pub mod Changes
+pub mod Delivery
+pub mod Impossible
+pub mod Texts
