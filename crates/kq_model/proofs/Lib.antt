@@ -7,3 +7,4 @@ pub mod Changes
 pub mod Delivery
 pub mod Impossible
 pub mod Texts
+pub mod Refusals
