@@ -1,10 +1,9 @@
 -- Change lists by example: entries, refusals, and what a change does to a USER.
-use Rattle.std.specs.Prelude.{◌≡◌, ℕ, ◌+◌, ◌^◌, pos, negsuc, List, [], ◌∷◌, ◌++◌, codes, replicate}
+use Rattle.std.specs.Prelude.{◌≡◌, ◌+◌, List, [], ◌∷◌, codes}
 use Rattle.std.proofs.Common.{refl}
 use Rattle.kq_model.specs.declared.event.Event.{Event}
-use Rattle.kq_model.specs.declared.event.Event.TheVariants.{Proc, Kqueue, Kevent}
 use Rattle.kq_model.specs.declared.filter.Filter.TheVariants.{Aio}
-use Rattle.kq_model.specs.Bits.{add, delete, enable, disable, oneshot, clear, dispatch, receipt, eof, error, trigger}
+use Rattle.kq_model.specs.Bits.{add, delete, receipt, trigger}
 use Rattle.kq_model.specs.Report.{report_of}
 use Rattle.kq_model.proofs.Builders.{user, ff_and, ff_or, ff_copy, kevent, opened, text}
 use Rattle.kq_model.proofs.Opened.{system_opened}

@@ -8,3 +8,4 @@ pub mod Delivery
 pub mod Impossible
 pub mod Texts
 pub mod Refusals
+pub mod Modification
