@@ -9,3 +9,4 @@ pub mod Impossible
 pub mod Texts
 pub mod Refusals
 pub mod Modification
+pub mod BadLines
