@@ -19,3 +19,4 @@ pub mod Spelling
 pub mod World
 pub mod System
 pub mod Report
+pub mod CallLaws
