@@ -1,2 +1,3 @@
 pub mod Errno
 pub mod FlagNames
+pub mod Ticks
