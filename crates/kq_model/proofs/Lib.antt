@@ -1,1 +1,2 @@
 pub mod Ticks
+pub mod TimerWalkSort

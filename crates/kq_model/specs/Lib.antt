@@ -1,3 +1,4 @@
 pub mod Errno
 pub mod FlagNames
 pub mod Ticks
+pub mod TimerWalk
