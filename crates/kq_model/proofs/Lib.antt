@@ -1,2 +1,5 @@
 pub mod Ticks
+pub mod TimerWalk
+pub mod TimerWalkMember
+pub mod TimerWalkQueue
 pub mod TimerWalkSort

@@ -3,7 +3,8 @@
 -- Source: this project's choice; kqueue(2) says that a timer's expirations are counted, and nothing of
 -- the order in which events of one call are returned.
 use Rattle.std.specs.Prelude.{◌≡◌, ℕ, zero, suc, ◌+◌, ◌<◌, ◌≤◌, Bool, true, false, not, ◌&&◌, nat_le, if◌then◌else◌, List, [], ◌∷◌, ◌++◌, map}
-use Rattle.std.specs.List.{list_any}
+use Rattle.std.specs.List.{filter, list_any}
+use Rattle.kq_model.specs.Ticks.{counted}
 
 -- what the walk asks of an item and does to it
 pub record Alarms (X Key : Type 0) : Type 0 where
@@ -65,6 +66,14 @@ placed first x (y ∷ ys) = if nat_le (first x) (first y) then x ∷ y ∷ ys el
 unfoldable pub in_order : {X : Type 0} → (X → ℕ) → List X → List X
 in_order first [] = []
 in_order first (x ∷ xs) = placed first x (in_order first xs)
+
+-- the n moments after `from` at once: each item gets as many expirations as moments at which it expires,
+-- and those that expired and are fresh go to the queue's back
+abbrev pub walked_at_once : {X Key : Type 0} → Alarms X Key → (X → ℕ) → ℕ → ℕ → Waiting X Key → Waiting X Key
+walked_at_once a first from n w = record {
+    items = map (λ x. rung_times a (counted (a.expires x) from n) x) w.items;
+    queue = w.queue ++ map a.key (in_order first (filter (λ x. nat_le (first x) (from + n) && is_fresh a w.queue x) w.items));
+  }
 
 -- an expiration changes neither an item's key nor when it expires, nor whether it is enabled
 pub record KeepsAlarms {X Key : Type 0} (a : Alarms X Key) : Type 0 where
