@@ -1,4 +1,5 @@
 pub mod Ticks
+pub mod TicksFirst
 pub mod TimerWalk
 pub mod TimerWalkMember
 pub mod TimerWalkQueue
