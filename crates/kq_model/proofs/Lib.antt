@@ -4,3 +4,4 @@ pub mod TimerWalk
 pub mod TimerWalkMember
 pub mod TimerWalkQueue
 pub mod TimerWalkSort
+pub mod TimerWalkTickers
