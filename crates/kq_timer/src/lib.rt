@@ -2,6 +2,8 @@
 #![tactic(auto)]
 
 mod period;
+#[cfg(test)]
+mod tests;
 mod ticker;
 
 pub use period::Period;
