@@ -10,3 +10,10 @@ pub mod Texts
 pub mod Refusals
 pub mod Modification
 pub mod BadLines
+pub mod Ticks
+pub mod TicksFirst
+pub mod TimerWalk
+pub mod TimerWalkMember
+pub mod TimerWalkQueue
+pub mod TimerWalkSort
+pub mod TimerWalkTickers

@@ -20,3 +20,5 @@ pub mod World
 pub mod System
 pub mod Report
 pub mod CallLaws
+pub mod Ticks
+pub mod TimerWalk
