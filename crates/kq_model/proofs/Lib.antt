@@ -10,3 +10,5 @@ pub mod Texts
 pub mod Refusals
 pub mod Modification
 pub mod BadLines
+pub mod ChangeLines
+pub mod Spelled
