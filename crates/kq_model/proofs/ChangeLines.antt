@@ -91,4 +91,3 @@ pub every_filter : second_line (
     ≡ Good (kevent (map (λ f. record (user 7 0 0) { filter = f }) filters) 4 ∷ [])
 unfolding reading_opened
 every_filter = refl
-
