@@ -1,5 +1,5 @@
 -- Short words for traces, answers and reports, for the worked runs.
-use Rattle.std.specs.Prelude.{ℕ, pos, ◌+◌, ◌^◌, List, [], ◌∷◌, ◌++◌}
+use Rattle.std.specs.Prelude.{ℕ, pos, ◌+◌, ◌^◌, List, [], ◌∷◌, ◌++◌, codes}
 use Rattle.kq_model.specs.declared.change.Change.{Change}
 use Rattle.kq_model.specs.declared.event.Event.{Event}
 use Rattle.kq_model.specs.declared.event.Event.TheVariants.{Proc, Kqueue}
@@ -10,6 +10,7 @@ use Rattle.kq_model.specs.declared.reply.Reply.{Reply}
 use Rattle.kq_model.specs.declared.row.Row.{Row}
 use Rattle.kq_model.specs.Bits.{error}
 use Rattle.kq_model.specs.Lines.{line_feed}
+use Rattle.kq_model.specs.Reading.{Outcome, reading}
 
 -- ---- traces
 
@@ -56,3 +57,7 @@ rows_from place (reply ∷ replies) = record { at = place; reply = reply } ∷ r
 abbrev pub text : List (List ℕ) → List ℕ
 text [] = []
 text (line ∷ lines) = line ++ line_feed ∷ text lines
+
+-- what this line behind the header reads as
+abbrev pub second_line : List ℕ → Outcome
+second_line line = reading (text (codes "{\"kqsim\":1}" ∷ line ∷ []))

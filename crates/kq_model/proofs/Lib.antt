@@ -17,3 +17,5 @@ pub mod TimerWalkMember
 pub mod TimerWalkQueue
 pub mod TimerWalkSort
 pub mod TimerWalkTickers
+pub mod ChangeLines
+pub mod Spelled

@@ -1,8 +1,8 @@
 -- Changes that succeed, by example: what of a knote they replace, and where it stands in the queue.
-use Rattle.std.specs.Prelude.{◌≡◌, ◌+◌, ◌^◌, ◌-◌, pos, negsuc, List, [], ◌∷◌}
+use Rattle.std.specs.Prelude.{◌≡◌, ◌+◌, ◌^◌, ◌-◌, pos, negsuc, [], ◌∷◌}
 use Rattle.std.proofs.Common.{refl}
 use Rattle.kq_model.specs.declared.reply.Reply.TheVariants.{Events}
-use Rattle.kq_model.specs.Bits.{add, delete, enable, disable, oneshot, clear, dispatch, receipt, eof, error, trigger}
+use Rattle.kq_model.specs.Bits.{add, delete, enable, disable, oneshot, clear, dispatch, eof, error, trigger}
 use Rattle.kq_model.specs.System.{rows}
 use Rattle.kq_model.proofs.Builders.{user, ff_and, ff_or, ff_copy, kevent, opened, event, entry, rows_from}
 use Rattle.kq_model.proofs.Opened.{system_opened}

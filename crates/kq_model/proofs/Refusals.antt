@@ -1,5 +1,5 @@
 -- Refusals by example: which error comes first, and that a refused change leaves everything as it was.
-use Rattle.std.specs.Prelude.{◌≡◌, ◌+◌, pos, List, [], ◌∷◌}
+use Rattle.std.specs.Prelude.{◌≡◌, ◌+◌, pos, [], ◌∷◌}
 use Rattle.std.proofs.Common.{refl}
 use Rattle.kq_model.specs.declared.errno.Errno.TheVariants.{ENOENT, EINVAL}
 use Rattle.kq_model.specs.declared.filter.Filter.TheVariants.{Aio}

@@ -1,10 +1,8 @@
 -- The stored run as text: what it reads as, how it is spelled, and what its first bytes read as.
 use Rattle.std.specs.Prelude.{◌≡◌, ℕ, List, [], ◌∷◌, codes, take, map, replicate}
 use Rattle.std.proofs.Common.{refl}
-use Rattle.kq_model.specs.declared.event.Event.{Event}
-use Rattle.kq_model.specs.declared.event.Event.TheVariants.{Proc, Kqueue, Kevent}
-use Rattle.kq_model.specs.declared.line_fault.LineFault.{LineFault}
-use Rattle.kq_model.specs.declared.line_fault.LineFault.TheVariants.{TooLong, Header, TooManyRecords, Json, Field, Range}
+use Rattle.kq_model.specs.declared.event.Event.TheVariants.{Proc}
+use Rattle.kq_model.specs.declared.line_fault.LineFault.TheVariants.{Header, Json}
 use Rattle.kq_model.specs.Reading.{Outcome, Good, Bad, reading}
 use Rattle.kq_model.specs.Spelling.{spelling}
 use Rattle.kq_model.proofs.Builders.{text}

@@ -1,5 +1,5 @@
 -- The texts of the worked runs read as their events.
-use Rattle.std.specs.Prelude.{◌≡◌, List, [], ◌∷◌, codes}
+use Rattle.std.specs.Prelude.{◌≡◌, [], ◌∷◌, codes}
 use Rattle.std.proofs.Common.{refl}
 use Rattle.kq_model.specs.Reading.{Good, reading}
 use Rattle.kq_model.proofs.Builders.{text}
