@@ -1,5 +1,5 @@
 -- A timer's ticks by division: what `kq_timer` computes counts the moments of the definition.
-use Rattle.std.proofs.Common.{◌≡◌, ◌≢◌, ℕ, zero, suc, ◌+◌, ◌-◌, ◌*◌, ◌/◌, ◌%◌, ◌<◌, ◌≤◌, Bool, true, false, cond, ◌||◌, ◌⊎◌, inl, inr, refl, sym, ap, ◌∙◌, zero-add, add-zero, arith}
+use Rattle.std.proofs.Common.{◌≡◌, ◌≢◌, ℕ, zero, suc, ◌+◌, ◌-◌, ◌*◌, ◌/◌, ◌%◌, ◌<◌, ◌≤◌, true, false, cond, ◌⊎◌, inl, inr, refl, ◌∙◌, zero-add, add-zero, arith}
 use Rattle.std.proofs.lemmas.Bool.{eq-eqb, ne_eqb, or_right, or_left, or_from, cases_lt}
 use Rattle.std.proofs.lemmas.Nat.{div-mul-add, same_from_place, div-add-mod', mod_below}
 use Rattle.std.proofs.Math.Nat.{le-mul_of_pos_right, mul-le-mul_right, lt-div-mul-add, div-mul-le_self, lt_of_mul-lt-mul_right}
@@ -65,6 +65,7 @@ periods-suc t m positive = by_start (cases_lt m t.start)
   where
     y : ℕ
     y = m - t.start
+
     by_rest : t.start ≤ m → (suc (y % t.period) < t.period) ⊎ (t.period ≤ suc (y % t.period)) → periods t (suc m) ≡ periods t m + cond (is_tick t (suc m)) 1 0
     by_rest h (inl inside) =
         let grown : suc m - t.start ≡ suc y = omega arith in
@@ -74,6 +75,7 @@ periods-suc t m positive = by_start (cases_lt m t.start)
         let grown : suc m - t.start ≡ suc y = omega arith in
         let yes : is_tick t (suc m) ≡ true = is_tick-true t (suc m) (y / t.period) positive (omega (arith, next_multiple y t.period positive ends)) in
         rw (yes, grown) (multiple_step y t.period positive ends ∙ omega arith)
+
     by_start : (m < t.start) ⊎ (t.start ≤ m) → periods t (suc m) ≡ periods t m + cond (is_tick t (suc m)) 1 0
     by_start (inl h) =
         let now : suc m - t.start ≡ 0 = omega arith in

@@ -1,7 +1,7 @@
 -- The first of the moments that pass a test: there is just one answer, and it is in time just where
 -- some moment is counted.
-use Rattle.std.proofs.Common.{◌≡◌, ℕ, zero, suc, ◌+◌, ◌-◌, ◌<◌, ◌≤◌, Bool, true, false, cond, leb, ltb, pos, ◌<ℤ◌, ◌⊎◌, inl, inr, refl, sym, ap, ◌∙◌, add-zero, arith}
-use Rattle.std.proofs.lemmas.Bool.{cases_lt, cases_order, cases_Bool, le-leb, lt-leb, leb-true, leb-false, lt-ltb, le-ltb, ltb-true, ltb-false, true≢false}
+use Rattle.std.proofs.Common.{◌≡◌, ℕ, zero, suc, ◌+◌, ◌-◌, ◌<◌, ◌≤◌, Bool, true, false, cond, leb, ltb, pos, ◌⊎◌, inl, inr, sym, ap, ◌∙◌, add-zero, arith}
+use Rattle.std.proofs.lemmas.Bool.{cases_lt, cases_order, cases_Bool, le-leb, lt-leb, lt-ltb, true≢false}
 use Rattle.std.proofs.lemmas.Int.{ints}
 use Rattle.kq_model.specs.Ticks.{Ticking, last_moment, is_tick, counted, first_passing, next_tick, IsNextTick, HasNoTick}
 use Rattle.kq_model.specs.TimerWalk.{IsFirstPassing}

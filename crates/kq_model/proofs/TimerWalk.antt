@@ -3,7 +3,7 @@
 -- expirations, and of two at one moment the first of the list first.
 use Rattle.std.proofs.Common.{◌≡◌, ℕ, zero, suc, ◌+◌, ◌<◌, ◌≤◌, Bool, true, false, cond, not, ◌&&◌, ◌||◌, eqb, leb, List, [], ◌∷◌, ◌++◌, map, ◌⊎◌, inl, inr, refl, sym, ap, ◌∙◌, append_assoc, append-nil, add-one, add-zero, arith}
 use Rattle.std.specs.Cmp.{IsEquivalence}
-use Rattle.std.specs.List.{filter, list_any, AllByRecursion, IsDistinct}
+use Rattle.std.specs.List.{filter, IsDistinct}
 use Rattle.std.proofs.lemmas.Bool.{cases_order, le-leb, lt-leb, eq-eqb, ne_eqb, and_left, and_right}
 use Rattle.std.proofs.lemmas.List.{map-append}
 use Rattle.std.proofs.lemmas.List.Folds.{list_any-append}
@@ -63,12 +63,13 @@ module _ {X Key : Type 0} (a : Alarms X Key) (first : X → ℕ) (queue : List K
   queue_step laws from to last begun within firsts xs distinct =
       queue_at-joins a laws (suc last) xs (queue_by last xs) distinct
       ∙ ap (λ ys. queue_by last xs ++ map a.key ys) (filter-agree (joins a (suc last) (queue_by last xs)) new xs
-          (All-like (IsAmong a (queued_by last) xs) (λ x. joins a (suc last) (queue_by last xs) x ≡ new x) agree xs (all_among a laws (queued_by last) xs distinct)))
+      (All-like (IsAmong a (queued_by last) xs) (λ x. joins a (suc last) (queue_by last xs) x ≡ new x) agree xs (all_among a laws (queued_by last) xs distinct)))
       ∙ append_assoc queue _ _
       ∙ ap (λ ks. queue ++ ks) (sym (map-append a.key _ _) ∙ ap (map a.key) (sorted_step first (is_fresh a queue) last xs))
     where
       new : X → Bool
       new x = eqb (first x) (suc last) && is_fresh a queue x
+
       agree : (x : X) → IsAmong a (queued_by last) xs x → joins a (suc last) (queue_by last xs) x ≡ new x
       agree x among =
           ap (λ b. a.expires x (suc last) && (a.enabled x && not b)) (is_queued-queue_by last xs x among)
@@ -142,7 +143,7 @@ module _ {X Key : Type 0} (a : Alarms X Key) (laws : IsEquivalence a.same) (keep
   unfolding in_order
   queue_at_start =
       rw (filter-none (queued_by a first w.queue (from + 0)) (λ x. let later = (firsts x).after in and_left _ _ (lt-leb (first x) (from + 0) (omega arith))) w.items)
-          (simp append-nil)
+      (simp append-nil)
 
   queue_next : (n : ℕ) → suc (from + n) ≤ to → queue_at a (from + suc n) w.items (queue_by a first w.queue (from + n) w.items) ≡ queue_by a first w.queue (from + suc n) w.items
   queue_next n within =

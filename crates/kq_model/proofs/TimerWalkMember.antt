@@ -1,5 +1,5 @@
 -- An item's key is among the keys of the sorted items that pass a test just where it passes the test.
-use Rattle.std.proofs.Common.{◌≡◌, ℕ, Bool, true, false, cond, ◌||◌, leb, List, [], ◌∷◌, map, refl, sym, ap, ◌∙◌}
+use Rattle.std.proofs.Common.{◌≡◌, ℕ, Bool, true, false, cond, ◌||◌, leb, List, [], ◌∷◌, map, refl, ap, ◌∙◌}
 use Rattle.std.specs.Cmp.{IsEquivalence}
 use Rattle.std.specs.List.{filter, list_any, AllByRecursion, IsDistinct}
 use Rattle.std.proofs.lemmas.Bool.{or_left}
@@ -70,9 +70,8 @@ pub all_among : {X Key : Type 0} (a : Alarms X Key) → IsEquivalence a.same →
     → AllByRecursion (IsAmong a passes xs) xs
 all_among a laws passes [] distinct = tt
 all_among a laws passes (y ∷ ys) distinct =
-    let differ = apart a y ys distinct in
-    (
+    let differ = apart a y ys distinct in (
       among_itself a laws passes y ys differ,
       All-both (λ x. a.same (a.key y) (a.key x) ≡ false) (IsAmong a passes ys) (IsAmong a passes (y ∷ ys)) (among_more a laws passes y ys) ys differ
-        (all_among a laws passes ys (IsDistinct-tail a.same (a.key y) (map a.key ys) distinct)),
+          (all_among a laws passes ys (IsDistinct-tail a.same (a.key y) (map a.key ys) distinct)),
     )

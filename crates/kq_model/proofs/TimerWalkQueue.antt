@@ -1,9 +1,9 @@
 -- One moment of the walk: the queue gets the keys of the items that expire there and are not in it.
-use Rattle.std.proofs.Common.{◌≡◌, ℕ, zero, suc, ◌+◌, ◌<◌, ◌≤◌, Bool, true, false, cond, not, ◌&&◌, ◌||◌, eqb, leb, List, [], ◌∷◌, ◌++◌, map, ◌⊎◌, inl, inr, refl, sym, ap, ◌∙◌, append_assoc, append-nil}
+use Rattle.std.proofs.Common.{◌≡◌, ℕ, Bool, true, false, cond, not, ◌&&◌, ◌||◌, List, [], ◌∷◌, ◌++◌, map, refl, ap, ◌∙◌, append_assoc, append-nil}
 use Rattle.std.specs.Cmp.{IsEquivalence}
 use Rattle.std.specs.List.{filter, list_any, AllByRecursion, IsDistinct}
 use Rattle.std.proofs.lemmas.Map.Keys.{IsDistinct-head, IsDistinct-tail}
-use Rattle.kq_model.specs.TimerWalk.{Alarms, is_queued, is_fresh, queue_at, placed, in_order}
+use Rattle.kq_model.specs.TimerWalk.{Alarms, is_fresh, queue_at}
 
 -- ---- lists
 
@@ -55,6 +55,7 @@ queue_at-joins {Key = Key} a laws moment (x ∷ xs) queue distinct =
   where
     kept : filter (joins a moment (queue ++ a.key x ∷ [])) xs ≡ filter (joins a moment queue) xs
     kept = filter-agree _ _ xs (All-like (λ y. a.same (a.key x) (a.key y) ≡ false) (λ y. joins a moment (queue ++ a.key x ∷ []) y ≡ joins a moment queue y) (joins-push a laws moment queue x) xs (apart a x xs distinct))
+
     by_test : (t : Bool) → ((q : List Key) → queue_at a moment xs q ≡ q ++ map a.key (filter (joins a moment q) xs))
         → queue_at a moment xs (cond t (queue ++ a.key x ∷ []) queue) ≡ queue ++ map a.key (cond t (x ∷ filter (joins a moment queue) xs) (filter (joins a moment queue) xs))
     by_test true rest = rest (queue ++ a.key x ∷ []) ∙ ap (λ ys. (queue ++ a.key x ∷ []) ++ map a.key ys) kept ∙ append_assoc queue (a.key x ∷ []) _

@@ -1,8 +1,8 @@
 -- Items sorted by their first expirations up to a moment, and then those of the next moment in the
 -- order of the list, are the items sorted up to the next moment.
-use Rattle.std.proofs.Common.{◌≡◌, ℕ, zero, suc, ◌+◌, ◌<◌, ◌≤◌, Bool, true, false, cond, ◌&&◌, eqb, leb, List, [], ◌∷◌, ◌++◌, ◌⊎◌, inl, inr, refl, sym, ap, ◌∙◌, arith}
+use Rattle.std.proofs.Common.{◌≡◌, ℕ, suc, ◌<◌, ◌≤◌, Bool, true, false, cond, ◌&&◌, eqb, leb, List, [], ◌∷◌, ◌++◌, ◌⊎◌, inl, inr, refl, sym, ap, ◌∙◌, arith}
 use Rattle.std.specs.List.{filter, AllByRecursion}
-use Rattle.std.proofs.lemmas.Bool.{cond-true, cond-false, le-leb, lt-leb, leb-true, leb-false, eqb-true, eqb-false, eq-eqb, ne_eqb, and_left, and_right, and_from, and_parts, cases_order, cases_Bool}
+use Rattle.std.proofs.lemmas.Bool.{cond-true, cond-false, le-leb, lt-leb, leb-true, eqb-true, eq-eqb, ne_eqb, and_left, and_right, and_from, and_parts, cases_order, cases_Bool}
 use Rattle.kq_model.specs.TimerWalk.{placed, in_order}
 
 -- ---- one item among those that are not later, and among those that are earlier
@@ -71,7 +71,7 @@ module _ {X : Type 0} (first : X → ℕ) (fresh : X → Bool) (last : ℕ) wher
   last_is_earlier : (x : X) → first x ≡ suc last → (xs : List X) → AllByRecursion (λ y. leb (first x) (first y) ≡ false) (in_order first (filter up_to_last xs))
   last_is_earlier x h xs = All-in_order (λ y. leb (first x) (first y) ≡ false) first (filter up_to_last xs)
       (All-filter (λ y. leb (first x) (first y) ≡ false) up_to_last
-        (λ y e. let below : first y ≤ last = leb-true _ _ (and_parts _ _ e).0 in lt-leb _ _ (omega arith)) xs)
+      (λ y e. let below : first y ≤ last = leb-true _ _ (and_parts _ _ e).0 in lt-leb _ _ (omega arith)) xs)
 
   abbrev pub Steps : List X → Type 0
   Steps xs = in_order first (filter up_to_last xs) ++ filter at_next xs ≡ in_order first (filter up_to_next xs)

@@ -2,7 +2,7 @@
 -- expires one expiration and putting its key at the back of the queue where it is not in it yet, gives
 -- each its ticks, and appends the keys of those with a tick in the order of their next ticks, ties in
 -- the order of the list.
-use Rattle.std.proofs.Common.{◌≡◌, ℕ, ◌+◌, ◌-◌, ◌≤◌, Bool, ◌&&◌, leb, ltb, List, ◌++◌, map, ap, sym, ◌∙◌, arith}
+use Rattle.std.proofs.Common.{◌≡◌, ℕ, ◌+◌, ◌-◌, ◌≤◌, ◌&&◌, leb, ltb, ◌++◌, map, ap, sym, ◌∙◌, arith}
 use Rattle.std.specs.Cmp.{IsEquivalence}
 use Rattle.std.specs.List.{filter, IsDistinct}
 use Rattle.kq_model.specs.Ticks.{Ticking, last_moment, is_tick, counted, ticks_between, next_tick}

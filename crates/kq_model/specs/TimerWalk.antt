@@ -41,9 +41,9 @@ queue_at a moment (x ∷ xs) queue =
 -- one moment
 abbrev pub moment_step : {X Key : Type 0} → Alarms X Key → ℕ → Waiting X Key → Waiting X Key
 moment_step a moment w = record {
-    items = map (rung_at a moment) w.items;
-    queue = queue_at a moment w.items w.queue;
-  }
+  items = map (rung_at a moment) w.items;
+  queue = queue_at a moment w.items w.queue;
+}
 
 -- the n moments after `from`, one after another
 unfoldable pub walked : {X Key : Type 0} → Alarms X Key → ℕ → ℕ → Waiting X Key → Waiting X Key
@@ -71,17 +71,17 @@ in_order first (x ∷ xs) = placed first x (in_order first xs)
 -- and those that expired and are fresh go to the queue's back
 abbrev pub walked_at_once : {X Key : Type 0} → Alarms X Key → (X → ℕ) → ℕ → ℕ → Waiting X Key → Waiting X Key
 walked_at_once a first from n w = record {
-    items = map (λ x. rung_times a (counted (a.expires x) from n) x) w.items;
-    queue = w.queue ++ map a.key (in_order first (filter (λ x. nat_le (first x) (from + n) && is_fresh a w.queue x) w.items));
-  }
+  items = map (λ x. rung_times a (counted (a.expires x) from n) x) w.items;
+  queue = w.queue ++ map a.key (in_order first (filter (λ x. nat_le (first x) (from + n) && is_fresh a w.queue x) w.items));
+}
 
 -- the same for items that each are a timer: each gets its ticks after `from` and not after `to`, and those
 -- with a tick go to the queue's back in the order of their next ticks after `from`
 abbrev pub tickers_at_once : {X Key : Type 0} → Alarms X Key → (X → Ticking) → ℕ → ℕ → Waiting X Key → Waiting X Key
 tickers_at_once a ticking from to w = record {
-    items = map (λ x. rung_times a (ticks_between (ticking x) from to) x) w.items;
-    queue = w.queue ++ map a.key (in_order (λ x. next_tick (ticking x) from) (filter (λ x. nat_lt 0 (ticks_between (ticking x) from to) && is_fresh a w.queue x) w.items));
-  }
+  items = map (λ x. rung_times a (ticks_between (ticking x) from to) x) w.items;
+  queue = w.queue ++ map a.key (in_order (λ x. next_tick (ticking x) from) (filter (λ x. nat_lt 0 (ticks_between (ticking x) from to) && is_fresh a w.queue x) w.items));
+}
 
 -- an expiration changes neither an item's key nor when it expires, nor whether it is enabled
 pub record KeepsAlarms {X Key : Type 0} (a : Alarms X Key) : Type 0 where

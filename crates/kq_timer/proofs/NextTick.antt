@@ -1,6 +1,6 @@
 -- What `first_after` finds: the moment one period after the last whole one is the next tick, where
 -- the clock reaches it.
-use Rattle.std.proofs.Common.{◌≡◌, ℕ, zero, suc, ◌+◌, ◌-◌, ◌*◌, ◌/◌, ◌%◌, ◌<◌, ◌≤◌, max, ℤ, pos, negsuc, ◌<ℤ◌, Bool, true, false, ◌⊎◌, inl, inr, refl, arith, FitsSigned, w64, Result, Ok, Err, MatchOption}
+use Rattle.std.proofs.Common.{◌≡◌, ℕ, ◌+◌, ◌-◌, ◌%◌, ◌<◌, ◌≤◌, max, ℤ, pos, ◌<ℤ◌, false, ◌⊎◌, inl, inr, refl, arith, FitsSigned, w64, Result, Ok, Err, MatchOption}
 use Rattle.std.specs.Int.{int_max}
 use Rattle.std.specs.Result.{OkIff, result_ok}
 use Rattle.std.proofs.lemmas.Bool.{cases_lt}

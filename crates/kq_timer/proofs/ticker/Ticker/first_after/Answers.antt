@@ -17,4 +17,4 @@ returns c =
     let later = simp to_z-of_z at c.max-later.ensures in
     let base = unsigned_abs c.max.result in
     rw (c.ok.ensures.value, ← c.self.view_is)
-        (first_after_is _ c.args.from base _ _ c.self.invariant.1 (not_negative c.max.result c.args.from greatest) (moment_after-code _ base _ later) c.try_from.ensures)
+    (first_after_is _ c.args.from base _ _ c.self.invariant.1 (not_negative c.max.result c.args.from greatest) (moment_after-code _ base _ later) c.try_from.ensures)

@@ -1,5 +1,5 @@
 -- The two quotients differ by the ticks between them, of which there are no more than moments.
-use Rattle.std.proofs.Common.{◌≡◌, ◌-◌, ◌<◌, ◌≤◌, ◌^◌, ℕ, ℤ, pos, negsuc, ◌≤ℤ◌, unsigned_abs, FitsSigned, w64, to_z, of_z, arith, sym, ap, ◌∙◌}
+use Rattle.std.proofs.Common.{◌≡◌, ◌-◌, ◌<◌, ◌≤◌, ℤ, pos, negsuc, ◌≤ℤ◌, unsigned_abs, FitsSigned, w64, to_z, arith, sym, ap, ◌∙◌}
 use Rattle.std.proofs.lemmas.Int.{ints, to_z-of_z, to_z_pos}
 use Rattle.std.proofs.Math.Nat.{div-le_self}
 use Rattle.kq_model.specs.Ticks.{Ticking, ticks_between}
