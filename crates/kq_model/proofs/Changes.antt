@@ -16,7 +16,7 @@ failed_change = opened (
     ∷ kevent (user 1 add trigger ∷ user 5 delete 0 ∷ []) 0
     ∷ kevent [] 1 ∷ [])
 
-pub failed_change_report : report_of failed_change ≡ text (
+pub failed_change_report : report_of 1 failed_change ≡ text (
     codes "{\"at\":3,\"events\":[{\"data\":2,\"fflags\":0,\"filter\":\"USER\",\"flags\":[\"ERROR\"],\"ident\":5,\"udata\":0}]}"
     ∷ codes "{\"at\":4,\"failed\":2}"
     ∷ codes "{\"at\":5,\"events\":[{\"data\":0,\"fflags\":0,\"filter\":\"USER\",\"flags\":[],\"ident\":1,\"udata\":0}]}"
@@ -33,7 +33,7 @@ receipt_without_room = opened (
     ∷ kevent (user 4 delete 0 ∷ user 5 delete 0 ∷ []) 3
     ∷ kevent [] 3 ∷ [])
 
-pub receipt_without_room_report : report_of receipt_without_room ≡ text (
+pub receipt_without_room_report : report_of 1 receipt_without_room ≡ text (
     codes "{\"at\":3,\"events\":[]}"
     ∷ codes "{\"at\":4,\"events\":[{\"data\":0,\"fflags\":0,\"filter\":\"USER\",\"flags\":[\"ERROR\"],\"ident\":2,\"udata\":0},{\"data\":0,\"fflags\":0,\"filter\":\"USER\",\"flags\":[\"ERROR\"],\"ident\":3,\"udata\":0}]}"
     ∷ codes "{\"at\":5,\"events\":[{\"data\":2,\"fflags\":0,\"filter\":\"USER\",\"flags\":[\"ERROR\"],\"ident\":5,\"udata\":0}]}"
@@ -50,7 +50,7 @@ user_failed_without_room = opened (
     ∷ kevent (user 7 add trigger ∷ record (user 3 add 0) { filter = Aio } ∷ []) 0
     ∷ kevent [] 1 ∷ [])
 
-pub user_failed_without_room_report : report_of user_failed_without_room ≡ text (
+pub user_failed_without_room_report : report_of 1 user_failed_without_room ≡ text (
     codes "{\"at\":3,\"events\":[{\"data\":2,\"fflags\":0,\"filter\":\"USER\",\"flags\":[\"ERROR\"],\"ident\":7,\"udata\":0}]}"
     ∷ codes "{\"at\":4,\"failed\":22}"
     ∷ codes "{\"at\":5,\"events\":[{\"data\":0,\"fflags\":0,\"filter\":\"USER\",\"flags\":[],\"ident\":7,\"udata\":0}]}"
@@ -67,7 +67,7 @@ control_bits = opened (
     ∷ kevent (user 1 0 (ff_and + 5) ∷ []) 1
     ∷ kevent (user 1 0 (ff_copy + 9) ∷ []) 1 ∷ [])
 
-pub control_bits_report : report_of control_bits ≡ text (
+pub control_bits_report : report_of 1 control_bits ≡ text (
     codes "{\"at\":3,\"events\":[]}"
     ∷ codes "{\"at\":4,\"events\":[{\"data\":0,\"fflags\":15,\"filter\":\"USER\",\"flags\":[],\"ident\":1,\"udata\":0}]}"
     ∷ codes "{\"at\":5,\"events\":[{\"data\":0,\"fflags\":5,\"filter\":\"USER\",\"flags\":[],\"ident\":1,\"udata\":0}]}"
@@ -83,7 +83,7 @@ udata_of_a_later_change = opened (
     kevent (user 3 add 0 ∷ []) 0
     ∷ kevent (record (user 3 0 trigger) { udata = 8 } ∷ []) 1 ∷ [])
 
-pub udata_of_a_later_change_report : report_of udata_of_a_later_change ≡ text (
+pub udata_of_a_later_change_report : report_of 1 udata_of_a_later_change ≡ text (
     codes "{\"at\":3,\"events\":[]}"
     ∷ codes "{\"at\":4,\"events\":[{\"data\":0,\"fflags\":0,\"filter\":\"USER\",\"flags\":[],\"ident\":3,\"udata\":8}]}"
     ∷ codes "{\"calls\":2,\"events\":1,\"records\":4}" ∷ [])

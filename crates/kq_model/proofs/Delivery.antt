@@ -18,7 +18,7 @@ three_users_two_rooms = opened (
     ∷ kevent [] 2
     ∷ kevent [] 2 ∷ [])
 
-pub three_users_two_rooms_report : report_of three_users_two_rooms ≡ text (
+pub three_users_two_rooms_report : report_of 1 three_users_two_rooms ≡ text (
     codes "{\"at\":3,\"events\":[]}"
     ∷ codes "{\"at\":4,\"events\":[{\"data\":0,\"fflags\":0,\"filter\":\"USER\",\"flags\":[],\"ident\":1,\"udata\":0},{\"data\":0,\"fflags\":0,\"filter\":\"USER\",\"flags\":[],\"ident\":2,\"udata\":0}]}"
     ∷ codes "{\"at\":5,\"events\":[{\"data\":0,\"fflags\":0,\"filter\":\"USER\",\"flags\":[],\"ident\":3,\"udata\":0},{\"data\":0,\"fflags\":0,\"filter\":\"USER\",\"flags\":[],\"ident\":1,\"udata\":0}]}"
@@ -33,7 +33,7 @@ oneshot_user = opened (
     kevent (user 1 (add + oneshot) trigger ∷ []) 1
     ∷ kevent (user 1 delete 0 ∷ []) 1 ∷ [])
 
-pub oneshot_user_report : report_of oneshot_user ≡ text (
+pub oneshot_user_report : report_of 1 oneshot_user ≡ text (
     codes "{\"at\":3,\"events\":[{\"data\":0,\"fflags\":0,\"filter\":\"USER\",\"flags\":[\"ONESHOT\"],\"ident\":1,\"udata\":0}]}"
     ∷ codes "{\"at\":4,\"events\":[{\"data\":2,\"fflags\":0,\"filter\":\"USER\",\"flags\":[\"ERROR\"],\"ident\":1,\"udata\":0}]}"
     ∷ codes "{\"calls\":2,\"events\":2,\"records\":4}" ∷ [])
@@ -49,7 +49,7 @@ clear_and_enable = opened (
     ∷ kevent (user 2 (add + disable) trigger ∷ []) 1
     ∷ kevent (user 2 enable 0 ∷ []) 1 ∷ [])
 
-pub clear_and_enable_report : report_of clear_and_enable ≡ text (
+pub clear_and_enable_report : report_of 1 clear_and_enable ≡ text (
     codes "{\"at\":3,\"events\":[{\"data\":0,\"fflags\":5,\"filter\":\"USER\",\"flags\":[\"CLEAR\"],\"ident\":1,\"udata\":0}]}"
     ∷ codes "{\"at\":4,\"events\":[]}"
     ∷ codes "{\"at\":5,\"events\":[]}"
@@ -61,13 +61,13 @@ clear_and_enable_report = refl
 -- ---- one rule at a time
 
 -- with room 0 nothing is read, and the queue stays
-pub no_room : rows (opened (kevent (user 1 (add + oneshot) trigger ∷ []) 0 ∷ kevent [] 0 ∷ kevent [] 1 ∷ []))
+pub no_room : rows 1 (opened (kevent (user 1 (add + oneshot) trigger ∷ []) 0 ∷ kevent [] 0 ∷ kevent [] 1 ∷ []))
     ≡ rows_from 3 (Events [] ∷ Events [] ∷ Events (event 1 oneshot 0 ∷ []) ∷ [])
 unfolding system_opened
 no_room = refl
 
 -- DISPATCH disables a knote when it is retrieved; it stays triggered, so ENABLE brings it back
-pub dispatch_then_enable : rows (opened (
+pub dispatch_then_enable : rows 1 (opened (
     kevent (user 1 (add + dispatch) trigger ∷ []) 1
     ∷ kevent [] 1
     ∷ kevent (user 1 0 trigger ∷ []) 1
@@ -83,7 +83,7 @@ unfolding system_opened
 dispatch_then_enable = refl
 
 -- with CLEAR and DISPATCH a knote is both reset and disabled
-pub clear_with_dispatch : rows (opened (
+pub clear_with_dispatch : rows 1 (opened (
     kevent (user 1 (add + clear + dispatch) (trigger + 5) ∷ []) 1
     ∷ kevent (user 1 enable 0 ∷ []) 1
     ∷ kevent (user 1 0 trigger ∷ []) 1
@@ -97,7 +97,7 @@ unfolding system_opened
 clear_with_dispatch = refl
 
 -- ONESHOT comes before CLEAR and DISPATCH: the knote is deleted
-pub oneshot_with_all : rows (opened (
+pub oneshot_with_all : rows 1 (opened (
     kevent (user 1 (add + oneshot + clear + dispatch) trigger ∷ []) 1
     ∷ kevent (user 1 enable 0 ∷ []) 1 ∷ []))
     ≡ rows_from 3 (Events (event 1 (oneshot + clear + dispatch) 0 ∷ []) ∷ Events (entry 1 0 2 ∷ []) ∷ [])
@@ -105,7 +105,7 @@ unfolding system_opened
 oneshot_with_all = refl
 
 -- a CLEAR knote that is triggered again goes to the back
-pub cleared_to_the_back : rows (opened (
+pub cleared_to_the_back : rows 1 (opened (
     kevent (user 1 (add + clear) trigger ∷ user 2 add trigger ∷ []) 1
     ∷ kevent (user 1 0 trigger ∷ []) 2 ∷ []))
     ≡ rows_from 3 (Events (event 1 clear 0 ∷ []) ∷ Events (event 2 0 0 ∷ event 1 clear 0 ∷ []) ∷ [])
@@ -113,7 +113,7 @@ unfolding system_opened
 cleared_to_the_back = refl
 
 -- room 1 goes round: each is returned before one is returned again
-pub one_at_a_time : rows (opened (
+pub one_at_a_time : rows 1 (opened (
     kevent (user 1 add trigger ∷ user 2 (add + oneshot) trigger ∷ user 3 add trigger ∷ []) 1
     ∷ kevent [] 1 ∷ kevent [] 1 ∷ kevent [] 1 ∷ kevent [] 9 ∷ []))
     ≡ rows_from 3 (
@@ -126,7 +126,7 @@ unfolding system_opened
 one_at_a_time = refl
 
 -- a deleted knote is not returned
-pub deleted_before_retrieval : rows (opened (
+pub deleted_before_retrieval : rows 1 (opened (
     kevent (user 1 add trigger ∷ user 2 add trigger ∷ []) 0
     ∷ kevent (user 1 delete 0 ∷ []) 2 ∷ []))
     ≡ rows_from 3 (Events [] ∷ Events (event 2 0 0 ∷ []) ∷ [])
@@ -134,7 +134,7 @@ unfolding system_opened
 deleted_before_retrieval = refl
 
 -- each kqueue has knotes and a queue of its own, in one process or in two
-pub three_kqueues : rows (opened (
+pub three_kqueues : rows 1 (opened (
     Kqueue 1 10 ∷ Proc 2 ∷ Kqueue 2 9
     ∷ Kevent 1 10 (user 1 (add + clear) (trigger + 6) ∷ []) 0
     ∷ kevent (user 1 add (trigger + 5) ∷ []) 0

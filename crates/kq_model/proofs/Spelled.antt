@@ -12,7 +12,7 @@ use Rattle.kq_model.proofs.Builders.{user, kevent, text}
 use Rattle.kq_model.proofs.Opened.{system_opened}
 use Rattle.kq_model.proofs.ReadingOpened.{reading_opened}
 
-pub no_record_spelled : spelling [] ≡ codes "{\"kqsim\":1}\n"
+pub no_record_spelled : spelling 1 [] ≡ codes "{\"kqsim\":1}\n"
 unfolding system_opened
 no_record_spelled = refl
 
@@ -22,7 +22,7 @@ widest = Proc (2 ^ 32 - 1) ∷ Kqueue 0 (2 ^ 32 - 1) ∷ Kevent 1 2 (
     record (user (2 ^ 64 - 1) (add + delete + enable + disable + oneshot + clear + receipt + dispatch + error + eof) (2 ^ 32 - 1)) { filter = Timer; datum = negsuc (2 ^ 63 - 1); udata = 2 ^ 64 - 1 }
     ∷ record (user 0 0 0) { datum = pos (2 ^ 63 - 1) } ∷ []) 3 ∷ []
 
-pub widest_spelled : spelling widest ≡ text (
+pub widest_spelled : spelling 1 widest ≡ text (
     codes "{\"kqsim\":1}"
     ∷ codes "{\"op\":\"proc\",\"pid\":4294967295}"
     ∷ codes "{\"fd\":4294967295,\"op\":\"kqueue\",\"pid\":0}"
@@ -30,7 +30,7 @@ pub widest_spelled : spelling widest ≡ text (
 unfolding system_opened
 widest_spelled = refl
 
-pub widest_reads_again : reading (spelling widest) ≡ Good widest
+pub widest_reads_again : reading (spelling 1 widest) ≡ Good widest
 unfolding system_opened reading_opened
 widest_reads_again = refl
 
@@ -38,11 +38,11 @@ widest_reads_again = refl
 abbrev pub all_filters : List Event
 all_filters = kevent (map (λ f. record (user 7 0 0) { filter = f }) filters) 4 ∷ []
 
-pub all_filters_read_again : reading (spelling all_filters) ≡ Good all_filters
+pub all_filters_read_again : reading (spelling 1 all_filters) ≡ Good all_filters
 unfolding system_opened reading_opened
 all_filters_read_again = refl
 
 -- bits of flags without a name are not spelled, so they do not come back
-pub unnamed_bits : reading (spelling (kevent (user 7 (add + 2 ^ 8 + 2 ^ 13) 0 ∷ []) 4 ∷ [])) ≡ Good (kevent (user 7 add 0 ∷ []) 4 ∷ [])
+pub unnamed_bits : reading (spelling 1 (kevent (user 7 (add + 2 ^ 8 + 2 ^ 13) 0 ∷ []) 4 ∷ [])) ≡ Good (kevent (user 7 add 0 ∷ []) 4 ∷ [])
 unfolding system_opened reading_opened
 unnamed_bits = refl

@@ -32,7 +32,7 @@ pub empty_input : reading [] ≡ Bad 1 Header
 unfolding reading_opened
 empty_input = refl
 
-pub stored_run_spelled : spelling stored_run ≡ text (
+pub stored_run_spelled : spelling 1 stored_run ≡ text (
     codes "{\"kqsim\":1}"
     ∷ codes "{\"op\":\"proc\",\"pid\":1}"
     ∷ codes "{\"fd\":9,\"op\":\"kqueue\",\"pid\":1}"

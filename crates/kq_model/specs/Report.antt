@@ -87,5 +87,5 @@ unfoldable pub report : List Row → ℕ → List ℕ
 report rs records = row_lines rs ++ last_line (call_count rs) (event_count rs) records
 
 -- the report of one fold of the whole system over a trace
-unfoldable pub report_of : List Event → List ℕ
-report_of events = report (rows events) (length events)
+unfoldable pub report_of : ℕ → List Event → List ℕ
+report_of version events = report (rows version events) (length events)
