@@ -1,0 +1,2 @@
+pub mod FaultName
+pub mod Line
