@@ -1,2 +1,1 @@
-pub mod FaultName
-pub mod Line
+pub mod Rest

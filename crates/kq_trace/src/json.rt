@@ -1,6 +1,6 @@
 ghost use Rattle.std.specs.Prelude.{◌≡◌, IfOk, option_map};
 ghost use Rattle.serde_json.specs.View.{view};
-ghost use Rattle.kq_trace.specs.Line.{json_of};
+ghost use Rattle.kq_model.specs.Reading.{json_of};
 
 use kq_model::Memory;
 use serde_json::Value;

@@ -3,5 +3,7 @@
 
 mod fault;
 mod json;
+mod line;
+mod member;
 
-pub use fault::{LineFault, TraceError};
+pub use fault::TraceError;
