@@ -49,7 +49,6 @@ found_u32 (string s) = refl
 found_u32 (array ds) = refl
 found_u32 (object ms) = refl
 
-
 -- a value is whole where it is seen as a number with a sign or without
 pub found_whole : (d : Data) → (is_some (option_and_then as_u64 (as_number d)) || is_some (option_and_then as_i64 (as_number d))) ≡ is_whole d
 unfolding is_whole

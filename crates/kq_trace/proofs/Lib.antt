@@ -1,2 +1,4 @@
 pub mod Found
 pub mod Cuts
+pub mod Walk
+pub mod ChangeParts

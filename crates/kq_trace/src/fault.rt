@@ -11,10 +11,7 @@ pub enum TraceError {
     Memory,
     /// A line is bad: the first such line, counted from 1, and the first fault that it has.
     #[error("line {line}: bad line")]
-    Bad {
-        line: u64,
-        fault: LineFault,
-    },
+    Bad { line: u64, fault: LineFault },
 }
 
 impl From<Memory> for TraceError {

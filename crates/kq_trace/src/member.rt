@@ -1,23 +1,30 @@
 //! The members of a record: whether they are there, of which kind, and their values in range.
 
-ghost use Rattle.std.specs.Prelude.{◌≡◌, map};
+ghost use Rattle.std.specs.Prelude.{◌≡◌, map, option_and_then, pos};
 ghost use Rattle.std.specs.List.{list_all};
 ghost use Rattle.serde_json.specs.Find.{get};
 ghost use Rattle.serde_json.specs.View.{view};
-ghost use Rattle.kq_model.specs.Members.{has_just, has_member, is_whole, i64_in, required, u32_in, u64_in, width};
+ghost use Rattle.kq_model.specs.Members.{has_just, has_member, is_whole, i64_in, optional, or_else, required, u32_in, u64_in, width};
 ghost use Rattle.kq_model.specs.Reading.{u32_at};
 
 use serde_json::Value;
 
 /// How many members an object has; anything else has none.
 #[tactic(auto, using(crate::proofs::Found::found_width))]
-fn width(value: &Value) -> usize
+pub fn width(value: &Value) -> usize
     ensures { result ≡ width (view value.now) }
 {
     match value.as_object() {
         Some(members) => members.len(),
         None => 0,
     }
+}
+
+/// Whether a value has this member.
+pub fn has_member(value: &Value, name: &str) -> bool
+    ensures { result ≡ has_member (view value.now) name.now }
+{
+    value.get(name).is_some()
 }
 
 /// Whether a value has each of these members.
@@ -88,5 +95,59 @@ pub fn u32_at(value: &Value, name: &str) -> Option<u32>
     match value.get(name) {
         Some(member) => u32_in(member),
         None => None,
+    }
+}
+
+/// Whether the member is a whole number, where it is there.
+#[tactic(auto, unfolding(kq_model::specs::Members::optional))]
+pub fn is_whole_or_missing(value: &Value, name: &str) -> bool
+    ensures { result ≡ optional is_whole (get name.now (view value.now)) }
+{
+    match value.get(name) {
+        Some(member) => is_whole(member),
+        None => true,
+    }
+}
+
+/// The member, where it is a whole number of 64 bits.
+pub fn u64_at(value: &Value, name: &str) -> Option<u64>
+    ensures { result ≡ option_and_then u64_in (get name.now (view value.now)) }
+{
+    match value.get(name) {
+        Some(member) => u64_in(member),
+        None => None,
+    }
+}
+
+/// The member, where it is a whole number of 64 bits, and 0 where it is missing.
+#[tactic(auto, unfolding(kq_model::specs::Members::or_else))]
+pub fn u64_or_zero(value: &Value, name: &str) -> Option<u64>
+    ensures { result ≡ or_else 0 u64_in (get name.now (view value.now)) }
+{
+    match value.get(name) {
+        Some(member) => u64_in(member),
+        None => Some(0),
+    }
+}
+
+/// The member, where it is a whole number of 32 bits, and 0 where it is missing.
+#[tactic(auto, unfolding(kq_model::specs::Members::or_else))]
+pub fn u32_or_zero(value: &Value, name: &str) -> Option<u32>
+    ensures { result ≡ or_else 0 u32_in (get name.now (view value.now)) }
+{
+    match value.get(name) {
+        Some(member) => u32_in(member),
+        None => Some(0),
+    }
+}
+
+/// The member, where it is a whole number of 64 bits with a sign, and 0 where it is missing.
+#[tactic(auto, unfolding(kq_model::specs::Members::or_else))]
+pub fn i64_or_zero(value: &Value, name: &str) -> Option<i64>
+    ensures { result ≡ or_else (pos 0) i64_in (get name.now (view value.now)) }
+{
+    match value.get(name) {
+        Some(member) => i64_in(member),
+        None => Some(0),
     }
 }
