@@ -7,5 +7,6 @@ mod fault;
 mod json;
 mod line;
 mod member;
+mod record;
 
 pub use fault::TraceError;
