@@ -4,9 +4,11 @@
 mod change;
 mod changes;
 mod fault;
+mod header;
 mod json;
 mod line;
 mod member;
+mod read;
 mod record;
 
 pub use fault::TraceError;
