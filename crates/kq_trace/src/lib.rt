@@ -12,3 +12,4 @@ mod read;
 mod record;
 
 pub use fault::TraceError;
+pub use read::read_trace;

@@ -1,6 +1,6 @@
 //! A whole trace, line by line.
 
-ghost use Rattle.std.specs.Prelude.{◌≡◌, ◌<◌, IfErr, IfOk};
+ghost use Rattle.std.specs.Prelude.{◌≡◌, ◌<◌, ◌≤◌, IfErr, IfOk, OnOk};
 ghost use Rattle.kq_model.specs.Reading.{Good, event_on, meaning, reading};
 ghost use Rattle.kq_trace.specs.Faults.{IsFault};
 
@@ -26,7 +26,8 @@ fn event_on_line(
     line: &[u8],
 ) -> Result<Result<Event, LineFault>, Memory>
     requires { 1 < number }
-    ensures { IfOk result (λ event. meaning number line.now ≡ event_on event) }
+    ensures meaning { IfOk result (λ event. meaning number line.now ≡ event_on event) }
+    ensures limit { IfOk result (λ event. OnOk event (number ≤ 1000001)) }
 {
     if line.len() > MOST_LINE_BYTES {
         return Ok(Err(LineFault::TooLong));
@@ -79,4 +80,17 @@ fn read(alloc: Global, bytes: &[u8]) -> Result<Trace, TraceError>
         version: 1,
         events: Series::from_vec(events),
     })
+}
+
+/// Reads the text of a trace. On `Bad` the line is the first that has a fault, counted from 1, and
+/// its fault is the first of [`LineFault`]'s that it has; `Memory` says nothing of the text.
+///
+/// A line feed ends a line, one at the end of the text adds none, and empty text is one empty line.
+/// The format is this project's own, and a line's value is what `serde_json` reads. `rt` gives the
+/// memory for the trace, and for one line at a time.
+pub fn read_trace<R: AllocGlobal>(rt: &R, bytes: &[u8]) -> Result<Trace, TraceError>
+    ensures good { IfOk result (λ trace. reading bytes.now ≡ Good trace.events) }
+    ensures bad { IfErr result (IsFault bytes.now) }
+{
+    read(rt.alloc(), bytes)
 }
