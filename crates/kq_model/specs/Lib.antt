@@ -16,3 +16,9 @@ pub mod Members
 pub mod ChangeText
 pub mod Reading
 pub mod Spelling
+pub mod World
+pub mod System
+pub mod Report
+pub mod CallLaws
+pub mod Ticks
+pub mod TimerWalk

@@ -45,8 +45,8 @@ record_data (Kevent pid fd changes room) = object (
     member (codes "pid") (natural pid) (
     member (codes "room") (natural room) no_members)))))
 
-unfoldable pub header_data : Data
-header_data = object (member (codes "kqsim") (natural 1) no_members)
+unfoldable pub header_data : ℕ → Data
+header_data version = object (member (codes "kqsim") (natural version) no_members)
 
 -- a value on a line of its own
 unfoldable pub line_text : Data → List ℕ
@@ -56,5 +56,6 @@ unfoldable pub records_text : List Event → List ℕ
 records_text [] = []
 records_text (e ∷ es) = line_text (record_data e) ++ records_text es
 
-unfoldable pub spelling : List Event → List ℕ
-spelling events = line_text header_data ++ records_text events
+-- the text of a trace: its version and its events
+unfoldable pub spelling : ℕ → List Event → List ℕ
+spelling version events = line_text (header_data version) ++ records_text events

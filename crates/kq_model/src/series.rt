@@ -21,7 +21,7 @@ impl<T> Series<T> {
     pub fn from_vec(items: Vec<T>) -> Self
         ensures { result ≡ items.items }
     {
-        Series { items }
+        Self { items }
     }
 
     pub fn into_vec(self) -> Vec<T>
@@ -55,9 +55,8 @@ impl<T: Copy> Series<T> {
     pub fn copy(&self) -> Result<Self, Memory>
         ensures { IfOk result (λ copied. copied ≡ self.now) }
     {
-        let items = Vec::from_slice(*self.items.allocator(), self.items.as_slice()).map_err(
-            |_| Memory,
-        )?;
+        let alloc = *self.items.allocator();
+        let items = Vec::from_slice(alloc, &self.items).map_err(|_| Memory)?;
         Ok(Series { items })
     }
 }

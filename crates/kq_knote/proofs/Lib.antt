@@ -1,0 +1,4 @@
+pub mod ListLaws
+pub mod KeyLaws
+pub mod KnoteLaws
+pub mod PlaceLaws
