@@ -34,3 +34,9 @@ pub IsPlaceOf-remove : (key : Key) (ks : List Knote) (i : ℕ) → HaveOwnKeys k
 IsPlaceOf-remove key ks i own place =
     let at = stands_at ks i place.within in
     subst (λ (k : Key). remove ks i ≡ without_knote k ks) (sym (find_knote-key key ks at.0 (place.found ∙ at.1))) (remove-without at.0 ks i own at.1)
+
+-- there is a knote of the key
+pub IsPlaceOf-some : (key : Key) (ks : List Knote) (i : ℕ) → IsPlaceOf key ks i → (k : Knote) × (find_knote key ks ≡ Some k)
+IsPlaceOf-some key ks i place =
+    let at = stands_at ks i place.within in
+    (at.0, place.found ∙ at.1)

@@ -1,4 +1,4 @@
-ghost use Rattle.std.specs.Prelude.{◌≡◌, ◌<◌, ◌≤◌, ◌+◌, ◌++◌, ◌∷◌, [], None, Some, OnOk, OnErr, MatchOption, slice_get, length};
+ghost use Rattle.std.specs.Prelude.{◌≡◌, ◌<◌, ◌≤◌, ◌+◌, ◌++◌, ◌^◌, ◌↔◌, ◌∷◌, IsTrue, [], None, Some, OnOk, OnErr, MatchOption, slice_get, length};
 ghost use Rattle.std.specs.Option.{option_copied};
 ghost use Rattle.kq_model.specs.Knote.{find_knote, with_knote, without_knote};
 ghost use Rattle.kq_knote.specs.Reserved.{IsPlaceOf};
@@ -38,11 +38,24 @@ impl Knotes {
         }
     }
 
+    pub fn len(&self) -> usize
+        ensures { result ≡ length self.now.knotes }
+    {
+        self.items.len()
+    }
+
+    pub fn is_empty(&self) -> bool
+        ensures { IsTrue result ↔ (self.now.knotes ≡ []) }
+    {
+        self.items.is_empty()
+    }
+
     /// Makes the room at least `more`; changes nothing else.
     pub fn reserve(&mut self, more: usize) -> Result<(), Memory>
         ensures knotes { self.new.knotes ≡ self.old.knotes }
         ensures room { OnOk result (more ≤ self.new.room) }
         ensures kept { self.old.room ≤ self.new.room }
+        ensures fits { OnOk result (length self.old.knotes + more < 2 ^ 64) }
     {
         self.items.reserve(more).map_err(|_| Memory)
     }

@@ -1,0 +1,5 @@
+pub mod QueueLaws
+pub mod CountLaws
+pub mod KnoteSteps
+pub mod SoundLaws
+pub mod RegisterLaws

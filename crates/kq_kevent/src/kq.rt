@@ -1,0 +1,58 @@
+ghost use Rattle.std.specs.Prelude.{◌≡◌, ◌≤◌, OnOk};
+ghost use Rattle.kq_model.specs.Kqueue.{empty_kqueue};
+
+use crate::queue::Queue;
+use kq_knote::Knotes;
+use kq_model::Memory;
+use std::alloc::Global;
+use std::marker::Model;
+
+/// One kqueue: what is registered in it, and the queue of what is to be returned (kqueue(2);
+/// Lemon 2001). The queue holds each knote that is active and enabled once, and nothing else.
+#[derive(Drop)]
+pub struct Kq {
+    pub(crate) owner: u32,
+    pub(crate) knotes: Knotes,
+    pub(crate) queue: Queue,
+}
+
+impl Model for Kq {
+    ghost use Rattle.std.specs.Prelude.{◌-◌, min, length};
+    ghost use Rattle.kq_kevent.specs.Held.{Held, IsKept};
+
+    ghost Value = { Held };
+
+    ghost view = { λ k. record {
+        kq = record { knotes = k.knotes.knotes; queue = k.queue.keys };
+        owner = k.owner;
+        room = min k.knotes.room (k.queue.capacity - length k.knotes.knotes) } };
+
+    ghost invariant = { λ k. IsKept k.knotes.knotes k.queue };
+}
+
+impl Kq {
+    /// An empty kqueue of the process with the pid `owner`.
+    pub fn new(alloc: Global, owner: u32) -> Self
+        ensures kq { result.kq ≡ empty_kqueue }
+        ensures owner { result.owner ≡ owner }
+    {
+        Kq {
+            owner,
+            knotes: Knotes::new(alloc),
+            queue: Queue::new(alloc),
+        }
+    }
+
+    /// Makes the room at least `changes`, for so many knotes and for their keys in the queue;
+    /// changes nothing else.
+    pub fn reserve(&mut self, changes: usize) -> Result<(), Memory>
+        ensures kq { self.new.kq ≡ self.old.kq }
+        ensures owner { self.new.owner ≡ self.old.owner }
+        ensures room { OnOk result (changes ≤ self.new.room) }
+        ensures kept { self.old.room ≤ self.new.room }
+    {
+        self.knotes.reserve(changes)?;
+        let waiting = self.queue.len();
+        self.queue.reserve(self.knotes.len() - waiting + changes)
+    }
+}

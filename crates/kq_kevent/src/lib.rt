@@ -1,0 +1,9 @@
+//! One kqueue of user events: registering changes, and kevent calls (kqueue(2)).
+#![tactic(auto)]
+
+mod kq;
+mod look;
+mod queue;
+mod register;
+
+pub use kq::Kq;

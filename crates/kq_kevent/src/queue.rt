@@ -1,0 +1,78 @@
+ghost use Rattle.std.specs.Prelude.{◌≡◌, ◌<◌, ◌≤◌, ◌+◌, ◌++◌, ◌∷◌, [], not, length, OnOk, MatchOption};
+ghost use Rattle.kq_model.specs.Knote.{key_eq, without_key};
+
+use kq_model::{Key, Memory};
+use std::alloc::Global;
+use std::collections::VecDeque;
+use std::marker::Model;
+
+/// The keys of the knotes that are to be returned, the next one first (Lemon 2001, section 4.2).
+#[derive(Drop)]
+pub struct Queue {
+    keys: VecDeque<Key>,
+}
+
+impl Model for Queue {
+    ghost use Rattle.std.specs.VecDeque.{deque_capacity};
+    ghost use Rattle.kq_kevent.specs.Held.{Keys};
+
+    ghost Value = { Keys };
+
+    ghost view = { λ q. record { keys = q.keys.items; capacity = deque_capacity q.keys } };
+}
+
+impl Queue {
+    pub fn new(alloc: Global) -> Self
+        ensures { result.keys ≡ [] }
+    {
+        Queue {
+            keys: VecDeque::new(alloc),
+        }
+    }
+
+    pub fn len(&self) -> usize
+        ensures { result ≡ length self.now.keys }
+    {
+        self.keys.len()
+    }
+
+    /// Makes room for so many keys behind those that it has.
+    pub fn reserve(&mut self, more: usize) -> Result<(), Memory>
+        ensures keys { self.new.keys ≡ self.old.keys }
+        ensures capacity { OnOk result (length self.old.keys + more ≤ self.new.capacity) }
+        ensures kept { self.old.capacity ≤ self.new.capacity }
+    {
+        self.keys.reserve(more).map_err(|_| Memory)
+    }
+
+    /// The one place that puts a key into the queue: at the back.
+    pub fn put_in(&mut self, key: Key)
+        requires { length self.old.keys < self.old.capacity }
+        ensures keys { self.new.keys ≡ self.old.keys ++ key ∷ [] }
+        ensures capacity { self.new.capacity ≡ self.old.capacity }
+    {
+        self.keys.push_back_reserved(key);
+    }
+
+    /// The one place that takes a key out of the middle of the queue.
+    pub fn take_out(&mut self, key: Key)
+        ensures keys { self.new.keys ≡ without_key key self.old.keys }
+        ensures capacity { self.new.capacity ≡ self.old.capacity }
+    {
+        self.keys.retain(|other| is_not(&key, other));
+    }
+
+    /// Takes out the key at the front.
+    pub fn take_front(&mut self) -> Option<Key>
+        ensures keys { MatchOption result ((self.old.keys ≡ []) × (self.new.keys ≡ [])) (λ key. self.old.keys ≡ key ∷ self.new.keys) }
+        ensures capacity { self.new.capacity ≡ self.old.capacity }
+    {
+        self.keys.pop_front()
+    }
+}
+
+fn is_not(key: &Key, other: &Key) -> bool
+    ensures { result ≡ not (key_eq key.now other.now) }
+{
+    *key != *other
+}
