@@ -12,6 +12,7 @@ pub mod Modification
 pub mod BadLines
 pub mod Ticks
 pub mod TicksFirst
+pub mod TicksOnce
 pub mod TimerWalk
 pub mod TimerWalkMember
 pub mod TimerWalkQueue

@@ -3,7 +3,7 @@
 -- fflags name, milliseconds where they name none, and its events count the expirations.
 -- This project's choice: the clock counts from 0, its last moment is 2^63 - 1, two units and unknown
 -- bits are refused, and a period of 0 units counts as 1.
-use Rattle.std.specs.Prelude.{◌≡◌, ℕ, zero, suc, ◌+◌, ◌-◌, ◌*◌, ◌<◌, ◌≤◌, max, Bool, true, false, ◌||◌, ◌==◌, nat_le, if◌then◌else◌, ℤ, pos, negsuc, ◌<ℤ◌, Option, Some, None}
+use Rattle.std.specs.Prelude.{◌≡◌, ℕ, zero, suc, ◌+◌, ◌-◌, ◌*◌, ◌<◌, ◌≤◌, max, Bool, true, false, not, ◌&&◌, ◌||◌, ◌==◌, nat_le, if◌then◌else◌, ℤ, pos, negsuc, ◌<ℤ◌, Option, Some, None}
 use Rattle.std.specs.Option.{option_and_then}
 
 -- 2^63 - 1
@@ -41,6 +41,10 @@ is_among_first (suc k) t moment = (t.start + suc k * t.period == moment) || is_a
 -- whether the timer expires at a moment: k periods lead past the k-th moment
 unfoldable pub is_tick : Ticking → ℕ → Bool
 is_tick t moment = is_among_first moment t moment
+
+-- the moments of a timer that may expire once only: the first of them alone (kqueue(2), EV_ONESHOT)
+abbrev pub expires : Bool → Ticking → ℕ → Bool
+expires once t moment = is_tick t moment && (not once || (moment == t.start + t.period))
 
 -- how many of the n moments after `from` pass the test
 unfoldable pub counted : (ℕ → Bool) → ℕ → ℕ → ℕ
