@@ -14,6 +14,7 @@ pub mod Ticks
 pub mod TicksFirst
 pub mod TicksOnce
 pub mod TimerWalk
+pub mod TimerWalkKeys
 pub mod TimerWalkMember
 pub mod TimerWalkQueue
 pub mod TimerWalkSort
