@@ -55,10 +55,9 @@ counted test from (suc n) = counted test from n + (if test (from + suc n) then 1
 abbrev pub ticks_between : Ticking → ℕ → ℕ → ℕ
 ticks_between t from to = counted (is_tick t) from (to - from)
 
--- the timer expires next, after `from`, at `moment`
+-- the first moment of the timer after `from`; where it is past the last moment, it never comes
 pub record IsNextTick (t : Ticking) (from : ℤ) (moment : ℕ) : Type 0 where
   pub after : from <ℤ pos moment
-  pub in_time : moment ≤ last_moment
   pub tick : is_tick t moment ≡ true
   pub least : (m : ℕ) → from <ℤ pos m → m < moment → is_tick t m ≡ false
 
