@@ -12,7 +12,9 @@ pub mod Modification
 pub mod BadLines
 pub mod Ticks
 pub mod TicksFirst
+pub mod TicksOnce
 pub mod TimerWalk
+pub mod TimerWalkKeys
 pub mod TimerWalkMember
 pub mod TimerWalkQueue
 pub mod TimerWalkSort

@@ -68,17 +68,17 @@ first_passing-none test from (suc n) none =
     rw (late, none (from + suc n) (omega arith) (omega arith))
 
 -- what `first_after` says of a next tick names this definition
-pub next_tick-found : (t : Ticking) (from m : ℕ) → IsNextTick t (pos from) m → next_tick t from ≡ m
-next_tick-found t from m next = by_order (next_tick-is t from (omega (arith, ints, next.after, next.in_time))) (cases_order (next_tick t from) m)
+pub next_tick-found : (t : Ticking) (from m : ℕ) → m ≤ last_moment → IsNextTick t (pos from) m → next_tick t from ≡ m
+next_tick-found t from m in_time next = by_order (next_tick-is t from (omega (arith, ints, next.after, in_time))) (cases_order (next_tick t from) m)
   where
     by_order : IsFirstPassing (is_tick t) from last_moment (next_tick t from) → (next_tick t from ≡ m) ⊎ ((next_tick t from < m) ⊎ (m < next_tick t from)) → next_tick t from ≡ m
     by_order is (inl e) = e
     by_order is (inr (inl h)) =
-        let ticks : is_tick t (next_tick t from) ≡ true = is.passes (omega (arith, next.in_time)) in
+        let ticks : is_tick t (next_tick t from) ≡ true = is.passes (omega (arith, in_time)) in
         let not : is_tick t (next_tick t from) ≡ false = next.least (next_tick t from) (omega (arith, ints, is.after)) h in
         absurd (true≢false (sym ticks ∙ not))
     by_order is (inr (inr h)) =
-        let not : is_tick t m ≡ false = is.least m (omega (arith, ints, next.after)) h next.in_time in
+        let not : is_tick t m ≡ false = is.least m (omega (arith, ints, next.after)) h in_time in
         absurd (true≢false (sym next.tick ∙ not))
 
 pub next_tick-none : (t : Ticking) (from : ℕ) → from ≤ last_moment → HasNoTick t (pos from) → next_tick t from ≡ suc last_moment

@@ -3,7 +3,7 @@
 -- fflags name, milliseconds where they name none, and its events count the expirations.
 -- This project's choice: the clock counts from 0, its last moment is 2^63 - 1, two units and unknown
 -- bits are refused, and a period of 0 units counts as 1.
-use Rattle.std.specs.Prelude.{◌≡◌, ℕ, zero, suc, ◌+◌, ◌-◌, ◌*◌, ◌<◌, ◌≤◌, max, Bool, true, false, ◌||◌, ◌==◌, nat_le, if◌then◌else◌, ℤ, pos, negsuc, ◌<ℤ◌, Option, Some, None}
+use Rattle.std.specs.Prelude.{◌≡◌, ℕ, zero, suc, ◌+◌, ◌-◌, ◌*◌, ◌<◌, ◌≤◌, max, Bool, true, false, not, ◌&&◌, ◌||◌, ◌==◌, nat_le, if◌then◌else◌, ℤ, pos, negsuc, ◌<ℤ◌, Option, Some, None}
 use Rattle.std.specs.Option.{option_and_then}
 
 -- 2^63 - 1
@@ -42,6 +42,10 @@ is_among_first (suc k) t moment = (t.start + suc k * t.period == moment) || is_a
 unfoldable pub is_tick : Ticking → ℕ → Bool
 is_tick t moment = is_among_first moment t moment
 
+-- the moments of a timer that may expire once only: the first of them alone (kqueue(2), EV_ONESHOT)
+abbrev pub expires : Bool → Ticking → ℕ → Bool
+expires once t moment = is_tick t moment && (not once || (moment == t.start + t.period))
+
 -- how many of the n moments after `from` pass the test
 unfoldable pub counted : (ℕ → Bool) → ℕ → ℕ → ℕ
 counted test from zero = 0
@@ -51,10 +55,9 @@ counted test from (suc n) = counted test from n + (if test (from + suc n) then 1
 abbrev pub ticks_between : Ticking → ℕ → ℕ → ℕ
 ticks_between t from to = counted (is_tick t) from (to - from)
 
--- the timer expires next, after `from`, at `moment`
+-- the first moment of the timer after `from`; where it is past the last moment, it never comes
 pub record IsNextTick (t : Ticking) (from : ℤ) (moment : ℕ) : Type 0 where
   pub after : from <ℤ pos moment
-  pub in_time : moment ≤ last_moment
   pub tick : is_tick t moment ≡ true
   pub least : (m : ℕ) → from <ℤ pos m → m < moment → is_tick t m ≡ false
 

@@ -1,1 +1,2 @@
 mod NextTick
+mod Counts

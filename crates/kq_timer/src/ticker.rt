@@ -1,4 +1,4 @@
-ghost use Rattle.std.specs.Prelude.{◌≡◌, ◌+◌, ◌<◌, ◌≤◌, ℕ, ℤ, pos, ◌≤ℤ◌, unsigned_abs, MatchOption};
+ghost use Rattle.std.specs.Prelude.{◌≡◌, ◌+◌, ◌<◌, ◌≤◌, ℕ, ℤ, pos, ◌≤ℤ◌, unsigned_abs, IfSome, MatchOption};
 ghost use Rattle.kq_model.specs.Ticks.{last_moment, ticks_between, IsNextTick, HasNoTick};
 
 use crate::Period;
@@ -39,6 +39,7 @@ impl Ticker {
 
     /// How often the timer expires after the moment `from` and not after `to`; `from` may be before
     /// the start.
+    #[tactic(auto, using(crate::proofs::Counts::ticks_found))]
     pub fn ticks(&self, from: i64, to: i64) -> i64
         requires past { pos 0 ≤ℤ from }
         requires ordered { from ≤ℤ to }
@@ -52,10 +53,17 @@ impl Ticker {
     /// The moment of the first expiration after `from`, where there is one up to 2^63 - 1. `from` may
     /// be any number, also a negative one.
     pub fn first_after(&self, from: i64) -> Option<i64>
-        ensures { MatchOption result (HasNoTick self.now from) (λ moment. (m : ℕ) × (moment ≡ pos m) × IsNextTick self.now from m) }
+        ensures next { MatchOption result (HasNoTick self.now from) (λ moment. IsNextTick self.now from (unsigned_abs moment)) }
+        ensures not_negative { IfSome result (λ moment. pos 0 ≤ℤ moment) }
+    {
+        i64::try_from(self.next_after(from)).ok()
+    }
+
+    /// The moment of the first expiration after `from`, also where it is past 2^63 - 1.
+    fn next_after(&self, from: i64) -> u64
+        ensures { IsNextTick self.now from result }
     {
         let later = (from.max(0) as u64).max(self.start);
-        let next = later - (later - self.start) % self.period + self.period;
-        i64::try_from(next).ok()
+        later - (later - self.start) % self.period + self.period
     }
 }
