@@ -1,0 +1,35 @@
+-- A filter's look at its target: nothing, or what an event is to say (kqueue(2), the filters).
+use Rattle.std.specs.Prelude.{ℕ, ℤ, Bool, true, false, Option, Some, None, if◌then◌else◌}
+use Rattle.kq_model.specs.declared.filter.Filter.{Filter}
+use Rattle.kq_model.specs.declared.filter.Filter.TheVariants.{Read, Write, Vnode, Proc, Signal, Timer, User, Aio, Lio, Fs, Procdesc, Sendfile, Empty}
+use Rattle.kq_model.specs.declared.object.Target.{Target}
+use Rattle.kq_model.specs.declared.object.Target.TheVariants.{Own}
+use Rattle.kq_model.specs.Knote.{Knote}
+use Rattle.kq_model.specs.Views.{Views}
+
+-- what the look sees where the condition holds
+pub record Seen : Type 0 where
+  pub fflags : ℕ
+  pub datum : ℤ
+  pub eof : Bool
+
+-- EVFILT_USER: triggered; its own bits and the data of the last change
+unfoldable pub look_user : Knote → Option Seen
+look_user k = if k.triggered then Some (record { fflags = k.bits; datum = k.datum; eof = false }) else None
+
+unfoldable pub look_by : Filter → Views → Knote → Option Seen
+look_by User views k = look_user k
+look_by _ views k = None
+
+unfoldable pub look : Views → Knote → Option Seen
+look views k = look_by k.key.filter views k
+
+-- the filters that are simulated; all others are refused
+unfoldable pub is_simulated : Filter → Bool
+is_simulated User = true
+is_simulated _ = false
+
+-- what a change of this filter and ident, made by this process, watches
+unfoldable pub target_of : Views → ℕ → Filter → ℕ → Option Target
+target_of views owner User ident = Some Own
+target_of views owner _ ident = None

@@ -1,0 +1,42 @@
+-- The names of filters and flags in a trace and a report (this project's choice).
+use Rattle.std.specs.Prelude.{ℕ, nat_eq, Bool, ◌==◌, List, [], ◌∷◌, Option, Some, None, codes, filter, map, if◌then◌else◌}
+use Rattle.std.specs.Cmp.Lexicographic.{pointwise}
+use Rattle.kq_model.specs.declared.event_flags.EvFlags.{EvFlags}
+use Rattle.kq_model.specs.declared.filter.Filter.{Filter}
+use Rattle.kq_model.specs.declared.filter.Filter.TheVariants.{Read, Write, Vnode, Proc, Signal, Timer, User, Aio, Lio, Fs, Procdesc, Sendfile, Empty}
+use Rattle.kq_model.specs.Bits.{asks}
+use Rattle.kq_model.specs.FlagNames.{flag_table}
+
+abbrev pub filter_name : Filter → List ℕ
+filter_name Read = codes "READ"
+filter_name Write = codes "WRITE"
+filter_name Vnode = codes "VNODE"
+filter_name Proc = codes "PROC"
+filter_name Signal = codes "SIGNAL"
+filter_name Timer = codes "TIMER"
+filter_name User = codes "USER"
+filter_name Aio = codes "AIO"
+filter_name Lio = codes "LIO"
+filter_name Fs = codes "FS"
+filter_name Procdesc = codes "PROCDESC"
+filter_name Sendfile = codes "SENDFILE"
+filter_name Empty = codes "EMPTY"
+
+abbrev pub filters : List Filter
+filters = Read ∷ Write ∷ Vnode ∷ Proc ∷ Signal ∷ Timer ∷ User ∷ Aio ∷ Lio ∷ Fs ∷ Procdesc ∷ Sendfile ∷ Empty ∷ []
+
+-- the two texts are one
+abbrev pub is_text : List ℕ → List ℕ → Bool
+is_text a b = pointwise nat_eq a b
+
+unfoldable pub filter_among : List Filter → List ℕ → Option Filter
+filter_among [] name = None
+filter_among (f ∷ fs) name = if is_text name (filter_name f) then Some f else filter_among fs name
+
+-- the filter of this name
+unfoldable pub filter_named : List ℕ → Option Filter
+filter_named name = filter_among filters name
+
+-- the names of the flags that are set, each once, in the order of the table
+unfoldable pub names_of : EvFlags → List (List ℕ)
+names_of flags = map (λ row. row.0) (filter (λ row. asks flags row.1) flag_table)

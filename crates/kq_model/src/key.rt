@@ -1,0 +1,8 @@
+use crate::Filter;
+
+/// What tells the knotes of one kqueue apart: at most one stands for each pair; see kqueue(2).
+#[derive(Debug, Drop, Clone, Copy, PartialEq, Eq)]
+pub struct Key {
+    pub ident: u64,
+    pub filter: Filter,
+}
