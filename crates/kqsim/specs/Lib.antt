@@ -1,1 +1,3 @@
 pub mod Fault
+pub mod CommandLine
+pub mod Workers

@@ -1,6 +1,6 @@
 ghost use Rattle.std.specs.Prelude.{◌≡◌};
 
-use crate::line_fault::LineFault;
+use kq_model::LineFault;
 use thiserror::Error;
 
 /// Why there is no report, or not the whole of it. Its text is the line that the program prints on

@@ -5,8 +5,9 @@
 mod command_line;
 mod fault;
 mod input;
-mod line_fault;
+mod order;
 mod output;
+mod workers;
 
 use std::io;
 
