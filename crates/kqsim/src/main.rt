@@ -7,6 +7,7 @@ mod fault;
 mod input;
 mod order;
 mod output;
+mod report;
 mod workers;
 
 use std::io;
