@@ -1,5 +1,5 @@
 -- What the answer of a kevent call promises, in the words of its user.
-use Rattle.std.specs.Prelude.{◌≡◌, ◌≤◌, ◌⊎◌, ℕ, Bool, true, false, List, [], ◌∷◌, map, length, Option, Some, None}
+use Rattle.std.specs.Prelude.{◌≡◌, ◌<◌, ◌≤◌, ◌⊎◌, ℕ, Bool, true, false, List, [], ◌∷◌, map, length, Option, Some, None}
 use Rattle.kq_model.specs.declared.change.Change.{Change}
 use Rattle.kq_model.specs.declared.key.Key.{Key}
 use Rattle.kq_model.specs.declared.kevent.Kevent.{Kevent}
@@ -39,6 +39,10 @@ pub record IsDue (views : Views) (knotes : List Knote) (e : Kevent) : Type 0 whe
 abbrev pub IsLastOfOneshot : List Knote → Kevent → Type 0
 IsLastOfOneshot left e = asks e.flags oneshot ≡ true → find_knote (key_of_event e) left ≡ None
 
+-- the condition of the key's knote does not hold
+abbrev pub IsIdle : Views → List Knote → Key → Type 0
+IsIdle views knotes key = (k : Knote) → find_knote key knotes ≡ Some k → look views k ≡ None
+
 -- events were taken out of a kqueue, which is left as `after`
 pub record AreTaken (views : Views) (room : ℕ) (kq after : Kqueue) (events : List Kevent) : Type 0 where
   -- in the order of the queue as it was, each knote at most once
@@ -48,15 +52,20 @@ pub record AreTaken (views : Views) (room : ℕ) (kq after : Kqueue) (events : L
   pub due : Each (IsDue views kq.knotes) events
   pub oneshot_gone : Each (IsLastOfOneshot after.knotes) events
   pub no_error : Each (λ e. asks e.flags error ≡ false) events
+  -- nothing is held back: with room left over, what is in the queue and was not returned is idle
+  pub complete : length events < room
+      → (key : Key) → has_key key kq.queue ≡ true
+      → (has_key key (map key_of_event events) ≡ true) ⊎ IsIdle views kq.knotes key
 
 -- entries, each with ERROR, and nothing was taken out of the kqueue
-pub record AreEntries (kq after : Kqueue) (events : List Kevent) : Type 0 where
+pub record AreEntries (room : ℕ) (kq after : Kqueue) (events : List Kevent) : Type 0 where
   pub entries : Each (λ e. asks e.flags error ≡ true) events
+  pub within : length events ≤ room
   pub untouched : after ≡ kq
 
 -- a call answers either with entries alone, or with events of the kqueue as its changes left it
 abbrev pub IsAnswer : Views → ℕ → Kqueue → Kqueue → Reply → Type 0
-IsAnswer views room kq after (Events events) = AreEntries kq after events ⊎ AreTaken views room kq after events
+IsAnswer views room kq after (Events events) = AreEntries room kq after events ⊎ AreTaken views room kq after events
 IsAnswer views room kq after (Failed e) = after ≡ kq
 IsAnswer views room kq after Done = ⊥
 IsAnswer views room kq after (Impossible why) = ⊥

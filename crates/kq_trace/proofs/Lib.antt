@@ -1,0 +1,5 @@
+pub mod Found
+pub mod Cuts
+pub mod Walk
+pub mod TraceLines
+pub mod ChangeParts
