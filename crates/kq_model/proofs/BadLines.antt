@@ -1,9 +1,11 @@
 -- Bad lines by example, and good ones next to them.
-use Rattle.std.specs.Prelude.{◌≡◌, ℕ, ◌^◌, true, List, [], ◌∷◌, ◌++◌, length, map, replicate, codes, nat_lt, Some, Ok, Err}
+use Rattle.std.specs.Prelude.{◌≡◌, ℕ, zero, suc, ◌^◌, true, List, [], ◌∷◌, ◌++◌, length, map, replicate, codes, nat_lt, Some, None, Ok, Err}
 use Rattle.std.proofs.Common.{refl}
+use Rattle.std.proofs.Math.ListN.{length-replicate}
 use Rattle.kq_model.specs.declared.event.Event.TheVariants.{Proc}
 use Rattle.kq_model.specs.declared.line_fault.LineFault.TheVariants.{TooLong, Header, TooManyRecords, Json, Field, Range}
-use Rattle.kq_model.specs.Reading.{Good, Bad, meaning, reading}
+use Rattle.kq_model.specs.Lines.{onto_first, pieces_of, without_empty_end, lines_among, lines_of}
+use Rattle.kq_model.specs.Reading.{Good, Bad, meaning, with_event, joined, read_lines, reading}
 use Rattle.kq_model.proofs.Builders.{kevent, second_line}
 use Rattle.kq_model.proofs.ReadingOpened.{reading_opened}
 
@@ -167,9 +169,8 @@ unfolding reading_opened
 pid_out_of_range = refl
 
 -- to 2^32 - 1
-pub largest_pid : map second_line (
-    codes "{\"op\":\"proc\",\"pid\":4294967295}" ∷ [])
-    ≡ replicate 1 (Good (Proc 4294967295 ∷ []))
+pub largest_pid : second_line (codes "{\"op\":\"proc\",\"pid\":4294967295}")
+    ≡ Good (Proc 4294967295 ∷ [])
 unfolding reading_opened
 largest_pid = refl
 
@@ -206,23 +207,20 @@ unfolding reading_opened
 range_of_a_call = refl
 
 -- a room that no call may have is read: it is the record that is impossible
-pub room_over_the_limit : map second_line (
-    codes "{\"op\":\"kevent\",\"pid\":1,\"fd\":9,\"changes\":[],\"room\":65537}" ∷ [])
-    ≡ replicate 1 (Good (kevent [] 65537 ∷ []))
+pub room_over_the_limit : second_line (codes "{\"op\":\"kevent\",\"pid\":1,\"fd\":9,\"changes\":[],\"room\":65537}")
+    ≡ Good (kevent [] 65537 ∷ [])
 unfolding reading_opened
 room_over_the_limit = refl
 
 -- the least bad line counts, whatever the faults
-pub least_bad_line : map reading (
-    codes "{\"kqsim\":1}\n{\"op\":\"proc\",\"pid\":1}\n{\"op\":\"proc\",\"pid\":-1}\n{\n{}\n" ∷ [])
-    ≡ replicate 1 (Bad 3 Range)
+pub least_bad_line : reading (codes "{\"kqsim\":1}\n{\"op\":\"proc\",\"pid\":1}\n{\"op\":\"proc\",\"pid\":-1}\n{\n{}\n")
+    ≡ Bad 3 Range
 unfolding reading_opened
 least_bad_line = refl
 
 -- line 1 before all
-pub header_before_the_rest : map reading (
-    codes "{\"kqsim\":2}\n{\n" ∷ [])
-    ≡ replicate 1 (Bad 1 Header)
+pub header_before_the_rest : reading (codes "{\"kqsim\":2}\n{\n")
+    ≡ Bad 1 Header
 unfolding reading_opened
 header_before_the_rest = refl
 
@@ -230,6 +228,23 @@ header_before_the_rest = refl
 pub too_long : (line : ℕ) (bytes : List ℕ) → nat_lt (2 ^ 20) (length bytes) ≡ true → meaning line bytes ≡ Err TooLong
 unfolding meaning
 too_long line bytes long = rw long
+
+-- so it is behind the header
+header_is_read : meaning 1 (codes "{\"kqsim\":1}") ≡ Ok None
+unfolding reading_opened
+header_is_read = refl
+
+blanks_are_one_piece : (n : ℕ) → pieces_of (replicate n 32 ++ 10 ∷ []) ≡ replicate n 32 ∷ [] ∷ []
+unfolding pieces_of onto_first
+blanks_are_one_piece zero = refl
+blanks_are_one_piece (suc n) = rw (blanks_are_one_piece n) refl
+
+pub line_over_the_limit : (n : ℕ) → nat_lt (2 ^ 20) (suc n) ≡ true → second_line (replicate (suc n) 32) ≡ Bad 2 TooLong
+unfolding pieces_of onto_first without_empty_end lines_among lines_of read_lines reading joined with_event
+line_over_the_limit n long =
+    let over : nat_lt (2 ^ 20) (length (replicate (suc n) 32)) ≡ true = rw (length-replicate {A = ℕ} n 32) long in
+    let refused : meaning 2 (replicate (suc n) 32) ≡ Err TooLong = too_long 2 (replicate (suc n) 32) over in
+    rw (blanks_are_one_piece n, header_is_read, refused) refl
 
 -- the record on line 1,000,001 is the last that is read; what stands behind is not looked at
 pub records_over_the_limit : (meaning 1000001 (codes "{\"op\":\"proc\",\"pid\":1}") ≡ Ok (Some (Proc 1))) × (meaning 1000002 (codes "{") ≡ Err TooManyRecords)

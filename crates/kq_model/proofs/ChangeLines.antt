@@ -57,16 +57,14 @@ unfolding reading_opened
 kinds_in_a_change = refl
 
 -- the widest numbers of a change
-pub widest_change : map second_line (
-    codes "{\"op\":\"kevent\",\"pid\":1,\"fd\":9,\"changes\":[{\"ident\":18446744073709551615,\"filter\":\"USER\",\"flags\":[],\"fflags\":4294967295,\"data\":-9223372036854775808,\"udata\":18446744073709551615}],\"room\":4}" ∷ [])
-    ≡ replicate 1 (Good (kevent (record (user (2 ^ 64 - 1) 0 (2 ^ 32 - 1)) { datum = negsuc (2 ^ 63 - 1); udata = 2 ^ 64 - 1 } ∷ []) 4 ∷ []))
+pub widest_change : second_line (codes "{\"op\":\"kevent\",\"pid\":1,\"fd\":9,\"changes\":[{\"ident\":18446744073709551615,\"filter\":\"USER\",\"flags\":[],\"fflags\":4294967295,\"data\":-9223372036854775808,\"udata\":18446744073709551615}],\"room\":4}")
+    ≡ Good (kevent (record (user (2 ^ 64 - 1) 0 (2 ^ 32 - 1)) { datum = negsuc (2 ^ 63 - 1); udata = 2 ^ 64 - 1 } ∷ []) 4 ∷ [])
 unfolding reading_opened
 widest_change = refl
 
 -- the greatest data
-pub largest_data : map second_line (
-    codes "{\"op\":\"kevent\",\"pid\":1,\"fd\":9,\"changes\":[{\"udata\":0,\"data\":9223372036854775807,\"flags\":[],\"filter\":\"USER\",\"ident\":7}],\"room\":4}" ∷ [])
-    ≡ replicate 1 (Good (kevent (record (user 7 0 0) { datum = pos (2 ^ 63 - 1) } ∷ []) 4 ∷ []))
+pub largest_data : second_line (codes "{\"op\":\"kevent\",\"pid\":1,\"fd\":9,\"changes\":[{\"udata\":0,\"data\":9223372036854775807,\"flags\":[],\"filter\":\"USER\",\"ident\":7}],\"room\":4}")
+    ≡ Good (kevent (record (user 7 0 0) { datum = pos (2 ^ 63 - 1) } ∷ []) 4 ∷ [])
 unfolding reading_opened
 largest_data = refl
 
@@ -79,9 +77,8 @@ unfolding reading_opened
 repeated_flags = refl
 
 -- every flag by its name
-pub every_flag : map second_line (
-    codes "{\"op\":\"kevent\",\"pid\":1,\"fd\":9,\"changes\":[{\"ident\":7,\"filter\":\"USER\",\"flags\":[\"ADD\",\"DELETE\",\"ENABLE\",\"DISABLE\",\"ONESHOT\",\"CLEAR\",\"DISPATCH\",\"RECEIPT\",\"EOF\",\"ERROR\"]}],\"room\":4}" ∷ [])
-    ≡ replicate 1 (Good (kevent (user 7 (add + delete + enable + disable + oneshot + clear + dispatch + receipt + eof + error) 0 ∷ []) 4 ∷ []))
+pub every_flag : second_line (codes "{\"op\":\"kevent\",\"pid\":1,\"fd\":9,\"changes\":[{\"ident\":7,\"filter\":\"USER\",\"flags\":[\"ADD\",\"DELETE\",\"ENABLE\",\"DISABLE\",\"ONESHOT\",\"CLEAR\",\"DISPATCH\",\"RECEIPT\",\"EOF\",\"ERROR\"]}],\"room\":4}")
+    ≡ Good (kevent (user 7 (add + delete + enable + disable + oneshot + clear + dispatch + receipt + eof + error) 0 ∷ []) 4 ∷ [])
 unfolding reading_opened
 every_flag = refl
 

@@ -6,9 +6,9 @@ use Rattle.kq_model.specs.declared.event.Event.TheVariants.{Proc, Kqueue, Kevent
 use Rattle.kq_model.specs.declared.reply.Reply.TheVariants.{Events, Impossible}
 use Rattle.kq_model.specs.declared.row.Row.{Row}
 use Rattle.kq_model.specs.declared.why.Why.{Why}
-use Rattle.kq_model.specs.declared.why.Why.TheVariants.{NoProcess, UsedPid, NoDescriptor, UsedDescriptor, TooMany}
+use Rattle.kq_model.specs.declared.why.Why.TheVariants.{NoProcess, UsedPid, NoDescriptor, UsedDescriptor, WrongKind, Absent, UsedFile, ClockBack, TooMany}
 use Rattle.kq_model.specs.Bits.{add, trigger}
-use Rattle.kq_model.specs.Report.{report_of}
+use Rattle.kq_model.specs.Report.{report, report_of}
 use Rattle.kq_model.specs.System.{rows}
 use Rattle.kq_model.proofs.Builders.{user, kevent, opened, event, text}
 use Rattle.kq_model.proofs.Opened.{system_opened}
@@ -27,6 +27,22 @@ pub kqueue_of_no_process_report : report_of 1 kqueue_of_no_process ≡ text (
     ∷ codes "{\"calls\":0,\"events\":0,\"records\":3}" ∷ [])
 unfolding system_opened
 kqueue_of_no_process_report = refl
+
+-- every reason by its name
+pub every_reason : report (row 1 NoProcess ∷ row 2 UsedPid ∷ row 3 NoDescriptor ∷ row 4 UsedDescriptor ∷ row 5 WrongKind
+    ∷ row 6 Absent ∷ row 7 UsedFile ∷ row 8 ClockBack ∷ row 10 TooMany ∷ []) 10 ≡ text (
+    codes "{\"at\":1,\"impossible\":\"NoProcess\"}"
+    ∷ codes "{\"at\":2,\"impossible\":\"UsedPid\"}"
+    ∷ codes "{\"at\":3,\"impossible\":\"NoDescriptor\"}"
+    ∷ codes "{\"at\":4,\"impossible\":\"UsedDescriptor\"}"
+    ∷ codes "{\"at\":5,\"impossible\":\"WrongKind\"}"
+    ∷ codes "{\"at\":6,\"impossible\":\"Absent\"}"
+    ∷ codes "{\"at\":7,\"impossible\":\"UsedFile\"}"
+    ∷ codes "{\"at\":8,\"impossible\":\"ClockBack\"}"
+    ∷ codes "{\"at\":10,\"impossible\":\"TooMany\"}"
+    ∷ codes "{\"calls\":0,\"events\":0,\"records\":10}" ∷ [])
+unfolding system_opened
+every_reason = refl
 
 -- ---- each reason
 
