@@ -1,5 +1,5 @@
 -- What the answer of a kevent call promises, in the words of its user.
-use Rattle.std.specs.Prelude.{◌≡◌, ◌<◌, ◌≤◌, ◌⊎◌, ℕ, Bool, true, false, List, [], ◌∷◌, map, length, Option, Some, None}
+use Rattle.std.specs.Prelude.{◌≡◌, ◌<◌, ◌≤◌, ◌⊎◌, ℕ, true, false, List, [], ◌∷◌, map, length, Some, None}
 use Rattle.kq_model.specs.declared.change.Change.{Change}
 use Rattle.kq_model.specs.declared.key.Key.{Key}
 use Rattle.kq_model.specs.declared.kevent.Kevent.{Kevent}
@@ -60,6 +60,7 @@ pub record AreTaken (views : Views) (room : ℕ) (kq after : Kqueue) (events : L
 -- entries, each with ERROR, and nothing was taken out of the kqueue
 pub record AreEntries (room : ℕ) (kq after : Kqueue) (events : List Kevent) : Type 0 where
   pub entries : Each (λ e. asks e.flags error ≡ true) events
+  pub some : 0 < length events
   pub within : length events ≤ room
   pub untouched : after ≡ kq
 
