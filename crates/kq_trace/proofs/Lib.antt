@@ -1,5 +1,6 @@
 pub mod Found
 pub mod Cuts
 pub mod Walk
+pub mod Tables
 pub mod TraceLines
 pub mod ChangeParts

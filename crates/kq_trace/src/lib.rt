@@ -10,6 +10,8 @@ mod line;
 mod member;
 mod read;
 mod record;
+mod spell;
+mod write;
 
 pub use fault::TraceError;
 pub use read::read_trace;
