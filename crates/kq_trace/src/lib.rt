@@ -15,3 +15,4 @@ mod write;
 
 pub use fault::TraceError;
 pub use read::read_trace;
+pub use write::write_trace;
