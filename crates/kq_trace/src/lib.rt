@@ -10,6 +10,9 @@ mod line;
 mod member;
 mod read;
 mod record;
+mod spell;
+mod write;
 
 pub use fault::TraceError;
 pub use read::read_trace;
+pub use write::write_trace;
