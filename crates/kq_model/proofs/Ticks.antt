@@ -24,11 +24,14 @@ none_among_first t m zero none = refl
 none_among_first t m (suc k) none = or_from _ _ (ne_eqb _ _ (none k)) (none_among_first t m k none)
 
 -- start and j + 1 periods
-pub is_tick-true : (t : Ticking) (m j : ℕ) → 0 < t.period → t.start + suc j * t.period ≡ m → is_tick t m ≡ true
+pub is_tick-at : (t : Ticking) (m j : ℕ) → j < m → t.start + suc j * t.period ≡ m → is_tick t m ≡ true
 unfolding is_tick
+is_tick-at t m j below e = among_first t m m j below e
+
+pub is_tick-true : (t : Ticking) (m j : ℕ) → 0 < t.period → t.start + suc j * t.period ≡ m → is_tick t m ≡ true
 is_tick-true t m j positive e =
     let far : suc j ≤ suc j * t.period = le-mul_of_pos_right (suc j) positive in
-    among_first t m m j (omega arith) e
+    is_tick-at t m j (omega arith) e
 
 pub is_tick-false : (t : Ticking) (m : ℕ) → ((j : ℕ) → t.start + suc j * t.period ≢ m) → is_tick t m ≡ false
 unfolding is_tick

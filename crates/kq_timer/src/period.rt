@@ -1,4 +1,4 @@
-ghost use Rattle.std.specs.Prelude.{◌≡◌, ◌<◌, ◌≤◌, option_map, IfOk};
+ghost use Rattle.std.specs.Prelude.{◌≡◌, ◌<◌, ◌≤◌, IfOk};
 ghost use Rattle.std.specs.Option.{ok_or};
 ghost use Rattle.kq_model.specs.Ticks.{last_moment, unit_of, period_of};
 
@@ -40,7 +40,7 @@ impl Period {
     /// where it names none.
     ///
     /// EINVAL where `fflags` has two units or any other bit, where `datum` is negative, and where
-    /// the period is over 2^63 - 1 nanoseconds; the last two and that 0 counts as 1 are this
+    /// the period is over 2^63 - 1 nanoseconds. These refusals, and that 0 counts as 1, are this
     /// project's choice.
     pub fn new(datum: i64, fflags: u32) -> Result<Period, Errno>
         ensures exact { result ≡ ok_or (period_of datum fflags) Errno.EINVAL }

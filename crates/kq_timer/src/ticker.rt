@@ -1,5 +1,5 @@
-ghost use Rattle.std.specs.Prelude.{◌≡◌, ◌+◌, ◌<◌, ◌≤◌, ℕ, ℤ, pos, ◌≤ℤ◌, unsigned_abs, IfSome, MatchOption};
-ghost use Rattle.kq_model.specs.Ticks.{last_moment, ticks_between, IsNextTick, HasNoTick};
+ghost use Rattle.std.specs.Prelude.{◌≡◌, pos, ◌≤ℤ◌, unsigned_abs, IfSome, MatchOption};
+ghost use Rattle.kq_model.specs.Ticks.{ticks_between, IsNextTick, HasNoTick};
 
 use crate::Period;
 use std::marker::Model;
