@@ -1,8 +1,9 @@
 -- Keys that differ and are all of some knote are no more than the knotes.
 use Rattle.std.proofs.Common.{◌≡◌, ℕ, suc, ◌+◌, ◌≤◌, Bool, true, false, cond, not, ◌||◌, List, [], ◌∷◌, filter, length, None, refl, sym, ap, ◌∙◌, subst, arith}
+use Rattle.std.proofs.lemmas.List.{length-map}
 use Rattle.std.proofs.lemmas.Bool.{or_right, or_left, true≢false}
 use Rattle.kq_model.specs.declared.key.Key.{Key}
-use Rattle.kq_model.specs.Knote.{Knote, key_eq, has_key, find_knote, without_knote}
+use Rattle.kq_model.specs.Knote.{Knote, key_eq, has_key, find_knote, without_knote, with_knote}
 use Rattle.kq_model.specs.Kqueue.{AreOnce}
 use Rattle.kq_knote.proofs.KeyLaws.{same_key, key_eq-refl}
 use Rattle.kq_knote.proofs.KnoteLaws.{by_test, find_knote-none, find_knote-later, find_knote-without_other}
@@ -35,3 +36,6 @@ length-keys (k ∷ q) ks once present =
             (λ _ same. true≢false (sym there ∙ subst (λ (other : Key). has_key other q ≡ false) (same_key k key same) once.0))
             (λ _ apart. present key (or_right (key_eq key k) (has_key key q) there) (sym (find_knote-without_other key k ks apart) ∙ none)) refl) in
     omega (arith, length-without_present k ks here)
+
+pub length-with_knote : (k : Knote) (ks : List Knote) → length (with_knote k ks) ≡ length ks
+length-with_knote k ks = length-map ks (λ other. cond (key_eq k.key other.key) k other)

@@ -3,3 +3,4 @@ pub mod CountLaws
 pub mod KnoteSteps
 pub mod SoundLaws
 pub mod RegisterLaws
+pub mod TurnLaws

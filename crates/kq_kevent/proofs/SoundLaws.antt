@@ -15,11 +15,11 @@ use Rattle.kq_kevent.proofs.QueueLaws.{has_key-queue_for_same, has_key-queue_for
 use Rattle.kq_kevent.proofs.CountLaws.{length-keys}
 use Rattle.kq_kevent.specs.Steps.{with_made, with_removed, with_modified}
 
-waiting-none : is_waiting None ≡ false
+pub waiting-none : is_waiting None ≡ false
 unfolding is_waiting
 waiting-none = refl
 
-waiting-some : (k : Knote) → is_waiting (Some k) ≡ k.active && k.enabled
+pub waiting-some : (k : Knote) → is_waiting (Some k) ≡ k.active && k.enabled
 unfolding is_waiting
 waiting-some k = refl
 

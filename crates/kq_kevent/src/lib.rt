@@ -5,5 +5,6 @@ mod kq;
 mod look;
 mod queue;
 mod register;
+mod retrieve;
 
 pub use kq::Kq;

@@ -1,0 +1,72 @@
+use Rattle.std.proofs.Common.{Vec, Global, ◌≡◌, ℕ, suc, ◌+◌, ◌-◌, ◌≤◌, List, [], ◌∷◌, ◌++◌, length, Some, None, refl, sym, ap, ◌∙◌, subst, arith}
+use Rattle.std.proofs.lemmas.List.{length_push}
+use Rattle.kq_model.specs.declared.kevent.Kevent.{Kevent}
+use Rattle.std.specs.Vec.{vec_capacity}
+use Rattle.kq_model.specs.Kqueue.{Kqueue}
+use Rattle.kq_model.specs.Views.{Views}
+use Rattle.kq_model.specs.Retrieval.{Retrieved, retrieval}
+use Rattle.kq_kevent.proofs.RegisterLaws.{nothing_seen}
+use Rattle.kq_kevent.specs.Held.{Held}
+use Rattle.kq_kevent.proofs.TurnLaws.{going, preceded, length-turned, loop_start, loop_idle, loop_delivers, loop_full, loop_done}
+use Rattle.kq_kevent.proofs.kq.Kq.retrieve.Goals as goal
+use Rattle.kq_kevent.proofs.kq.Kq.retrieve.Goals.{in-Some, in_default}
+
+pub loop-turn-init : goal.loop-turn-init
+loop-turn-init c =
+    let all = c.len-turn-end.ensures ∙ ap (λ (v : Held). length v.kq.queue) c.self.view_is in
+    let none = ap (length {A = Kevent}) c.requires.none in
+    record {
+      so_far = λ views. loop_start views c.args.room c.len-turn-end.result c.args.self.now.kq c.args.events.now.items c.requires.none all;
+      left = omega arith;
+      in_room = omega arith;
+      no_more = omega arith;
+      capacity = refl;
+      owner = refl;
+    }
+
+pub returns-then-len-room-clause-retrieved : goal.returns-then-len-room-clause-retrieved
+returns-then-len-room-clause-retrieved c = λ views.
+    loop_full views (retrieval views c.args.room c.args.self.now.kq) c.loop-turn.events.items (c.len-turn-end.result - c.loop-turn._turn) (c.args.room - length c.loop-turn.events.items) c.loop-turn.self.kq (c.loop-turn.invariant.so_far views) (omega (arith, c.loop-turn.events.ok.0))
+
+pub loop-turn-preserved : goal.loop-turn-preserved
+loop-turn-preserved c =
+    let before = c.loop-turn.events.items in
+    let next = c.turn.new.self.kq in
+    let n = c.len-turn-end.result - (c.loop-turn._turn + 1) in
+    let shorter = length-turned nothing_seen c.loop-turn.self.kq in
+    let same = ap (λ (q : Kqueue). length q.queue) (c.turn.ensures.kq nothing_seen) in
+    let r : Views → Retrieved = λ views. retrieval views c.args.room c.args.self.now.kq in
+    elim c.match-turn.branch [
+      in-Some w ↦
+        let pushed : c.match-turn.events.items ≡ before ++ w.in-Some.event ∷ [] = ap (λ (v : Vec Kevent Global). v.items) w.events-is ∙ w.push_reserved.ensures.items in
+        let longer : length c.match-turn.events.items ≡ length before + 1 = ap length pushed ∙ length_push before w.in-Some.event in
+        record {
+          so_far = λ views. subst (λ (es : List Kevent). r views ≡ preceded es (going views n (c.args.room - length c.match-turn.events.items) next)) (sym pushed)
+              (loop_delivers views (r views) before (c.len-turn-end.result - c.loop-turn._turn) (c.args.room - length before) n (c.args.room - length c.match-turn.events.items) c.loop-turn.self.kq next w.in-Some.event
+                  (c.loop-turn.invariant.so_far views) (omega arith) (omega (arith, c.loop-turn.events.ok.0)) (omega arith) (c.turn.ensures.kq views) (w.in-Some.ensures.event views));
+          left = omega arith;
+          in_room = omega (arith, c.loop-turn.events.ok.0);
+          no_more = omega arith;
+          capacity = ap vec_capacity w.events-is ∙ w.push_reserved.ensures.capacity ∙ c.loop-turn.invariant.capacity;
+          owner = c.turn.ensures.owner ∙ c.loop-turn.invariant.owner;
+        }
+    | in_default w ↦
+        let kept : c.match-turn.events.items ≡ before = ap (λ (v : Vec Kevent Global). v.items) w.events-is in
+        let as_long : length c.match-turn.events.items ≡ length before = ap length kept in
+        let j = c.args.room - length before - 1 in
+        record {
+          so_far = λ views. subst (λ (es : List Kevent). r views ≡ preceded es (going views n (c.args.room - length c.match-turn.events.items) next)) (sym kept)
+              (loop_idle views (r views) before (c.len-turn-end.result - c.loop-turn._turn) (c.args.room - length before) n j c.loop-turn.self.kq next
+                  (c.loop-turn.invariant.so_far views) (omega arith) (omega (arith, c.loop-turn.events.ok.0)) (omega arith) (c.turn.ensures.kq views) (w.in_default.ensures.event views)
+                  ∙ ap (λ m. preceded before (going views n m next)) (let e : suc j ≡ c.args.room - length c.match-turn.events.items = omega (arith, c.loop-turn.events.ok.0) in e));
+          left = omega arith;
+          in_room = omega arith;
+          no_more = omega arith;
+          capacity = ap vec_capacity w.events-is ∙ c.loop-turn.invariant.capacity;
+          owner = c.turn.ensures.owner ∙ c.loop-turn.invariant.owner;
+        }
+    ]
+
+pub returns-clause-retrieved : goal.returns-clause-retrieved
+returns-clause-retrieved c = λ views.
+    loop_done views (retrieval views c.args.room c.args.self.now.kq) c.loop-turn.events.items (c.len-turn-end.result - c.loop-turn._turn) (c.args.room - length c.loop-turn.events.items) c.loop-turn.self.kq (c.loop-turn.invariant.so_far views) (omega arith)
