@@ -9,3 +9,4 @@ pub mod FlagBits
 pub mod Feeds
 pub mod Depths
 pub mod EventAgain
+pub mod ReadAgain
