@@ -48,7 +48,7 @@ unfolding without_empty_end
 keeps_at [] q qs = refl
 keeps_at (b ∷ bs) q qs = refl
 
-keeps : (piece text : List ℕ) → without_empty_end (piece ∷ pieces_of text) ≡ piece ∷ without_empty_end (pieces_of text)
+pub keeps : (piece text : List ℕ) → without_empty_end (piece ∷ pieces_of text) ≡ piece ∷ without_empty_end (pieces_of text)
 keeps piece text = let some = some_piece text in rw some.2 (keeps_at piece some.0 some.1)
 
 pub first_cut : (text : List ℕ) (k : ℕ) → k < length text → NoneBelow text k → (get_or text k 0 == 10) ≡ true

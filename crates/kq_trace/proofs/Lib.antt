@@ -5,3 +5,8 @@ pub mod Tables
 pub mod Whole
 pub mod TraceLines
 pub mod ChangeParts
+pub mod FlagBits
+pub mod Feeds
+pub mod Depths
+pub mod EventAgain
+pub mod ReadAgain

@@ -1,3 +1,4 @@
+pub mod Again
 pub mod Faults
 pub mod Parts
 pub mod Rest
