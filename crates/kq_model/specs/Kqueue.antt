@@ -1,6 +1,6 @@
 -- A kqueue: its knotes in order of registration, and the queue of those that are to be returned
 -- (Lemon 2001, section 4.2).
-use Rattle.std.specs.Prelude.{◌≡◌, Bool, true, false, ◌&&◌, List, [], ◌∷◌, Option, Some, None}
+use Rattle.std.specs.Prelude.{◌≡◌, Bool, false, ◌&&◌, List, [], ◌∷◌, Option, Some, None}
 use Rattle.kq_model.specs.declared.key.Key.{Key}
 use Rattle.kq_model.specs.Knote.{Knote, find_knote, has_key}
 

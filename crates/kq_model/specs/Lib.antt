@@ -19,3 +19,6 @@ pub mod Spelling
 pub mod World
 pub mod System
 pub mod Report
+pub mod CallLaws
+pub mod Ticks
+pub mod TimerWalk

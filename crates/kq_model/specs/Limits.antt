@@ -1,5 +1,5 @@
 -- The limits of the simulated system and of its trace text. All are this project's choice.
-use Rattle.std.specs.Prelude.{ℕ, ◌^◌, ◌-◌}
+use Rattle.std.specs.Prelude.{ℕ, ◌^◌}
 
 -- bytes of a line, without the LF that ends it
 abbrev pub most_line_bytes : ℕ

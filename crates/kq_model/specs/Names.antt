@@ -1,5 +1,5 @@
 -- The names of filters and flags in a trace and a report (this project's choice).
-use Rattle.std.specs.Prelude.{ℕ, nat_eq, Bool, ◌==◌, List, [], ◌∷◌, Option, Some, None, codes, filter, map, if◌then◌else◌}
+use Rattle.std.specs.Prelude.{ℕ, nat_eq, Bool, List, [], ◌∷◌, Option, Some, None, codes, filter, map, if◌then◌else◌}
 use Rattle.std.specs.Cmp.Lexicographic.{pointwise}
 use Rattle.kq_model.specs.declared.event_flags.EvFlags.{EvFlags}
 use Rattle.kq_model.specs.declared.filter.Filter.{Filter}

@@ -1,16 +1,16 @@
 -- Reading: what the bytes of a trace mean. Each line by itself has an event or a fault; where a line has
 -- a fault, the answer is the least such line, else it is the list of events. The format is this project's
 -- choice; a value is what serde_json reads.
-use Rattle.std.specs.Prelude.{ℕ, suc, ◌+◌, ◌==◌, Bool, true, false, ◌&&◌, List, [], ◌∷◌, codes, length, nat_lt, Option, Some, None, option_map, option_and_then, Result, Ok, Err, if◌then◌else◌}
+use Rattle.std.specs.Prelude.{ℕ, ◌+◌, ◌==◌, Bool, false, ◌&&◌, List, [], ◌∷◌, codes, length, nat_lt, Option, Some, None, option_map, option_and_then, Result, Ok, Err, if◌then◌else◌}
 use Rattle.std.specs.Str.{is_utf8}
-use Rattle.serde_json.specs.Data.{Num, unsigned, negative, float, Data, null, boolean, number, string, array, object}
+use Rattle.serde_json.specs.Data.{unsigned, Data, number}
 use Rattle.serde_json.specs.Read.{read}
 use Rattle.serde_json.specs.Find.{get, as_str}
 use Rattle.kq_model.specs.declared.change.Change.{Change}
 use Rattle.kq_model.specs.declared.event.Event.{Event}
 use Rattle.kq_model.specs.declared.event.Event.TheVariants.{Proc, Kqueue, Kevent}
 use Rattle.kq_model.specs.declared.line_fault.LineFault.{LineFault}
-use Rattle.kq_model.specs.declared.line_fault.LineFault.TheVariants.{TooLong, Header, TooManyRecords, Json, Field, Range}
+use Rattle.kq_model.specs.declared.line_fault.LineFault.TheVariants.{TooLong, Header, TooManyRecords, Json, Field}
 use Rattle.kq_model.specs.ChangeText.{is_change_list, change_list}
 use Rattle.kq_model.specs.Limits.{most_line_bytes, most_records}
 use Rattle.kq_model.specs.Lines.{lines_of}

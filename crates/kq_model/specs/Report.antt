@@ -1,9 +1,8 @@
 -- The report: a line for each row by rising place, and a last line that counts. Each line is the compact
 -- text of one JSON value with its members in the order of their names' bytes (this project's choice).
-use Rattle.std.specs.Prelude.{ℕ, ◌+◌, pos, List, [], ◌∷◌, ◌++◌, map, length, codes}
-use Rattle.serde_json.specs.Data.{Data, null, boolean, number, string, array, object, Members, no_members, member}
+use Rattle.std.specs.Prelude.{ℕ, ◌+◌, List, [], ◌∷◌, ◌++◌, map, length, codes}
+use Rattle.serde_json.specs.Data.{Data, string, array, object, no_members, member}
 use Rattle.serde_json.specs.View.{items_of}
-use Rattle.kq_model.specs.declared.errno.Errno.{Errno}
 use Rattle.kq_model.specs.declared.event.Event.{Event}
 use Rattle.kq_model.specs.declared.kevent.Kevent.{Kevent}
 use Rattle.kq_model.specs.declared.reply.Reply.{Reply}
@@ -87,5 +86,5 @@ unfoldable pub report : List Row → ℕ → List ℕ
 report rs records = row_lines rs ++ last_line (call_count rs) (event_count rs) records
 
 -- the report of one fold of the whole system over a trace
-unfoldable pub report_of : List Event → List ℕ
-report_of events = report (rows events) (length events)
+unfoldable pub report_of : ℕ → List Event → List ℕ
+report_of version events = report (rows version events) (length events)

@@ -1,7 +1,7 @@
 -- Spelling: the canonical text of a trace. Each record is the compact text of one JSON value, with all
 -- its members in the order of their names' bytes, and each line ends with LF (this project's choice).
 use Rattle.std.specs.Prelude.{ℕ, ℤ, List, [], ◌∷◌, ◌++◌, map, codes}
-use Rattle.serde_json.specs.Data.{Num, unsigned, negative, float, Data, null, boolean, number, string, array, object, Items, no_items, item, Members, no_members, member}
+use Rattle.serde_json.specs.Data.{unsigned, Data, number, string, array, object, no_members, member}
 use Rattle.serde_json.specs.Find.{of_integer}
 use Rattle.serde_json.specs.View.{items_of}
 use Rattle.serde_json.specs.Written.{compact_text}
@@ -45,8 +45,8 @@ record_data (Kevent pid fd changes room) = object (
     member (codes "pid") (natural pid) (
     member (codes "room") (natural room) no_members)))))
 
-unfoldable pub header_data : Data
-header_data = object (member (codes "kqsim") (natural 1) no_members)
+unfoldable pub header_data : ℕ → Data
+header_data version = object (member (codes "kqsim") (natural version) no_members)
 
 -- a value on a line of its own
 unfoldable pub line_text : Data → List ℕ
@@ -56,5 +56,6 @@ unfoldable pub records_text : List Event → List ℕ
 records_text [] = []
 records_text (e ∷ es) = line_text (record_data e) ++ records_text es
 
-unfoldable pub spelling : List Event → List ℕ
-spelling events = line_text header_data ++ records_text events
+-- the text of a trace: its version and its events
+unfoldable pub spelling : ℕ → List Event → List ℕ
+spelling version events = line_text (header_data version) ++ records_text events

@@ -1,6 +1,6 @@
 -- The system: the world and all live kqueues. One event is one step, and a trace is a fold of steps;
 -- the definition knows no worker, thread or merge.
-use Rattle.std.specs.Prelude.{ℕ, ◌+◌, ◌==◌, Bool, true, false, List, [], ◌∷◌, ◌++◌, map, Option, Some, None, if◌then◌else◌}
+use Rattle.std.specs.Prelude.{ℕ, ◌+◌, ◌==◌, List, [], ◌∷◌, ◌++◌, map, Option, Some, None, if◌then◌else◌}
 use Rattle.kq_model.specs.declared.event.Event.{Event}
 use Rattle.kq_model.specs.declared.reply.Reply.{Reply}
 use Rattle.kq_model.specs.declared.reply.Reply.TheVariants as reply
@@ -17,13 +17,14 @@ pub record Live : Type 0 where
   pub number : ℕ
   pub kq : Kqueue
 
--- the live kqueues stand by rising place of birth
+-- the live kqueues stand by rising place of birth; the version is that of the trace's format
 pub record System : Type 0 where
+  pub version : ℕ
   pub world : World
   pub live : List Live
 
-abbrev pub empty_system : System
-empty_system = record { world = empty_world; live = [] }
+abbrev pub empty_system : ℕ → System
+empty_system version = record { version = version; world = empty_world; live = [] }
 
 -- ---- what a possible record says to kqueues, and one kqueue's step
 
@@ -79,7 +80,7 @@ pub record Stepped : Type 0 where
 unfoldable pub step_by : ℕ → Planned → System → Stepped
 step_by place (Impossible why) s = record { system = s; reply = reply.Impossible why; kqueue = None }
 step_by place (Possible p) s = record {
-  system = record {
+  system = record s {
     world = carried_out place p s.world;
     live = map (stepped (moment_of place p s.world)) s.live ++ born place p.born;
   };
@@ -107,5 +108,5 @@ unfoldable pub rows_after : ℕ → System → List Event → List Row
 rows_after place s [] = []
 rows_after place s (e ∷ es) = row_of place (step place e s).reply ++ rows_after (place + 1) (step place e s).system es
 
-unfoldable pub rows : List Event → List Row
-rows events = rows_after 1 empty_system events
+unfoldable pub rows : ℕ → List Event → List Row
+rows version events = rows_after 1 (empty_system version) events

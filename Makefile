@@ -1,0 +1,32 @@
+# make           proves the program and builds it: crates/kqsim/out/kqsim
+# make run       the report of an example, within two minutes on a fresh machine
+# make test      proves and tests everything; the last line is 'N passed, M failed'
+# make bench     measures the program beside one that only reads
+# make install   puts the program into PREFIX/bin
+#
+# Needed: the kit's `rt`, bash, make, cc and python3.
+
+KQSIM := crates/kqsim/out/kqsim
+VALUE_COUNT := crates/value_count/out/value_count
+EXAMPLE ?= examples/doorbell.trace
+PREFIX ?= /usr/local
+
+.PHONY: all run test bench install
+
+# (rt run proves and builds where something has changed, and runs the program, so it is given its stored run)
+all:
+	cd crates/kqsim && rt run < stdin
+
+# (rt try runs the program without any proof, and copies no file from outside its crate)
+run:
+	@if [ -x $(KQSIM) ]; then $(KQSIM) replay $(EXAMPLE); else cd crates/kqsim && rt try -- replay - < ../../$(EXAMPLE); fi
+
+test:
+	@tests/all
+
+bench: all
+	cd crates/value_count && rt run < stdin
+	bench/run $(KQSIM) $(VALUE_COUNT)
+
+install: all
+	install -D -m 755 $(KQSIM) $(DESTDIR)$(PREFIX)/bin/kqsim

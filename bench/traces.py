@@ -1,0 +1,44 @@
+"""The traces of the benchmark: one process, one kqueue, calls on USER kevents, written straight to a file."""
+TRIGGER = 16777216
+POLL_ROOM = 4
+CHANGES = 1000
+
+
+def call(changes, room):
+    return '{"op":"kevent","pid":1,"fd":9,"changes":[%s],"room":%d}\n' % (",".join(changes), room)
+
+
+def change(ident, flags, fflags):
+    names = ",".join(f'"{it}"' for it in flags)
+    return '{"ident":%d,"filter":"USER","flags":[%s],"fflags":%d}' % (ident, names, fflags)
+
+
+def level(ident):
+    """Kevents that stay triggered, so each poll takes from the front of the queue and puts to its back."""
+    return ["ADD"], []
+
+
+def once(ident):
+    """Kevents that a poll resets, disables or deletes, by turns, so the next trigger has to bring them back."""
+    actions = ("CLEAR", "DISPATCH", "ONESHOT")
+    back = ([], ["ENABLE"], ["ADD", "ONESHOT"])
+    return ["ADD", actions[ident % 3]], back[ident % 3]
+
+
+def write(path, kind, kevents, records):
+    """Writes a trace of so many records: kevents are added, then triggered in turn; each fourth record is a poll."""
+    with open(path, "w", encoding="ascii") as file:
+        file.write('{"kqsim":1}\n{"op":"proc","pid":1}\n{"op":"kqueue","pid":1,"fd":9}\n')
+        written = 2
+        for start in range(0, kevents, CHANGES):
+            idents = range(start, min(start + CHANGES, kevents))
+            file.write(call([change(it, kind(it)[0], 0) for it in idents], 0))
+            written += 1
+        triggers = [call([change(it, kind(it)[1], TRIGGER)], 0) for it in range(kevents)]
+        poll, ident = call([], POLL_ROOM), 0
+        for number in range(1, records - written + 1):
+            if number % 4 == 0:
+                file.write(poll)
+            else:
+                file.write(triggers[ident])
+                ident = (ident + 1) % kevents

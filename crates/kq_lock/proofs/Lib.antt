@@ -1,0 +1,13 @@
+pub mod Beginnings
+pub mod Logs
+pub mod Numbers
+pub mod Keeping
+pub mod Looking
+pub mod Turning
+pub mod Parting
+pub mod Numbered
+pub mod Ending
+pub mod Allowed
+pub mod Held
+pub mod Resting
+pub mod Seating

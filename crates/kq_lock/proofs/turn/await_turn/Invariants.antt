@@ -1,0 +1,8 @@
+use Rattle.std.proofs.Common.{◌≡◌, []}
+use Rattle.kq_lock.specs.Turns.{IsSameSeat, IsSameView}
+use Rattle.kq_lock.specs.declared.view.Stage.TheVariants.{Waits}
+use Rattle.kq_lock.proofs.turn.await_turn.Given as goal
+
+-- the turn has not come yet
+abbrev pub invariant-loop : goal.invariant-loop
+invariant-loop g l = IsSameSeat l.initial.place l.place × IsSameView l.initial.place.me.0 l.place.me.0 × (l.place.me.0.stage ≡ Waits l.fn.ticket) × (l.place.me.1 ≡ [])

@@ -1,0 +1,78 @@
+-- When a timer expires, and how often. Moments and periods are in nanoseconds.
+-- Source: kqueue(2), EVFILT_TIMER: a timer is periodic, its data is the period in the unit that its
+-- fflags name, milliseconds where they name none, and its events count the expirations.
+-- This project's choice: the clock counts from 0, its last moment is 2^63 - 1, two units and unknown
+-- bits are refused, and a period of 0 units counts as 1.
+use Rattle.std.specs.Prelude.{◌≡◌, ℕ, zero, suc, ◌+◌, ◌-◌, ◌*◌, ◌<◌, ◌≤◌, max, Bool, true, false, not, ◌&&◌, ◌||◌, ◌==◌, nat_le, if◌then◌else◌, ℤ, pos, negsuc, ◌<ℤ◌, Option, Some, None}
+use Rattle.std.specs.Option.{option_and_then}
+
+-- 2^63 - 1
+abbrev pub last_moment : ℕ
+last_moment = 9223372036854775807
+
+-- the nanoseconds of the unit that fflags name: seconds 1, milliseconds 2, microseconds 4, nanoseconds 8
+abbrev pub unit_of : ℕ → Option ℕ
+unit_of fflags =
+    if fflags == 0 then Some 1000000 else (
+    if fflags == 1 then Some 1000000000 else (
+    if fflags == 2 then Some 1000000 else (
+    if fflags == 4 then Some 1000 else (
+    if fflags == 8 then Some 1 else None))))
+
+-- so many units, if that is a moment
+abbrev pub units : ℕ → ℕ → Option ℕ
+units amount unit = if nat_le (amount * unit) last_moment then Some (amount * unit) else None
+
+-- the period of a timer with this data and these fflags, if they are allowed
+abbrev pub period_of : ℤ → ℕ → Option ℕ
+period_of (pos amount) fflags = option_and_then (units (max amount 1)) (unit_of fflags)
+period_of (negsuc _) fflags = None
+
+-- a timer that was started at a moment
+pub record Ticking : Type 0 where
+  pub start : ℕ
+  pub period : ℕ
+
+-- whether a moment is one of the first so many: start + period, start + 2 periods, ..
+unfoldable pub is_among_first : ℕ → Ticking → ℕ → Bool
+is_among_first zero t moment = false
+is_among_first (suc k) t moment = (t.start + suc k * t.period == moment) || is_among_first k t moment
+
+-- whether the timer expires at a moment. A period is at least 1, so a tick at `moment` is among the first `moment` ticks
+unfoldable pub is_tick : Ticking → ℕ → Bool
+is_tick t moment = is_among_first moment t moment
+
+-- the moments of a timer that may expire once only: the first of them alone (kqueue(2), EV_ONESHOT)
+abbrev pub expires : Bool → Ticking → ℕ → Bool
+expires once t moment = is_tick t moment && (not once || (moment == t.start + t.period))
+
+-- how many of the n moments after `from` pass the test
+unfoldable pub counted : (ℕ → Bool) → ℕ → ℕ → ℕ
+counted test from zero = 0
+counted test from (suc n) = counted test from n + (if test (from + suc n) then 1 else 0)
+
+-- how often the timer expires after `from` and not after `to`
+abbrev pub ticks_between : Ticking → ℕ → ℕ → ℕ
+ticks_between t from to = counted (is_tick t) from (to - from)
+
+-- the first moment of the timer after `from`; where it is past the last moment, it never comes
+pub record IsNextTick (t : Ticking) (from : ℤ) (moment : ℕ) : Type 0 where
+  pub after : from <ℤ pos moment
+  pub tick : is_tick t moment ≡ true
+  pub least : (m : ℕ) → from <ℤ pos m → m < moment → is_tick t m ≡ false
+
+-- the timer never expires after `from`
+abbrev pub HasNoTick : Ticking → ℤ → Type 0
+HasNoTick t from = (m : ℕ) → from <ℤ pos m → m ≤ last_moment → is_tick t m ≡ false
+
+-- the first of the n moments after `from` that passes the test, or else the moment after them all
+unfoldable pub first_passing : (ℕ → Bool) → ℕ → ℕ → ℕ
+first_passing test from zero = suc from
+first_passing test from (suc n) =
+    if nat_le (first_passing test from n) (from + n)
+    then first_passing test from n
+    else (if test (from + suc n) then from + suc n else suc (from + suc n))
+
+-- the moment at which the timer expires next, or else the one after the last moment
+abbrev pub next_tick : Ticking → ℕ → ℕ
+next_tick t from = first_passing (is_tick t) from (last_moment - from)

@@ -1,0 +1,2 @@
+mod NextTick
+mod Counts

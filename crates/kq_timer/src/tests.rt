@@ -1,0 +1,74 @@
+use crate::{Period, Ticker};
+use kq_model::Errno;
+use std::test::Fail;
+
+#[test]
+fn periods(rt: HostRuntime) {
+    let vectors = [
+        (3, 0, Ok(3_000_000)),
+        (0, 0, Ok(1_000_000)),
+        (5, 2, Ok(5_000_000)),
+        (0, 1, Ok(1_000_000_000)),
+        (7, 4, Ok(7_000)),
+        (1, 8, Ok(1)),
+        (0, 8, Ok(1)),
+        // The largest amount of each unit, and one more.
+        (9_223_372_036, 1, Ok(9_223_372_036_000_000_000)),
+        (9_223_372_037, 1, Err(Errno::EINVAL)),
+        (9_223_372_036_854, 2, Ok(9_223_372_036_854_000_000)),
+        (9_223_372_036_855, 2, Err(Errno::EINVAL)),
+        (9_223_372_036_855, 0, Err(Errno::EINVAL)),
+        (9_223_372_036_854_775, 4, Ok(9_223_372_036_854_775_000)),
+        (9_223_372_036_854_776, 4, Err(Errno::EINVAL)),
+        (i64::MAX, 8, Ok(9_223_372_036_854_775_807)),
+        (i64::MAX, 1, Err(Errno::EINVAL)),
+        // Two units, a bit that names none, a negative amount.
+        (1, 3, Err(Errno::EINVAL)),
+        (1, 16, Err(Errno::EINVAL)),
+        (1, 0x8000_0000, Err(Errno::EINVAL)),
+        (-1, 8, Err(Errno::EINVAL)),
+    ];
+    for (datum, fflags, expected) in vectors {
+        let nanoseconds = Period::new(datum, fflags).map(|period| period.nanoseconds());
+        assert_eq!(rt; nanoseconds, expected, "{datum} with {fflags}");
+    }
+}
+
+#[test]
+fn each_nanosecond(rt: HostRuntime) -> Result<(), Fail> {
+    let ticker = Ticker::new(Period::new(1, 8)?, 0);
+    assert_eq!(rt; ticker.ticks(0, i64::MAX), i64::MAX);
+    assert_eq!(rt; ticker.ticks(0, 0), 0);
+    assert_eq!(rt; ticker.ticks(41, 42), 1);
+    assert_eq!(rt; ticker.first_after(-1), Some(1));
+    assert_eq!(rt; ticker.first_after(i64::MAX - 1), Some(i64::MAX));
+    assert_eq!(rt; ticker.first_after(i64::MAX), None);
+    Ok(())
+}
+
+#[test]
+fn once_in_the_clock(rt: HostRuntime) -> Result<(), Fail> {
+    let period = Period::new(i64::MAX, 8)?;
+    let ticker = Ticker::new(period, 0);
+    assert_eq!(rt; ticker.ticks(0, i64::MAX - 1), 0);
+    assert_eq!(rt; ticker.ticks(0, i64::MAX), 1);
+    assert_eq!(rt; ticker.first_after(i64::MIN), Some(i64::MAX));
+    assert_eq!(rt; ticker.first_after(i64::MAX), None);
+    let late = Ticker::new(period, 1);
+    assert_eq!(rt; late.ticks(0, i64::MAX), 0);
+    assert_eq!(rt; late.first_after(0), None);
+    Ok(())
+}
+
+#[test]
+fn from_a_start(rt: HostRuntime) -> Result<(), Fail> {
+    let ticker = Ticker::new(Period::new(10, 8)?, 5);
+    assert_eq!(rt; ticker.ticks(0, 14), 0);
+    assert_eq!(rt; ticker.ticks(0, 15), 1);
+    assert_eq!(rt; ticker.ticks(15, 25), 1);
+    assert_eq!(rt; ticker.ticks(14, 35), 3);
+    assert_eq!(rt; ticker.first_after(0), Some(15));
+    assert_eq!(rt; ticker.first_after(14), Some(15));
+    assert_eq!(rt; ticker.first_after(15), Some(25));
+    Ok(())
+}

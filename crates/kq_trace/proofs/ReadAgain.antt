@@ -1,0 +1,96 @@
+-- Reading the canonical text gives its trace again.
+use Rattle.std.proofs.Common.{◌≡◌, ℕ, zero, suc, ◌+◌, ◌^◌, ◌<◌, ◌≤◌, ◌==◌, Bool, true, false, not, ◌&&◌, List, [], ◌∷◌, ◌++◌, length, take, drop, get_or, Some, None, Ok, refl, sym, ap, ◌∙◌, append_assoc, subst, add-one, arith}
+use Rattle.std.proofs.lemmas.Bool.{le-ltb}
+use Rattle.std.proofs.lemmas.Bool.Decides.{nat_tests}
+use Rattle.std.proofs.lemmas.List.{take_all}
+use Rattle.std.specs.Fmt.{digits}
+use Rattle.serde_json.proofs.OnLiterals.{serde_json_on_literals}
+use Rattle.serde_json.specs.Written.{compact_text}
+use Rattle.kq_model.specs.declared.event.Event.{Event}
+use Rattle.kq_model.specs.Lines.{lines_among, lines_of, onto_first, pieces_of, without_empty_end}
+use Rattle.kq_model.specs.Reading.{Good, event_of, event_on, is_header, joined, json_of, meaning, read_lines, reading, with_event}
+use Rattle.kq_model.specs.Spelling.{header_data, line_text, natural, record_data, records_text, spelling}
+use Rattle.kq_trace.specs.Again.{ArePlain, AreWritten, CanBeReadAgain, IsPlain, IsWritten}
+use Rattle.kq_trace.specs.Rest.{lines_behind}
+use Rattle.kq_trace.proofs.Cuts.{keeps}
+use Rattle.kq_trace.proofs.EventAgain.{event_again, header_again}
+use Rattle.kq_trace.proofs.Feeds.{has_no_feed, header_feed, record_feed}
+use Rattle.kq_trace.proofs.TraceLines.{right_header}
+
+-- ---- lines
+
+parts : (a b : Bool) → (not a && b) ≡ true → (a ≡ false) × (b ≡ true)
+parts true b h = cc
+parts false b h = (refl, h)
+
+line_piece : (line rest : List ℕ) → has_no_feed line ≡ true → pieces_of (line ++ 10 ∷ rest) ≡ line ∷ pieces_of rest
+unfolding pieces_of onto_first
+line_piece [] rest clear = refl
+line_piece (x ∷ line) rest clear =
+    let p = parts (x == 10) (has_no_feed line) clear in rw (p.0, line_piece line rest p.1) refl
+
+line_behind : (line rest : List ℕ) → has_no_feed line ≡ true → lines_behind ((line ++ 10 ∷ []) ++ rest) ≡ line ∷ lines_behind rest
+unfolding lines_behind
+line_behind line rest clear =
+    ap (λ text. without_empty_end (pieces_of text)) (append_assoc line (10 ∷ []) rest)
+    ∙ ap without_empty_end (line_piece line rest clear) ∙ keeps line rest
+
+line_first : (line rest : List ℕ) → has_no_feed line ≡ true → lines_of ((line ++ 10 ∷ []) ++ rest) ≡ line ∷ lines_behind rest
+unfolding lines_of lines_among lines_behind
+line_first line rest clear =
+    ap (λ text. lines_among (pieces_of text)) (append_assoc line (10 ∷ []) rest) ∙ ap lines_among (line_piece line rest clear)
+
+-- ---- records
+
+later_line : (number : ℕ) → 1 < number → (number == 1) ≡ false
+later_line number later = grind (arith, nat_tests)
+
+record_means : (number : ℕ) (e : Event) → 1 < number → number ≤ 1000001 → IsWritten e → IsPlain e
+    → meaning number (compact_text (record_data e)) ≡ Ok (Some e)
+unfolding meaning event_on
+record_means number e later early written plain =
+    rw (le-ltb (2 ^ 20) (length (compact_text (record_data e))) plain.1, later_line number later, le-ltb 1000001 number early, written.text_reads, event_again e written.fits plain.0) refl
+
+records_again : (number : ℕ) (events : List Event) → 1 < number → number + length events ≤ 1000002 → AreWritten events → ArePlain events
+    → read_lines number (lines_behind (records_text events)) ≡ Good events
+unfolding read_lines records_text joined with_event line_text lines_behind pieces_of without_empty_end
+records_again number [] later room written plain = refl
+records_again number (e ∷ es) later room written plain =
+    let early : number ≤ 1000001 = omega arith in
+    let room_behind : number + 1 + length es ≤ 1000002 = omega arith in
+    ap (read_lines number) (line_behind (compact_text (record_data e)) (records_text es) (record_feed e written.0.fits))
+    ∙ ap (λ m. joined number m (read_lines (number + 1) (lines_behind (records_text es)))) (record_means number e later early written.0 plain.0)
+    ∙ ap (with_event (Some e)) (records_again (number + 1) es (omega arith) room_behind written.1 plain.1)
+
+-- ---- the whole
+
+header_is_short : length (compact_text (header_data 1)) ≤ 2 ^ 20
+unfolding header_data natural digits serde_json_on_literals
+header_is_short = omega arith
+
+pub read_again : (version : ℕ) (events : List Event) → version ≡ 1
+    → json_of (compact_text (header_data version)) ≡ Some (header_data version) → AreWritten events → CanBeReadAgain events
+    → reading (spelling version events) ≡ Good events
+unfolding reading read_lines spelling line_text joined with_event
+read_again version events one header written can =
+    let text_header : json_of (compact_text (header_data 1)) ≡ Some (header_data 1) = subst (λ v. json_of (compact_text (header_data v)) ≡ Some (header_data v)) one header in
+    ap (λ v. reading (spelling v events)) one
+    ∙ ap (read_lines 1) (line_first (compact_text (header_data 1)) (records_text events) header_feed)
+    ∙ ap (λ m. joined 1 m (read_lines 2 (lines_behind (records_text events))))
+    (right_header (compact_text (header_data 1)) header_is_short (ap is_header text_header ∙ header_again))
+    ∙ records_again 2 events (omega arith) (omega (arith, can.count)) written can.plain
+
+-- ---- one event more
+
+more : (events : List Event) (i : ℕ) (event : Event) → i < length events → event ≡ get_or events i event
+    → AreWritten (take i events) → IsWritten event → AreWritten (take (suc i) events)
+more [] i event lt is so_far new = absurd (omega arith)
+more (e ∷ es) zero event lt is so_far new = (subst IsWritten is new, tt)
+more (e ∷ es) (suc i) event lt is so_far new = (so_far.0, more es i event (omega arith) is so_far.1 new)
+
+pub written_more : (events : List Event) (i : ℕ) (event : Event) → i < length events → event ≡ get_or events i event
+    → AreWritten (take i events) → IsWritten event → AreWritten (take (i + 1) events)
+written_more events i event lt is so_far new = rw (add-one i) (more events i event lt is so_far new)
+
+pub written_all : (events : List Event) (i : ℕ) → length events ≤ i → AreWritten (take i events) → AreWritten events
+written_all events i end so_far = subst AreWritten (take_all i events end) so_far

@@ -1,0 +1,8 @@
+-- The text so far stands before that of the events that are left.
+use Rattle.std.proofs.Common.{◌≡◌, ◌++◌, drop}
+use Rattle.kq_model.specs.Spelling.{records_text, spelling}
+use Rattle.kq_trace.proofs.write.write_trace.Given as goal
+
+abbrev pub invariant-loop-event : goal.invariant-loop-event
+invariant-loop-event l =
+    spelling l.trace.version l.trace.events ≡ l.text.items ++ records_text (drop l.event-index l.event-items)

@@ -1,0 +1,72 @@
+-- What is said of reading the canonical text of a trace again.
+use Rattle.std.specs.Prelude.{◌≡◌, ℕ, ◌^◌, ◌<◌, ◌≤◌, ℤ, pos, negsuc, List, [], ◌∷◌, length, Some, map}
+use Rattle.std.specs.Int.RustNames.{bit_and}
+use Rattle.bitflags.specs.Sets.{known_bits}
+use Rattle.serde_json.specs.Written.{compact_text}
+use Rattle.kq_model.specs.declared.change.Change.{Change}
+use Rattle.kq_model.specs.declared.event.Event.{Event}
+use Rattle.kq_model.specs.declared.event.Event.TheVariants.{Proc, Kqueue, Kevent}
+use Rattle.kq_model.specs.FlagNames.{flag_table}
+use Rattle.kq_model.specs.Limits.{most_line_bytes, most_records}
+use Rattle.kq_model.specs.Reading.{json_of}
+use Rattle.kq_model.specs.Spelling.{record_data}
+
+-- ---- what a trace has to keep to be read again
+
+-- each bit of its flags has a name
+abbrev pub HasNamedFlags : Change → Type 0
+HasNamedFlags c = bit_and c.flags.0 (known_bits flag_table) ≡ c.flags.0
+
+abbrev pub HaveNamedFlags : List Change → Type 0
+HaveNamedFlags [] = Unit {0}
+HaveNamedFlags (c ∷ cs) = HasNamedFlags c × HaveNamedFlags cs
+
+abbrev pub NamesItsFlags : Event → Type 0
+NamesItsFlags (Proc pid) = Unit {0}
+NamesItsFlags (Kqueue pid fd) = Unit {0}
+NamesItsFlags (Kevent pid fd changes room) = HaveNamedFlags changes
+
+-- no flag without a name, and a line that is not too long
+abbrev pub IsPlain : Event → Type 0
+IsPlain e = NamesItsFlags e × (length (compact_text (record_data e)) ≤ most_line_bytes)
+
+abbrev pub ArePlain : List Event → Type 0
+ArePlain [] = Unit {0}
+ArePlain (e ∷ es) = IsPlain e × ArePlain es
+
+-- no flag without a name, no line that is too long, and no record too many
+pub record CanBeReadAgain (events : List Event) : Type 0 where
+  pub count : length events ≤ most_records
+  pub plain : ArePlain events
+
+-- ---- what every event of a program has: its numbers are in the ranges of their types
+
+abbrev pub FitsInteger : ℤ → Type 0
+FitsInteger (pos n) = n < 2 ^ 63
+FitsInteger (negsuc n) = n < 2 ^ 63
+
+pub record FitsChange (c : Change) : Type 0 where
+  pub ident : c.ident < 2 ^ 64
+  pub fflags : c.fflags < 2 ^ 32
+  pub datum : FitsInteger c.datum
+  pub udata : c.udata < 2 ^ 64
+
+abbrev pub FitsChanges : List Change → Type 0
+FitsChanges [] = Unit {0}
+FitsChanges (c ∷ cs) = FitsChange c × FitsChanges cs
+
+abbrev pub FitsRecord : Event → Type 0
+FitsRecord (Proc pid) = pid < 2 ^ 32
+FitsRecord (Kqueue pid fd) = (pid < 2 ^ 32) × (fd < 2 ^ 32)
+FitsRecord (Kevent pid fd changes room) = (pid < 2 ^ 32) × (fd < 2 ^ 32) × FitsChanges changes × (room < 2 ^ 32)
+
+-- ---- what writing it shows of an event
+
+-- its numbers are in range, and its text is read as its value
+pub record IsWritten (e : Event) : Type 0 where
+  pub fits : FitsRecord e
+  pub text_reads : json_of (compact_text (record_data e)) ≡ Some (record_data e)
+
+abbrev pub AreWritten : List Event → Type 0
+AreWritten [] = Unit {0}
+AreWritten (e ∷ es) = IsWritten e × AreWritten es

@@ -1,0 +1,5 @@
+pub mod Again
+pub mod Faults
+pub mod Parts
+pub mod Rest
+pub mod Texts

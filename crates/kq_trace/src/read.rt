@@ -1,0 +1,96 @@
+//! A whole trace, line by line.
+
+ghost use Rattle.std.specs.Prelude.{◌≡◌, ◌<◌, ◌≤◌, IfErr, IfOk, OnOk};
+ghost use Rattle.kq_model.specs.Reading.{Good, event_on, meaning, reading};
+ghost use Rattle.kq_trace.specs.Faults.{IsFault};
+
+use crate::TraceError;
+use crate::header::is_header_line;
+use crate::json::line_value;
+use crate::line::first_line;
+use crate::record::event_of;
+use kq_model::{Event, LineFault, Memory, Series, Trace};
+use std::alloc::Global;
+
+/// Bytes of the longest line, without the line feed that ends it.
+const MOST_LINE_BYTES: usize = 1 << 20;
+
+/// Records that are read from one text.
+const MOST_RECORDS: u64 = 1_000_000;
+
+/// The record on a line that is not the first, or the fault of that line.
+#[tactic(auto, unfolding(kq_model::specs::Reading::meaning, kq_model::specs::Reading::event_of))]
+fn event_on_line(
+    alloc: Global,
+    number: u64,
+    line: &[u8],
+) -> Result<Result<Event, LineFault>, Memory>
+    requires { 1 < number }
+    ensures meaning { IfOk result (λ event. meaning number line.now ≡ event_on event) }
+    ensures limit { IfOk result (λ event. OnOk event (number ≤ 1000001)) }
+{
+    if line.len() > MOST_LINE_BYTES {
+        return Ok(Err(LineFault::TooLong));
+    }
+    if number > MOST_RECORDS + 1 {
+        return Ok(Err(LineFault::TooManyRecords));
+    }
+    match line_value(alloc, line)? {
+        Some(value) => event_of(alloc, &value),
+        None => Ok(Err(LineFault::Json)),
+    }
+}
+
+/// The trace that a text is, or its first bad line; memory outermost.
+fn read(alloc: Global, bytes: &[u8]) -> Result<Trace, TraceError>
+    ensures good { IfOk result (λ trace. reading bytes.now ≡ Good trace.events) }
+    ensures bad { IfErr result (IsFault bytes.now) }
+{
+    let (header, behind) = first_line(bytes);
+    if header.len() > MOST_LINE_BYTES {
+        return Err(TraceError::Bad {
+            line: 1,
+            fault: LineFault::TooLong,
+        });
+    }
+    if !is_header_line(alloc, header)? {
+        return Err(TraceError::Bad {
+            line: 1,
+            fault: LineFault::Header,
+        });
+    }
+    let mut events = Vec::new(alloc);
+    let mut number = 2;
+    let mut rest = behind;
+    while !rest.is_empty() {
+        let (line, behind) = first_line(rest);
+        match event_on_line(alloc, number, line)? {
+            Ok(event) => events.push(event).map_err(|_| Memory)?,
+            Err(fault) => {
+                return Err(TraceError::Bad {
+                    line: number,
+                    fault,
+                });
+            }
+        }
+        number += 1;
+        rest = behind;
+    }
+    Ok(Trace {
+        version: 1,
+        events: Series::from_vec(events),
+    })
+}
+
+/// Reads the text of a trace. On `Bad` the line is the first that has a fault, counted from 1, and
+/// its fault is the first of [`LineFault`]'s that it has; `Memory` says nothing of the text.
+///
+/// A line feed ends a line, one at the end of the text adds none, and empty text is one empty line.
+/// The format is this project's own, and a line's value is what `serde_json` reads. `rt` gives the
+/// memory for the trace, and for one line at a time.
+pub fn read_trace<R: AllocGlobal>(rt: &R, bytes: &[u8]) -> Result<Trace, TraceError>
+    ensures good { IfOk result (λ trace. reading bytes.now ≡ Good trace.events) }
+    ensures bad { IfErr result (IsFault bytes.now) }
+{
+    read(rt.alloc(), bytes)
+}

@@ -1,0 +1,3 @@
+pub mod Appends
+pub mod FlagTextLemmas
+pub mod ReportLines

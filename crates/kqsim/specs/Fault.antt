@@ -1,0 +1,12 @@
+-- The exit statuses of the program (this project's choice).
+use Rattle.std.specs.Prelude.{ℕ}
+use Rattle.kqsim.specs.declared.fault.Fault.{Fault}
+use Rattle.kqsim.specs.declared.fault.Fault.TheVariants.{Usage, Read, Trace, Memory, Spawn, Write}
+
+abbrev pub status_of : Fault → ℕ
+status_of Usage = 2
+status_of Read = 3
+status_of (Trace line fault) = 4
+status_of Memory = 5
+status_of Spawn = 6
+status_of Write = 7

@@ -1,0 +1,46 @@
+ghost use Rattle.std.specs.Prelude.{◌≡◌};
+
+use kq_model::LineFault;
+use thiserror::Error;
+
+/// Why there is no report, or not the whole of it. Its text is the line that the program prints on
+/// standard error.
+#[derive(Debug, Drop, Clone, Copy, PartialEq, Error)]
+pub enum Fault {
+    /// The words of the command line are none of the program's, or a number is out of its range.
+    #[error("kqsim: usage")]
+    Usage,
+    /// The trace could not be read, or is longer than the program takes.
+    #[error("kqsim: cannot read the trace")]
+    Read,
+    /// The trace has a bad line; lines count from 1.
+    #[error("kqsim: line {line}: {name}", name = .fault.name())]
+    Trace { line: u64, fault: LineFault },
+    /// A growth was refused.
+    #[error("kqsim: out of memory")]
+    Memory,
+    /// The start of a thread was refused.
+    #[error("kqsim: cannot start a thread")]
+    Spawn,
+    /// A write failed, or took nothing.
+    #[error("kqsim: cannot write the report")]
+    Write,
+}
+
+impl Fault {
+    ghost use Rattle.kqsim.specs.Fault.{status_of};
+
+    /// The program's exit status after this fault: 2 to 7, in the order of the faults.
+    pub fn status(self) -> u8
+        ensures { result ≡ status_of self }
+    {
+        match self {
+            Fault::Usage => 2,
+            Fault::Read => 3,
+            Fault::Trace { .. } => 4,
+            Fault::Memory => 5,
+            Fault::Spawn => 6,
+            Fault::Write => 7,
+        }
+    }
+}
