@@ -54,6 +54,11 @@ module _ {M S A : Type 0} where
   each_seat_more P [] v h p = (p, tt)
   each_seat_more P (x ∷ vs) v h p = (h.0, each_seat_more P vs v h.1 p)
 
+  -- what holds of each seat holds of the last and of those before it
+  pub each_seat_split : (P : Seated M S A → Type 0) (vs : List (Seated M S A)) (v : Seated M S A) → EachSeat P (vs ++ v ∷ []) → P v × EachSeat P vs
+  each_seat_split P [] v h = (h.0, tt)
+  each_seat_split P (x ∷ vs) v h = let t = each_seat_split P vs v h.1 in (t.0, (h.0, t.1))
+
   pub each_seat_of : (P Q : Seated M S A → Type 0) → ((v : Seated M S A) → P v → Q v) → (vs : List (Seated M S A)) → EachSeat P vs → EachSeat Q vs
   each_seat_of P Q f [] h = tt
   each_seat_of P Q f (x ∷ vs) h = (f x h.0, each_seat_of P Q f vs h.1)

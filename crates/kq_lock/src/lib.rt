@@ -18,3 +18,6 @@ pub use error::TurnError;
 pub use lock::TurnLock;
 pub use machine::Machine;
 pub use seat::TurnSeat;
+
+#[cfg(test)]
+mod tests;
