@@ -10,3 +10,4 @@ pub mod Feeds
 pub mod Depths
 pub mod EventAgain
 pub mod ReadAgain
+pub mod JsonLines
