@@ -1,5 +1,5 @@
 -- The whole list, and one change more.
-use Rattle.std.proofs.Common.{◌≡◌, ap, ◌∙◌, arith, rules}
+use Rattle.std.proofs.Common.{arith}
 use Rattle.std.proofs.lemmas.Grind.{common_steps}
 use Rattle.kq_trace.proofs.JsonLines.{fits_more, fits_all}
 use Rattle.kq_trace.proofs.Tables.{changes_whole}

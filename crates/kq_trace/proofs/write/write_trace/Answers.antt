@@ -1,5 +1,5 @@
 -- A line at a time.
-use Rattle.std.proofs.Common.{◌≡◌, ◌++◌, sym, ap, ◌∙◌, subst}
+use Rattle.std.proofs.Common.{◌++◌, sym, ap, ◌∙◌, subst}
 use Rattle.kq_model.specs.Reading.{reading}
 use Rattle.kq_model.specs.Spelling.{header_data, line_text, records_text}
 use Rattle.kq_trace.specs.Again.{AreWritten}
