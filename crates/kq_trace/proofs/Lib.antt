@@ -11,3 +11,4 @@ pub mod Depths
 pub mod EventAgain
 pub mod ReadAgain
 pub mod JsonLines
+pub mod LeastFault
