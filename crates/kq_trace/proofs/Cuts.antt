@@ -1,5 +1,5 @@
 -- A text is cut at its first line feed.
-use Rattle.std.proofs.Common.{◌≡◌, ℕ, zero, suc, ◌+◌, ◌-◌, ◌<◌, ◌≤◌, Bool, true, false, ◌==◌, cond, List, [], ◌∷◌, length, take, drop, get_or, refl, sym, ap, ◌∙◌, arith, add-one, MatchOption, Option, Some, None}
+use Rattle.std.proofs.Common.{◌≡◌, ℕ, zero, suc, ◌-◌, ◌<◌, Bool, true, false, ◌==◌, cond, List, [], ◌∷◌, length, take, drop, get_or, refl, arith}
 use Rattle.std.proofs.lemmas.Grind.{common_steps}
 use Rattle.kq_model.specs.Lines.{onto_first, pieces_of, without_empty_end, lines_among, lines_of}
 use Rattle.kq_trace.specs.Rest.{lines_behind}

@@ -1,18 +1,18 @@
 -- A record's value is read as the record.
-use Rattle.std.proofs.Common.{◌≡◌, ℕ, suc, ◌^◌, ◌<◌, ℤ, pos, negsuc, Bool, true, false, List, [], ◌∷◌, map, Option, Some, None, Ok, refl, sym, ap, ◌∙◌, arith}
+use Rattle.std.proofs.Common.{◌≡◌, ℕ, ◌^◌, ◌<◌, ℤ, pos, negsuc, true, List, [], ◌∷◌, map, Some, Ok, refl}
 use Rattle.std.proofs.lemmas.Bool.{lt-ltb}
-use Rattle.serde_json.specs.Data.{Data, string, array}
+use Rattle.serde_json.specs.Data.{string}
 use Rattle.serde_json.specs.View.{items_of}
 use Rattle.kq_model.specs.declared.change.Change.{Change}
 use Rattle.kq_model.specs.declared.event.Event.{Event}
 use Rattle.kq_model.specs.declared.event.Event.TheVariants.{Proc, Kqueue, Kevent}
 use Rattle.kq_model.specs.declared.filter.Filter.{Filter}
 use Rattle.kq_model.specs.declared.filter.Filter.TheVariants.{Read, Write, Vnode, Proc as ProcFilter, Signal, Timer, User, Aio, Lio, Fs, Procdesc, Sendfile, Empty}
-use Rattle.kq_model.specs.ChangeText.{are_changes, change_list, change_of, change_with, changes_of, extra_width, filter_in, flags_in, is_change, is_change_list, prepended}
+use Rattle.kq_model.specs.ChangeText.{are_changes, change_list, change_of, change_with, changes_of, extra_width, filter_in, is_change, is_change_list, prepended}
 use Rattle.kq_model.specs.Members.{has_just, i64_in, is_whole, member_count, optional, or_else, required, shaped, u32_in, u64_in, width}
 use Rattle.kq_model.specs.Names.{filter_among, filter_name, filter_named}
 use Rattle.kq_model.specs.Reading.{event_by, event_of, is_header, is_kevent, is_kqueue, is_one, is_proc, kevent_of, kevent_with, kqueue_of, kqueue_with, proc_of, u32_at}
-use Rattle.kq_model.specs.Spelling.{change_data, flags_data, header_data, integer, natural, record_data}
+use Rattle.kq_model.specs.Spelling.{change_data, header_data, integer, natural, record_data}
 use Rattle.kq_trace.specs.Again.{FitsChange, FitsChanges, FitsInteger, FitsRecord, HasNamedFlags, HaveNamedFlags, NamesItsFlags}
 use Rattle.kq_trace.proofs.FlagBits.{flags_again}
 

@@ -1,11 +1,11 @@
 -- No line of the canonical text has a line feed inside.
-use Rattle.std.proofs.Common.{◌≡◌, ℕ, suc, ◌+◌, ◌*◌, ◌/◌, ◌%◌, ◌^◌, ◌<◌, ◌≤◌, ◌==◌, ℤ, pos, negsuc, Bool, true, false, not, ◌&&◌, cond, List, [], ◌∷◌, ◌++◌, map, decimal, refl, sym, ap, ◌∙◌, arith}
+use Rattle.std.proofs.Common.{◌≡◌, ℕ, suc, ◌+◌, ◌%◌, ◌^◌, ◌<◌, ◌≤◌, ◌==◌, ℤ, pos, negsuc, Bool, true, false, not, ◌&&◌, cond, List, [], ◌∷◌, ◌++◌, map, decimal, refl, ap, ◌∙◌, arith}
 use Rattle.std.proofs.lemmas.Bool.Decides.{nat_tests}
 use Rattle.std.proofs.lemmas.Fmt.{decimal_by_steps}
 use Rattle.std.specs.List.{list_all}
 use Rattle.std.specs.Prelude.{filter}
 use Rattle.serde_json.proofs.OnLiterals.{serde_json_on_literals}
-use Rattle.serde_json.specs.Data.{Data, null, boolean, number, unsigned, string, array, object, Items, no_items, item, Members, no_members, member}
+use Rattle.serde_json.specs.Data.{Data, null, boolean, number, string, array, object, Items, no_items, item, Members, no_members, member}
 use Rattle.serde_json.specs.Find.{of_integer}
 use Rattle.serde_json.specs.View.{items_of}
 use Rattle.serde_json.specs.Written.{comma_if, compact_text, items_text, members_text, number_text}
@@ -157,9 +157,19 @@ flags_data_feed flags = flags_feed flags flag_table table_feeds
 
 change_feed : (c : Change) → FitsChange c → DataFeed (change_data c)
 unfolding change_data natural integer serde_json_on_literals
-change_feed c fits =
-    (refl, integer_feed c.datum fits.datum, (refl, natural_feed c.fflags (small c.fflags fits.fflags), (refl, filter_feed c.filter,
-    (refl, flags_data_feed c.flags, (refl, natural_feed c.ident fits.ident, (refl, natural_feed c.udata fits.udata, tt))))))
+change_feed c fits = (
+  refl,
+  integer_feed c.datum fits.datum,
+  (
+    refl,
+    natural_feed c.fflags (small c.fflags fits.fflags),
+    (
+      refl,
+      filter_feed c.filter,
+      (refl, flags_data_feed c.flags, (refl, natural_feed c.ident fits.ident, (refl, natural_feed c.udata fits.udata, tt))),
+    ),
+  ),
+)
 
 changes_feed : (cs : List Change) → FitsChanges cs → ItemsFeed (items_of (map change_data cs))
 changes_feed [] fits = tt
@@ -170,9 +180,19 @@ unfolding record_data natural serde_json_on_literals
 record_data_feed (Proc pid) fits = (refl, refl, (refl, natural_feed pid (small pid fits), tt))
 record_data_feed (Kqueue pid fd) fits =
     (refl, natural_feed fd (small fd fits.1), (refl, refl, (refl, natural_feed pid (small pid fits.0), tt)))
-record_data_feed (Kevent pid fd changes room) fits =
-    (refl, changes_feed changes fits.2, (refl, natural_feed fd (small fd fits.1), (refl, refl,
-    (refl, natural_feed pid (small pid fits.0), (refl, natural_feed room (small room fits.3), tt)))))
+record_data_feed (Kevent pid fd changes room) fits = (
+  refl,
+  changes_feed changes fits.2,
+  (
+    refl,
+    natural_feed fd (small fd fits.1),
+    (
+      refl,
+      refl,
+      (refl, natural_feed pid (small pid fits.0), (refl, natural_feed room (small room fits.3), tt)),
+    ),
+  ),
+)
 
 -- a record's line has no line feed inside
 pub record_feed : (e : Event) → FitsRecord e → has_no_feed (compact_text (record_data e)) ≡ true

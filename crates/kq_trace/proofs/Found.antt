@@ -1,14 +1,14 @@
 -- What serde_json finds in a value, by the kinds of a record's members.
-use Rattle.std.proofs.Common.{◌≡◌, ℕ, ◌+◌, suc, ◌^◌, Bool, true, false, ◌||◌, ◌&&◌, ◌==◌, List, [], ◌∷◌, length, Some, None, Option, option_map, option_and_then, nat_lt, cond, refl, sym, ap, ◌∙◌, Bor, map, arith, add-one, ◌<◌, ◌≤◌, Result, Ok, Err}
+use Rattle.std.proofs.Common.{◌≡◌, ℕ, suc, ◌^◌, Bool, true, false, ◌||◌, ◌&&◌, ◌==◌, List, [], ◌∷◌, length, Some, None, Option, option_and_then, nat_lt, cond, refl, sym, ap, ◌∙◌, Bor, map, arith, add-one, ◌<◌, ◌≤◌, Result, Ok, Err}
 use Rattle.std.proofs.lemmas.Bool.{lt-ltb, le-ltb}
 use Rattle.std.specs.Option.{is_some, option_map_or}
 use Rattle.std.specs.Result.{OkIff, result_ok}
 use Rattle.std.specs.List.{list_all}
-use Rattle.serde_json.specs.Data.{Num, unsigned, negative, float, Data, null, boolean, number, string, array, object, Items, no_items, item, Members, no_members, member}
+use Rattle.serde_json.specs.Data.{unsigned, negative, float, Data, null, boolean, number, string, array, object, Members, no_members, member}
 use Rattle.serde_json.specs.Events.{members_len}
-use Rattle.serde_json.specs.Find.{get, as_number, as_object, as_u64, as_i64}
+use Rattle.serde_json.specs.Find.{as_number, as_object, as_u64, as_i64}
 use Rattle.kq_model.specs.Reading.{is_one}
-use Rattle.kq_model.specs.Members.{has_just, has_member, is_whole, i64_in, required, u32_in, u64_in, width, member_count}
+use Rattle.kq_model.specs.Members.{has_just, has_member, is_whole, i64_in, u32_in, u64_in, width, member_count}
 
 pub found_u64 : (d : Data) → option_and_then as_u64 (as_number d) ≡ u64_in d
 unfolding u64_in

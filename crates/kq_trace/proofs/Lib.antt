@@ -10,3 +10,5 @@ pub mod Feeds
 pub mod Depths
 pub mod EventAgain
 pub mod ReadAgain
+pub mod JsonLines
+pub mod LeastFault

@@ -1,5 +1,5 @@
 -- Reading the canonical text gives its trace again.
-use Rattle.std.proofs.Common.{◌≡◌, ℕ, zero, suc, ◌+◌, ◌^◌, ◌<◌, ◌≤◌, ◌==◌, Bool, true, false, not, ◌&&◌, List, [], ◌∷◌, ◌++◌, length, take, drop, get_or, Some, None, Ok, refl, sym, ap, ◌∙◌, append_assoc, subst, add-one, arith}
+use Rattle.std.proofs.Common.{◌≡◌, ℕ, zero, suc, ◌+◌, ◌^◌, ◌<◌, ◌≤◌, ◌==◌, Bool, true, false, not, ◌&&◌, List, [], ◌∷◌, ◌++◌, length, take, get_or, Some, Ok, refl, ap, ◌∙◌, append_assoc, subst, add-one, arith}
 use Rattle.std.proofs.lemmas.Bool.{le-ltb}
 use Rattle.std.proofs.lemmas.Bool.Decides.{nat_tests}
 use Rattle.std.proofs.lemmas.List.{take_all}
@@ -8,7 +8,7 @@ use Rattle.serde_json.proofs.OnLiterals.{serde_json_on_literals}
 use Rattle.serde_json.specs.Written.{compact_text}
 use Rattle.kq_model.specs.declared.event.Event.{Event}
 use Rattle.kq_model.specs.Lines.{lines_among, lines_of, onto_first, pieces_of, without_empty_end}
-use Rattle.kq_model.specs.Reading.{Good, event_of, event_on, is_header, joined, json_of, meaning, read_lines, reading, with_event}
+use Rattle.kq_model.specs.Reading.{Good, event_on, is_header, joined, json_of, meaning, read_lines, reading, with_event}
 use Rattle.kq_model.specs.Spelling.{header_data, line_text, natural, record_data, records_text, spelling}
 use Rattle.kq_trace.specs.Again.{ArePlain, AreWritten, CanBeReadAgain, IsPlain, IsWritten}
 use Rattle.kq_trace.specs.Rest.{lines_behind}

@@ -1,7 +1,8 @@
 -- What is said of reading the canonical text of a trace again.
-use Rattle.std.specs.Prelude.{◌≡◌, ℕ, ◌^◌, ◌<◌, ◌≤◌, ℤ, pos, negsuc, List, [], ◌∷◌, length, Some, map}
+use Rattle.std.specs.Prelude.{◌≡◌, ◌^◌, ◌<◌, ◌≤◌, ℤ, pos, negsuc, List, [], ◌∷◌, length, Some}
 use Rattle.std.specs.Int.RustNames.{bit_and}
 use Rattle.bitflags.specs.Sets.{known_bits}
+use Rattle.serde_json.specs.Data.{Data}
 use Rattle.serde_json.specs.Written.{compact_text}
 use Rattle.kq_model.specs.declared.change.Change.{Change}
 use Rattle.kq_model.specs.declared.event.Event.{Event}
@@ -62,10 +63,14 @@ FitsRecord (Kevent pid fd changes room) = (pid < 2 ^ 32) × (fd < 2 ^ 32) × Fit
 
 -- ---- what writing it shows of an event
 
+-- the compact text of a value is read as the value
+abbrev pub ReadsBack : Data → Type 0
+ReadsBack d = json_of (compact_text d) ≡ Some d
+
 -- its numbers are in range, and its text is read as its value
 pub record IsWritten (e : Event) : Type 0 where
   pub fits : FitsRecord e
-  pub text_reads : json_of (compact_text (record_data e)) ≡ Some (record_data e)
+  pub text_reads : ReadsBack (record_data e)
 
 abbrev pub AreWritten : List Event → Type 0
 AreWritten [] = Unit {0}

@@ -1,6 +1,8 @@
 -- What a refusal of a text says.
-use Rattle.std.specs.Prelude.{◌≡◌, ℕ, List}
-use Rattle.kq_model.specs.Reading.{Bad as BadLine, reading}
+use Rattle.std.specs.Prelude.{◌≡◌, ℕ, ◌+◌, ◌<◌, List, slice_get, Some, IsOk, Err}
+use Rattle.kq_model.specs.declared.line_fault.LineFault.{LineFault}
+use Rattle.kq_model.specs.Lines.{lines_of}
+use Rattle.kq_model.specs.Reading.{Bad as BadLine, meaning, reading}
 use Rattle.kq_trace.specs.declared.fault.TraceError.{TraceError}
 use Rattle.kq_trace.specs.declared.fault.TraceError.TheVariants.{Memory, Bad}
 
@@ -8,3 +10,16 @@ use Rattle.kq_trace.specs.declared.fault.TraceError.TheVariants.{Memory, Bad}
 abbrev pub IsFault : List ℕ → TraceError → Type 0
 IsFault bytes Memory = Unit {0}
 IsFault bytes (Bad line fault) = reading bytes ≡ BadLine line fault
+
+-- Of lines that are numbered from `first`, the one of number `line` has this fault, and no earlier one has any.
+pub record IsFirstBad (first : ℕ) (lines : List (List ℕ)) (line : ℕ) (fault : LineFault) : Type 0 where
+  pub place : ℕ
+  pub counted : line ≡ first + place
+  pub text : List ℕ
+  pub there : slice_get lines place ≡ Some text
+  pub faulty : meaning line text ≡ Err fault
+  pub earlier : (k : ℕ) (before : List ℕ) → k < place → slice_get lines k ≡ Some before → IsOk (meaning (first + k) before)
+
+abbrev pub IsLeastFault : List ℕ → TraceError → Type 0
+IsLeastFault bytes Memory = Unit {0}
+IsLeastFault bytes (Bad line fault) = IsFirstBad 1 (lines_of bytes) line fault

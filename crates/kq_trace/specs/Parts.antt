@@ -1,5 +1,5 @@
 -- The tests of a change and of a kevent record, in groups.
-use Rattle.std.specs.Prelude.{ℕ, ◌+◌, ◌==◌, Bool, ◌&&◌, [], ◌∷◌, codes}
+use Rattle.std.specs.Prelude.{◌+◌, ◌==◌, Bool, ◌&&◌, [], ◌∷◌, codes}
 use Rattle.std.specs.Option.{is_some}
 use Rattle.serde_json.specs.Data.{Data}
 use Rattle.serde_json.specs.Find.{get}

@@ -2,7 +2,7 @@
 
 ghost use Rattle.std.specs.Prelude.{◌≡◌, ◌<◌, ◌≤◌, IfErr, IfOk, OnOk};
 ghost use Rattle.kq_model.specs.Reading.{Good, event_on, meaning, reading};
-ghost use Rattle.kq_trace.specs.Faults.{IsFault};
+ghost use Rattle.kq_trace.specs.Faults.{IsFault, IsLeastFault};
 
 use crate::TraceError;
 use crate::header::is_header_line;
@@ -91,6 +91,7 @@ fn read(alloc: Global, bytes: &[u8]) -> Result<Trace, TraceError>
 pub fn read_trace<R: AllocGlobal>(rt: &R, bytes: &[u8]) -> Result<Trace, TraceError>
     ensures good { IfOk result (λ trace. reading bytes.now ≡ Good trace.events) }
     ensures bad { IfErr result (IsFault bytes.now) }
+    ensures least { IfErr result (IsLeastFault bytes.now) }
 {
     read(rt.alloc(), bytes)
 }

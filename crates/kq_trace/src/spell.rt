@@ -1,10 +1,11 @@
 //! The JSON values of a trace's lines, as its canonical text has them.
 
-ghost use Rattle.std.specs.Prelude.{◌≡◌, IfOk, OnOk};
+ghost use Rattle.std.specs.Prelude.{◌≡◌, ◌<◌, ◌^◌, IfOk, OnOk};
 ghost use Rattle.serde_json.specs.Data.{put, string};
 ghost use Rattle.serde_json.specs.View.{members_view, view};
 ghost use Rattle.kq_model.specs.Names.{filter_name};
-ghost use Rattle.kq_model.specs.Spelling.{change_data, flags_data, header_data, record_data};
+ghost use Rattle.kq_model.specs.Spelling.{change_data, flags_data, header_data, integer, natural, record_data};
+ghost use Rattle.kq_trace.specs.Again.{FitsChange, FitsChanges, FitsInteger, FitsRecord};
 ghost use Rattle.kq_trace.specs.Texts.{changes_data};
 
 use bitflags::Flags;
@@ -40,6 +41,33 @@ fn name_data(alloc: Global, name: &str) -> Result<Value, Memory>
     json!(in alloc; name).map_err(|_| Memory)
 }
 
+/// A number of 32 bits.
+#[tactic(auto, unfolding(kq_model::specs::Spelling::natural))]
+fn u32_data(number: u32) -> Value
+    ensures value { view result ≡ natural number }
+    ensures fits { number < 2 ^ 32 }
+{
+    Value::from(number)
+}
+
+/// A number of 64 bits.
+#[tactic(auto, unfolding(kq_model::specs::Spelling::natural))]
+fn u64_data(number: u64) -> Value
+    ensures value { view result ≡ natural number }
+    ensures fits { number < 2 ^ 64 }
+{
+    Value::from(number)
+}
+
+/// A number of 64 bits with a sign.
+#[tactic(auto, unfolding(kq_model::specs::Spelling::integer))]
+fn i64_data(number: i64) -> Value
+    ensures value { view result ≡ integer number }
+    ensures fits { FitsInteger number }
+{
+    Value::from(number)
+}
+
 /// Adds a member to those of an object.
 fn add(
     alloc: Global,
@@ -72,17 +100,18 @@ fn flags_data(alloc: Global, flags: EvFlags) -> Result<Value, Memory>
 /// A change with all its members.
 #[tactic(auto, unfolding(kq_model::specs::Spelling::change_data, kq_model::specs::Spelling::natural, kq_model::specs::Spelling::integer))]
 fn change_data(alloc: Global, change: &Change) -> Result<Value, Memory>
-    ensures { IfOk result (λ value. view value ≡ change_data change.now) }
+    ensures value { IfOk result (λ value. view value ≡ change_data change.now) }
+    ensures fits { OnOk result (FitsChange change.now) }
 {
     let flags = flags_data(alloc, change.flags)?;
     let filter = name_data(alloc, filter_name(change.filter))?;
     let mut members = Map::new(alloc);
-    add(alloc, &mut members, "data", Value::from(change.datum))?;
-    add(alloc, &mut members, "fflags", Value::from(change.fflags))?;
+    add(alloc, &mut members, "data", i64_data(change.datum))?;
+    add(alloc, &mut members, "fflags", u32_data(change.fflags))?;
     add(alloc, &mut members, "filter", filter)?;
     add(alloc, &mut members, "flags", flags)?;
-    add(alloc, &mut members, "ident", Value::from(change.ident))?;
-    add(alloc, &mut members, "udata", Value::from(change.udata))?;
+    add(alloc, &mut members, "ident", u64_data(change.ident))?;
+    add(alloc, &mut members, "udata", u64_data(change.udata))?;
     Ok(Value::Object(members))
 }
 
@@ -96,21 +125,24 @@ pub fn header_data(alloc: Global, version: u32) -> Result<Value, Memory>
 
 #[tactic(auto, unfolding(kq_model::specs::Spelling::record_data, kq_model::specs::Spelling::natural))]
 fn proc_data(alloc: Global, pid: u32) -> Result<Value, Memory>
-    ensures { IfOk result (λ value. view value ≡ record_data (Event.Proc pid)) }
+    ensures value { IfOk result (λ value. view value ≡ record_data (Event.Proc pid)) }
+    ensures fits { FitsRecord (Event.Proc pid) }
 {
     json!(in alloc; {"op": "proc", "pid": pid}).map_err(|_| Memory)
 }
 
 #[tactic(auto, unfolding(kq_model::specs::Spelling::record_data, kq_model::specs::Spelling::natural))]
 fn kqueue_data(alloc: Global, pid: u32, fd: u32) -> Result<Value, Memory>
-    ensures { IfOk result (λ value. view value ≡ record_data (Event.Kqueue pid fd)) }
+    ensures value { IfOk result (λ value. view value ≡ record_data (Event.Kqueue pid fd)) }
+    ensures fits { FitsRecord (Event.Kqueue pid fd) }
 {
     json!(in alloc; {"fd": fd, "op": "kqueue", "pid": pid}).map_err(|_| Memory)
 }
 
 /// The list of changes.
 fn changes_data(alloc: Global, changes: &[Change]) -> Result<Value, Memory>
-    ensures { IfOk result (λ value. view value ≡ changes_data changes.now) }
+    ensures value { IfOk result (λ value. view value ≡ changes_data changes.now) }
+    ensures fits { OnOk result (FitsChanges changes.now) }
 {
     let mut values = Vec::with_capacity(alloc, changes.len()).map_err(|_| Memory)?;
     for change in changes {
@@ -129,22 +161,25 @@ fn kevent_data(
     changes: &[Change],
     room: u32,
 ) -> Result<Value, Memory>
-    ensures { IfOk result (λ value. view value ≡ record_data (Event.Kevent pid fd changes.now room)) }
+    ensures value { IfOk result (λ value. view value
+        ≡ record_data (Event.Kevent pid fd changes.now room)) }
+    ensures fits { OnOk result (FitsRecord (Event.Kevent pid fd changes.now room)) }
 {
     let changes = changes_data(alloc, changes)?;
-    let value = json!(in alloc; {
-        "changes": changes,
-        "fd": fd,
-        "op": "kevent",
-        "pid": pid,
-        "room": room
-    });
-    value.map_err(|_| Memory)
+    let op = name_data(alloc, "kevent")?;
+    let mut members = Map::new(alloc);
+    add(alloc, &mut members, "changes", changes)?;
+    add(alloc, &mut members, "fd", u32_data(fd))?;
+    add(alloc, &mut members, "op", op)?;
+    add(alloc, &mut members, "pid", u32_data(pid))?;
+    add(alloc, &mut members, "room", u32_data(room))?;
+    Ok(Value::Object(members))
 }
 
 /// The line of a record.
 pub fn record_data(alloc: Global, event: &Event) -> Result<Value, Memory>
-    ensures { IfOk result (λ value. view value ≡ record_data event.now) }
+    ensures value { IfOk result (λ value. view value ≡ record_data event.now) }
+    ensures fits { OnOk result (FitsRecord event.now) }
 {
     match event {
         Event::Proc { pid } => proc_data(alloc, *pid),

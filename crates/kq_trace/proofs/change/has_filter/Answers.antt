@@ -1,4 +1,4 @@
-use Rattle.std.proofs.Common.{◌≡◌, ap, ◌∙◌}
+use Rattle.std.proofs.Common.{ap, ◌∙◌}
 use Rattle.std.specs.Option.{is_some}
 use Rattle.kq_trace.proofs.ChangeParts.{filter_there}
 use Rattle.kq_trace.proofs.change.has_filter.Goals as goal

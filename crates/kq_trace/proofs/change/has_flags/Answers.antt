@@ -1,4 +1,4 @@
-use Rattle.std.proofs.Common.{◌≡◌, sym, ap, ◌∙◌}
+use Rattle.std.proofs.Common.{sym, ap, ◌∙◌}
 use Rattle.std.specs.Option.{is_some}
 use Rattle.kq_trace.proofs.ChangeParts.{flags_there, is_some-option_map}
 use Rattle.kq_trace.proofs.change.has_flags.Goals as goal

@@ -1,5 +1,5 @@
 -- The tests, in two groups.
-use Rattle.std.proofs.Common.{◌≡◌, sym, ◌∙◌}
+use Rattle.std.proofs.Common.{sym, ◌∙◌}
 use Rattle.serde_json.specs.View.{view}
 use Rattle.kq_trace.proofs.ChangeParts.{all_parts, no_parts}
 use Rattle.kq_trace.proofs.change.is_change.Goals as goal

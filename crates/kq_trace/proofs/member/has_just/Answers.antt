@@ -1,5 +1,5 @@
 -- Each name is there, and there are as many members as names.
-use Rattle.std.proofs.Common.{◌≡◌, ◌&&◌, ◌==◌, length, sym, ap, ◌∙◌}
+use Rattle.std.proofs.Common.{sym, ◌∙◌}
 use Rattle.kq_trace.proofs.Found.{just, not_just}
 use Rattle.kq_trace.proofs.member.has_just.Goals as goal
 

@@ -1,5 +1,5 @@
 -- The number of 64 bits, where it fits 32.
-use Rattle.std.proofs.Common.{◌≡◌, ◌∙◌}
+use Rattle.std.proofs.Common.{◌∙◌}
 use Rattle.serde_json.specs.View.{view}
 use Rattle.kq_trace.proofs.Found.{narrow, no_u32}
 use Rattle.kq_trace.proofs.member.u32_in.Goals as goal

@@ -1,5 +1,5 @@
 -- The map has as many entries as the object has members.
-use Rattle.std.proofs.Common.{◌≡◌, sym, ap, ◌∙◌}
+use Rattle.std.proofs.Common.{sym, ap, ◌∙◌}
 use Rattle.std.specs.Option.{option_map_or}
 use Rattle.serde_json.proofs.Views.{members_len-members_view}
 use Rattle.serde_json.specs.Events.{members_len}
