@@ -19,10 +19,7 @@ fn told(answered: Result<Receipt<u64>, TurnError>) -> Result<(u64, u64, u64), Tu
 }
 
 // One of the seats that a lock was made with.
-fn next_seat<M: Machine>(
-    lock: &TurnLock<M>,
-    seats: &mut Vec<TurnSeat<M>>,
-) -> Option<TurnSeat<M>>
+fn next_seat<M: Machine>(lock: &TurnLock<M>, seats: &mut Vec<TurnSeat<M>>) -> Option<TurnSeat<M>>
     requires { EachSeat (IsFresh lock.now) seats.old.items }
     ensures seat { IfSome result (λ s. s.lock ≡ lock.now) }
     ensures rest { EachSeat (IsFresh lock.now) seats.new.items }

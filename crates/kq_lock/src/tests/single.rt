@@ -46,7 +46,10 @@ fn seats_part_and_meet(rt: HostRuntime) -> Result<(), Fail> {
     let mut two = lock.split(&mut one);
     assert_eq!(rt; TurnLock::seen_len(&two), 1);
     assert_eq!(rt; told(lock.call(&rt, &mut two, 2)), Ok((2, 3, 1)));
-    assert_eq!(rt; (TurnLock::seen_len(&one), TurnLock::seen_len(&two)), (1, 2));
+    assert_eq!(rt;
+        (TurnLock::seen_len(&one), TurnLock::seen_len(&two)),
+        (1, 2)
+    );
     lock.join(&mut one, two);
     assert_eq!(rt; TurnLock::seen_len(&one), 2);
     let three = lock.split(&mut one);

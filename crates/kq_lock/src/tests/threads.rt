@@ -51,11 +51,7 @@ fn busy_while_the_turn_is_held(rt: HostRuntime) -> Result<(), Fail> {
 }
 
 // A hundred calls, and whether all were made.
-fn hundred<R: Wait>(
-    rt: &R,
-    lock: &TurnLock<Sum>,
-    mut seat: TurnSeat<Sum>,
-) -> (bool, TurnSeat<Sum>)
+fn hundred<R: Wait>(rt: &R, lock: &TurnLock<Sum>, mut seat: TurnSeat<Sum>) -> (bool, TurnSeat<Sum>)
     requires { seat.lock ≡ lock.now }
     ensures { result.1.lock ≡ lock.now }
 {
