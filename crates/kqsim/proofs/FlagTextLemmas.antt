@@ -32,7 +32,7 @@ begun false name rest = simp append_assoc
 one_name : (flags : EvFlags) (later : Bool) (row : List ℕ × ℕ) (rows : List (List ℕ × ℕ)) (b : Bool) → escape row.0 ≡ row.0
     → ((l : Bool) → items_text l (items_of (named flags rows)) ≡ names_text flags l rows)
     → items_text later (items_of (map string (map (λ (r : List ℕ × ℕ). r.0) (if b then row ∷ filter (λ (r : List ℕ × ℕ). asks flags r.1) rows else filter (λ (r : List ℕ × ℕ). asks flags r.1) rows))))
-        ≡ (if b then mark later ++ (row.0 ++ (34 ∷ names_text flags true rows)) else names_text flags later rows)
+    ≡ (if b then mark later ++ (row.0 ++ (34 ∷ names_text flags true rows)) else names_text flags later rows)
 one_name flags later row rows true plain rest =
     ap (λ name. comma_if later ++ ((34 ∷ (name ++ 34 ∷ [])) ++ items_text true (items_of (named flags rows)))) plain
     ∙ begun later row.0 (items_text true (items_of (named flags rows)))

@@ -4,3 +4,6 @@ pub mod Workers
 pub mod Adds
 pub mod FlagText
 pub mod EventsText
+pub mod Kept
+pub mod Replay
+pub mod Run

@@ -28,7 +28,9 @@ pub fn parse_words(alloc: Global, words: &[&str]) -> Result<Order, Fault>
     all.push("kqsim").map_err(|_| Fault::Memory)?;
     all.extend_from_slice(words).map_err(|_| Fault::Memory)?;
     let command = command(alloc).map_err(|_| Fault::Memory)?;
-    let matches = command.try_get_matches_from(all.as_slice()).map_err(fault_of)?;
+    let matches = command
+        .try_get_matches_from(all.as_slice())
+        .map_err(fault_of)?;
     order_of(alloc, &matches)
 }
 
@@ -47,7 +49,9 @@ fn file_argument<'a>(alloc: Global) -> Arg<'a>
     ensures rule { rule_of result ≡ file_rule }
     ensures local { result.global ≡ false }
 {
-    Arg::new(alloc, "FILE").required(true).action(ArgAction::Set)
+    Arg::new(alloc, "FILE")
+        .required(true)
+        .action(ArgAction::Set)
 }
 
 fn replay_command<'a>(alloc: Global) -> Result<Command<'a>, AllocError>
@@ -70,7 +74,11 @@ fn command<'a>(alloc: Global) -> Result<Command<'a>, AllocError>
 fn fault_of(error: Error) -> Fault
     ensures { (result ≡ Fault.Usage) ⊎ (result ≡ Fault.Memory) }
 {
-    if error.kind() == ErrorKind::OutOfMemory { Fault::Memory } else { Fault::Usage }
+    if error.kind() == ErrorKind::OutOfMemory {
+        Fault::Memory
+    } else {
+        Fault::Usage
+    }
 }
 
 fn order_of(alloc: Global, matches: &ArgMatches<'_>) -> Result<Order, Fault>

@@ -30,7 +30,9 @@ pub fn read_in<R: Read>(alloc: Global, reader: &mut R, limit: usize) -> Result<V
         if limit - bytes.len() < n {
             return Err(Fault::Read);
         }
-        bytes.extend_from_slice(&chunk[..n]).map_err(|_| Fault::Memory)?;
+        bytes
+            .extend_from_slice(&chunk[..n])
+            .map_err(|_| Fault::Memory)?;
     }
     unreachable!()
 }

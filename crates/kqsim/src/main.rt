@@ -7,11 +7,58 @@ mod fault;
 mod input;
 mod order;
 mod output;
+mod replaying;
 mod report;
+mod running;
+mod system;
 mod workers;
 
-use std::io;
+use command_line::parse_words;
+use fault::Fault;
+use order::Order;
+use running::{run_order, tell};
+use std::env;
+use std::fs::File;
+use std::io::ErrorKind;
+use std::process::ExitCode;
 
-fn main(rt: HostRuntime) -> io::Result<()> {
-    Ok(())
+fn main(rt: HostRuntime) -> ExitCode {
+    match run_words(&rt) {
+        Ok(status) => ExitCode::from(status),
+        Err(fault) => {
+            tell(fault, &mut rt.stderr());
+            ExitCode::from(fault.status())
+        }
+    }
+}
+
+/// Carries out the order of the command line, with the file that it names, and gives the exit
+/// status. A fault comes from the words, or from a file that does not open.
+fn run_words(rt: &HostRuntime) -> Result<u8, Fault> {
+    let words = words(rt)?;
+    let mut texts = Vec::new(rt.alloc());
+    for word in &words {
+        texts.push(word.as_str()).map_err(|_| Fault::Memory)?;
+    }
+    let order = parse_words(rt.alloc(), texts.as_slice())?;
+    let Order::Replay { file, .. } = &order;
+    let (mut out, mut err) = (rt.stdout(), rt.stderr());
+    if file.as_str() == "-" {
+        return Ok(run_order(rt, &order, &mut rt.stdin(), &mut out, &mut err));
+    }
+    let mut reader = File::open(rt, file.as_str()).map_err(|_| Fault::Read)?;
+    Ok(run_order(rt, &order, &mut reader, &mut out, &mut err))
+}
+
+/// The words after the program's name. Words that are no text are none of the program's.
+fn words(rt: &HostRuntime) -> Result<Vec<String>, Fault> {
+    let all = env::args(rt).map_err(|error| match error.kind() {
+        ErrorKind::OutOfMemory => Fault::Memory,
+        _ => Fault::Usage,
+    })?;
+    let mut words = Vec::new(rt.alloc());
+    for word in all.skip(1) {
+        words.push(word).map_err(|_| Fault::Memory)?;
+    }
+    Ok(words)
 }

@@ -6,8 +6,8 @@ mod event;
 mod line;
 mod text;
 
-use line::{put_counts, put_reply};
 use kq_model::{Memory, Reply, Row};
+use line::{put_counts, put_reply};
 use std::alloc::Global;
 
 /// The report of these rows, out of so many records: a line for each row, and a last line that

@@ -30,8 +30,9 @@ returns-clause-order c =
     let rows = rows_of (found_of c.in_ok-replay.replay.now) in
     let entered : option_map (λ (p : Text × List Row). p.1) o ≡ Some rows = subst (λ r. IfSome r (λ m. option_map (λ (p : Text × List Row). p.1) o ≡ Some (rows_of (found_of m.now)))) c.in_ok-replay.ensures.ok_part c.subcommand_matches.ensures.rows in
     let found = found_of c.in_ok-replay.replay.now in
-    let copied : string_bytes c.in_ok-file-2.file ≡ c.in_ok-file.file.now = search rules in
-    (search rules,
-     ap (option_map number_in) (workers_found o rows entered ∙ sym (one_text-rows found (codes "workers")))
-     ∙ number_read (ExplainsUnsignedError 10) HasUnsignedDigitsIfOk (one_text found (codes "workers")) c.get_one.result c.in_ok-workers.workers c.in_ok-workers.ensures.ok_part c.get_one.ensures.none c.get_one.ensures.value,
-     file_found o rows entered ∙ sym (first_value-rows found (codes "FILE")) ∙ sym c.get_str.ensures ∙ ap (option_map (λ (s : Bor Text). s.now)) c.in_ok-file.ensures.ok_part ∙ ap Some (sym copied))
+    let copied : string_bytes c.in_ok-file-2.file ≡ c.in_ok-file.file.now = search rules in (
+      search rules,
+      ap (option_map number_in) (workers_found o rows entered ∙ sym (one_text-rows found (codes "workers")))
+          ∙ number_read (ExplainsUnsignedError 10) HasUnsignedDigitsIfOk (one_text found (codes "workers")) c.get_one.result c.in_ok-workers.workers c.in_ok-workers.ensures.ok_part c.get_one.ensures.none c.get_one.ensures.value,
+      file_found o rows entered ∙ sym (first_value-rows found (codes "FILE")) ∙ sym c.get_str.ensures ∙ ap (option_map (λ (s : Bor Text). s.now)) c.in_ok-file.ensures.ok_part ∙ ap Some (sym copied),
+    )

@@ -20,5 +20,5 @@ returns-clause-order c =
     let got : HasMatchesOf (app_of c.in_ok-command.command) (map (λ (s : Bor Text). s.now) c.as_slice.result.now) c.in_ok-matches.matches = search rules in
     let simple : is_simple program ≡ true = refl in
     let entered : subcommand_rows_of c.in_ok-matches.matches ≡ subcommand_of program (codes "kqsim" ∷ map (λ (s : Bor Text). s.now) c.args.words.now) =
-        (got (ap is_simple made ∙ simple)).1 ∙ ap (λ a. subcommand_of a (map (λ (s : Bor Text). s.now) c.as_slice.result.now)) made ∙ ap (subcommand_of program) words in
+    (got (ap is_simple made ∙ simple)).1 ∙ ap (λ a. subcommand_of a (map (λ (s : Bor Text). s.now) c.as_slice.result.now)) made ∙ ap (subcommand_of program) words in
     IfOk-weaker c.order_of.result _ _ (λ order given. order_given c.args.words.now (subcommand_rows_of c.in_ok-matches.matches) order (search rules) entered given) c.order_of.ensures.order

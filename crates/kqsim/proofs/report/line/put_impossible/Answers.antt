@@ -10,5 +10,5 @@ returns c =
     let name = subst (λ name. Adds c.put.new.out.items name c.put-2.new.out.items) c.why_name.ensures c.in_ok-put-2.ensures in
     on_ok_weaker c.put-3.result
     (λ end. as_text (impossible_line c.args.at c.args.why)
-        (and_then c.in_ok-put_place.ensures (and_then c.in_ok-put.ensures (and_then name end))))
+    (and_then c.in_ok-put_place.ensures (and_then c.in_ok-put.ensures (and_then name end))))
     c.put-3.ensures
