@@ -16,3 +16,6 @@ mod write;
 pub use fault::TraceError;
 pub use read::read_trace;
 pub use write::write_trace;
+
+#[cfg(test)]
+mod tests;

@@ -1,0 +1,48 @@
+use crate::{TraceError, read_trace, write_trace};
+use kq_model::LineFault;
+use std::test::Fail;
+
+const TEXT: &[u8] =
+    b"{\"kqsim\":1}\n{\"op\":\"proc\",\"pid\":7}\n{\"fd\":3,\"op\":\"kqueue\",\"pid\":7}\n{\"changes\":[{\"data\":-5,\"fflags\":1,\"filter\":\"USER\",\"flags\":[\"ADD\",\"CLEAR\"],\"ident\":18446744073709551615,\"udata\":9}],\"fd\":3,\"op\":\"kevent\",\"pid\":7,\"room\":4}\n";
+
+#[test]
+fn reads_and_writes(rt: HostRuntime) -> Result<(), Fail> {
+    let trace = read_trace(&rt, TEXT)?;
+    assert_eq!(rt; trace.events.len(), 3);
+    let text = write_trace(rt.alloc(), &trace).map_err(|_| TraceError::Memory)?;
+    assert!(rt; text.as_slice() == TEXT);
+    Ok(())
+}
+
+fn fault_of(rt: &HostRuntime, text: &[u8]) -> Option<(u64, LineFault)> {
+    match read_trace(rt, text) {
+        Err(TraceError::Bad { line, fault }) => Some((line, fault)),
+        Err(TraceError::Memory) => None,
+        Ok(_) => None,
+    }
+}
+
+#[test]
+fn refuses(rt: HostRuntime) -> Result<(), Fail> {
+    assert!(rt; fault_of(&rt, b"") == Some((1, LineFault::Header)));
+    assert!(rt; fault_of(&rt, b"{\"kqsim\":3}\n") == Some((1, LineFault::Header)));
+    assert!(rt; fault_of(&rt, b"{\"kqsim\":1}\n\n") == Some((2, LineFault::Json)));
+    assert!(rt;
+        fault_of(
+            &rt,
+            b"{\"kqsim\":1}\n{\"op\":\"proc\",\"pid\":4294967296}\n{"
+        ) == Some((2, LineFault::Range))
+    );
+    assert!(rt;
+        fault_of(
+            &rt,
+            b"{\"kqsim\":1}\n{\"op\":\"kqueue\",\"pid\":4294967296,\"fd\":1.0}"
+        ) == Some((2, LineFault::Field))
+    );
+    assert!(rt;
+        fault_of(&rt, b"{\"kqsim\":1}\n{\"op\":\"proc\",\"pid\":1,\"x\":2}")
+            == Some((2, LineFault::Field))
+    );
+    assert!(rt; fault_of(&rt, b"{\"kqsim\":1}").is_none());
+    Ok(())
+}
