@@ -72,7 +72,7 @@ unfolding process
 process-drop views owner room cs i d placed kq within =
     ap (λ l. process views owner room l placed kq) (drop_more cs i d within)
 
-abbrev after_by : (List Kevent → Kqueue → Processed) → Change → List Kevent → Registered → Bool → Bool → Processed
+abbrev pub after_by : (List Kevent → Kqueue → Processed) → Change → List Kevent → Registered → Bool → Bool → Processed
 after_by rest c placed r answered fits =
     cond answered (cond fits (rest (placed ++ entry_of c r.error ∷ []) r.kq) (record { kq = r.kq; placed = placed; answer = Some (ended r.error placed) })) (rest placed r.kq)
 
@@ -122,7 +122,7 @@ pub call-ended : (views : Views) (owner room : ℕ) (cs : List Change) (kq next 
 unfolding call concluded by_answer
 call-ended views owner room cs kq next placed reply is = sym (ap (concluded views room) is)
 
-call-through : (views : Views) (owner room : ℕ) (cs : List Change) (kq next : Kqueue) (placed : List Kevent) → process views owner room cs [] kq ≡ record { kq = next; placed = placed; answer = None } → call views owner room cs kq ≡ by_entries views room placed next
+pub call-through : (views : Views) (owner room : ℕ) (cs : List Change) (kq next : Kqueue) (placed : List Kevent) → process views owner room cs [] kq ≡ record { kq = next; placed = placed; answer = None } → call views owner room cs kq ≡ by_entries views room placed next
 unfolding call concluded by_answer
 call-through views owner room cs kq next placed is = ap (concluded views room) is
 

@@ -5,3 +5,5 @@ pub mod SoundLaws
 pub mod RegisterLaws
 pub mod TurnLaws
 pub mod CallLaws
+pub mod TakenLaws
+pub mod AnswerLaws

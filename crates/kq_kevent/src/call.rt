@@ -1,5 +1,6 @@
 ghost use Rattle.std.specs.Prelude.{◌≡◌, IfOk, OnErr};
 ghost use Rattle.kq_model.specs.Call.{call};
+ghost use Rattle.kq_model.specs.CallLaws.{IsAnswer, kqueue_after_changes, IsChangesThenPoll};
 ghost use Rattle.kq_model.specs.Views.{Views};
 
 use crate::Kq;
@@ -13,6 +14,13 @@ impl Kq {
     pub fn call(&mut self, changes: &[Change], room: u32) -> Result<Reply, Memory>
         ensures called { IfOk result (λ reply. (views : Views) →
             record { kq = self.new.kq; reply = reply } ≡ call views self.old.owner room changes.now self.old.kq) }
+
+        // What the answer promises of the kqueue as the changes left it, and that a call whose
+        // changes are all quiet is these changes with room 0 and then a poll.
+        ensures answer { IfOk result (λ reply. (views : Views) →
+            IsAnswer views room (kqueue_after_changes views self.old.owner room changes.now self.old.kq) self.new.kq reply) }
+        ensures poll { (views : Views) → IsChangesThenPoll views self.old.owner room changes.now self.old.kq }
+
         ensures err { OnErr result (self.new.kq ≡ self.old.kq) }
         ensures owner { self.new.owner ≡ self.old.owner }
     {

@@ -90,7 +90,7 @@ impl Knotes {
         ensures { option_copied result ≡ find_knote key self.now.knotes }
     {
         let place = self.find(key)?;
-        Some(&self.items[place])
+        Some(self.at(place))
     }
 
     /// The knote at a place.

@@ -1,10 +1,13 @@
-use Rattle.std.proofs.Common.{vec_len, Vec, Global, ◌≡◌, List, Some, None, sym, ap, ◌∙◌, arith}
+use Rattle.std.proofs.Common.{subst, vec_len, Vec, Global, ◌≡◌, List, Some, None, sym, ap, ◌∙◌, arith}
 use Rattle.std.proofs.lemmas.Bool.{eqb-true, eqb-false}
 use Rattle.std.proofs.lemmas.List.{nil_from_length}
 use Rattle.kq_model.specs.declared.kevent.Kevent.{Kevent}
 use Rattle.kq_model.specs.declared.reply.Reply.TheVariants.{Events}
-use Rattle.kq_model.specs.Call.{ended}
+use Rattle.kq_model.specs.Call.{Called, ended}
+use Rattle.kq_model.specs.CallLaws.{IsAnswer, kqueue_after_changes}
+use Rattle.kq_model.specs.Kqueue.{IsSound}
 use Rattle.kq_kevent.specs.Held.{Held}
+use Rattle.kq_kevent.proofs.AnswerLaws.{call-answer, changes_then_poll}
 use Rattle.kq_kevent.proofs.CallLaws.{called, call-fails, call-full, call-entries, call-retrieves, process-from}
 use Rattle.kq_kevent.proofs.kq.Kq.call.Goals as goal
 use Rattle.kq_kevent.proofs.kq.Kq.call.Goals.{then-is_empty, else-is_empty}
@@ -47,3 +50,39 @@ returns-after-is_empty-clause-called c = λ views.
           ∙ call-entries views c.args.self.now.owner c.args.room c.args.changes.now c.args.self.now.kq c.process.new.self.kq items is
           (λ zero. eqb-false (vec_len c.process.new.placed) 0 (sym c.is_empty.ensures ∙ w.if-is_empty.false) (omega (arith, c.process.new.placed.ok.0, zero)))
     ]
+
+pub returns-in-Ended-Some-clause-answer : goal.returns-in-Ended-Some-clause-answer
+returns-in-Ended-Some-clause-answer c = λ views.
+    let sound = subst IsSound (ap (λ (v : Held). v.kq) c.self.view_is ∙ c.in_ok-reserve.ensures.kq) c.self.invariant.sound in
+    subst (λ (x : Called). IsAnswer views c.args.room (kqueue_after_changes views c.args.self.now.owner c.args.room c.args.changes.now c.args.self.now.kq) x.kq x.reply)
+    (sym (returns-in-Ended-Some-clause-called c views))
+    (call-answer views c.args.self.now.owner c.args.room c.args.changes.now c.args.self.now.kq sound)
+
+pub returns-in-Ended-None-clause-answer : goal.returns-in-Ended-None-clause-answer
+returns-in-Ended-None-clause-answer c = λ views.
+    let sound = subst IsSound (ap (λ (v : Held). v.kq) c.self.view_is ∙ c.in_ok-reserve.ensures.kq) c.self.invariant.sound in
+    subst (λ (x : Called). IsAnswer views c.args.room (kqueue_after_changes views c.args.self.now.owner c.args.room c.args.changes.now c.args.self.now.kq) x.kq x.reply)
+    (sym (returns-in-Ended-None-clause-called c views))
+    (call-answer views c.args.self.now.owner c.args.room c.args.changes.now c.args.self.now.kq sound)
+
+pub returns-after-is_empty-clause-answer : goal.returns-after-is_empty-clause-answer
+returns-after-is_empty-clause-answer c = λ views.
+    let sound = subst IsSound (ap (λ (v : Held). v.kq) c.self.view_is ∙ c.in_ok-reserve.ensures.kq) c.self.invariant.sound in
+    subst (λ (x : Called). IsAnswer views c.args.room (kqueue_after_changes views c.args.self.now.owner c.args.room c.args.changes.now c.args.self.now.kq) x.kq x.reply)
+    (sym (returns-after-is_empty-clause-called c views))
+    (call-answer views c.args.self.now.owner c.args.room c.args.changes.now c.args.self.now.kq sound)
+
+pub returns-in-Ended-Some-clause-poll : goal.returns-in-Ended-Some-clause-poll
+returns-in-Ended-Some-clause-poll c = λ views. changes_then_poll views c.args.self.now.owner c.args.room c.args.changes.now c.args.self.now.kq
+
+pub returns-in-Ended-None-clause-poll : goal.returns-in-Ended-None-clause-poll
+returns-in-Ended-None-clause-poll c = λ views. changes_then_poll views c.args.self.now.owner c.args.room c.args.changes.now c.args.self.now.kq
+
+pub returns-after-is_empty-clause-poll : goal.returns-after-is_empty-clause-poll
+returns-after-is_empty-clause-poll c = λ views. changes_then_poll views c.args.self.now.owner c.args.room c.args.changes.now c.args.self.now.kq
+
+pub returns-in_err-reserve-clause-poll : goal.returns-in_err-reserve-clause-poll
+returns-in_err-reserve-clause-poll c = λ views. changes_then_poll views c.args.self.now.owner c.args.room c.args.changes.now c.args.self.now.kq
+
+pub returns-in_err-events-clause-poll : goal.returns-in_err-events-clause-poll
+returns-in_err-events-clause-poll c = λ views. changes_then_poll views c.args.self.now.owner c.args.room c.args.changes.now c.args.self.now.kq
