@@ -11,6 +11,8 @@ mod replaying;
 mod report;
 mod running;
 mod system;
+#[cfg(test)]
+mod tests;
 mod workers;
 
 use command_line::parse_words;

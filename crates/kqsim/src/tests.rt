@@ -1,0 +1,3 @@
+mod library;
+mod program;
+mod streams;

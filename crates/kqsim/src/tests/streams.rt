@@ -1,0 +1,181 @@
+//! What happens where a reader or a writer fails midway.
+use super::program::{REPORT, STORED, replay_of};
+use crate::fault::Fault;
+use crate::input::read_in;
+use crate::output::write_out;
+use crate::running::run_order;
+use std::io;
+use std::io::{ErrorKind, Read, Write};
+use std::test::Fail;
+
+/// Gives one byte a read, and fails once it was read so often.
+#[derive(Drop)]
+struct Halting<'a> {
+    bytes: &'a [u8],
+    reads: u32,
+    kind: ErrorKind,
+}
+
+impl Read for Halting<'_> {
+    fn read(&mut self, buf: &mut [u8]) -> io::Result<usize> {
+        if self.reads == 0 {
+            return Err(io::Error::from(self.kind));
+        }
+        self.reads -= 1;
+        if self.bytes.is_empty() || buf.is_empty() {
+            return Ok(0);
+        }
+        buf[0] = self.bytes[0];
+        self.bytes = &self.bytes[1..];
+        Ok(1)
+    }
+}
+
+/// Takes one byte a write, and once it was written so often fails, or takes nothing more.
+#[derive(Drop)]
+struct Narrow {
+    got: Vec<u8>,
+    writes: u32,
+    kind: Option<ErrorKind>,
+}
+
+impl Write for Narrow {
+    fn write(&mut self, buf: &[u8]) -> io::Result<usize> {
+        if self.writes == 0 {
+            return match self.kind {
+                Some(kind) => Err(io::Error::from(kind)),
+                None => Ok(0),
+            };
+        }
+        self.writes -= 1;
+        if buf.is_empty() {
+            return Ok(0);
+        }
+        self.got
+            .push(buf[0])
+            .map_err(|_| io::Error::from(ErrorKind::OutOfMemory))?;
+        Ok(1)
+    }
+
+    fn flush(&mut self) -> io::Result<()> {
+        Ok(())
+    }
+}
+
+fn taking(rt: &HostRuntime, writes: u32, kind: Option<ErrorKind>) -> Narrow {
+    Narrow {
+        got: Vec::new(rt.alloc()),
+        writes,
+        kind,
+    }
+}
+
+fn giving(bytes: &[u8], reads: u32) -> Halting<'_> {
+    Halting {
+        bytes,
+        reads,
+        kind: ErrorKind::Other,
+    }
+}
+
+#[test]
+fn a_limit_bounds_what_is_read(rt: HostRuntime) -> Result<(), Fail> {
+    let mut four = giving(b"abcd", 9);
+    assert_eq!(rt;
+        read_in(rt.alloc(), &mut four, 4)?.as_slice(),
+        b"abcd".as_slice()
+    );
+    let mut five = giving(b"abcde", 9);
+    assert!(rt; matches!(read_in(rt.alloc(), &mut five, 4), Err(Fault::Read)));
+    Ok(())
+}
+
+#[test]
+fn a_failed_read_is_a_fault(rt: HostRuntime) {
+    for reads in 0..5 {
+        let mut failing = giving(b"abcd", reads);
+        assert!(rt; matches!(read_in(rt.alloc(), &mut failing, 9), Err(Fault::Read)));
+        let mut interrupted = Halting {
+            bytes: b"abcd",
+            reads,
+            kind: ErrorKind::Interrupted,
+        };
+        assert!(rt; matches!(read_in(rt.alloc(), &mut interrupted, 9), Err(Fault::Read)));
+    }
+}
+
+#[test]
+fn a_failed_write_leaves_a_prefix(rt: HostRuntime) {
+    let report = b"{\"calls\":0,\"events\":0,\"records\":0}\n";
+    let mut out = taking(&rt, 5, Some(ErrorKind::Other));
+    assert!(rt; matches!(write_out(report, &mut out), Err(Fault::Write)));
+    assert_eq!(rt; out.got.as_slice(), b"{\"cal".as_slice());
+    let mut full = taking(&rt, 2, None);
+    assert!(rt; matches!(write_out(report, &mut full), Err(Fault::Write)));
+    assert_eq!(rt; full.got.as_slice(), b"{\"".as_slice());
+    let mut interrupted = taking(&rt, 0, Some(ErrorKind::Interrupted));
+    assert!(rt; matches!(write_out(report, &mut interrupted), Err(Fault::Write)));
+    assert_eq!(rt; interrupted.got.len(), 0);
+    let mut whole = taking(&rt, 35, None);
+    assert!(rt; matches!(write_out(report, &mut whole), Ok(())));
+    assert_eq!(rt; whole.got.as_slice(), report.as_slice());
+}
+
+#[test]
+fn an_order_ends_with_the_status_of_its_fault(rt: HostRuntime) -> Result<(), Fail> {
+    let order = replay_of(&rt, 2, "-")?;
+    let mut err = taking(&rt, 1000, None);
+    let mut out = taking(&rt, 1000, None);
+    let stored = STORED.as_bytes();
+    assert_eq!(rt;
+        run_order(&rt, &order, &mut giving(stored, 1000), &mut out, &mut err),
+        0
+    );
+    assert_eq!(rt; out.got.as_slice(), REPORT.as_bytes());
+    assert_eq!(rt; err.got.len(), 0);
+    let mut out = taking(&rt, 1000, None);
+    assert_eq!(rt;
+        run_order(&rt, &order, &mut giving(stored, 20), &mut out, &mut err),
+        3
+    );
+    assert_eq!(rt; out.got.len(), 0);
+    assert_eq!(rt;
+        err.got.as_slice(),
+        b"kqsim: cannot read the trace\n".as_slice()
+    );
+    let mut err = taking(&rt, 1000, None);
+    let cut = &stored[..20];
+    assert_eq!(rt;
+        run_order(&rt, &order, &mut giving(cut, 1000), &mut out, &mut err),
+        4
+    );
+    assert_eq!(rt; err.got.as_slice(), b"kqsim: line 2: Json\n".as_slice());
+    assert_eq!(rt; out.got.len(), 0);
+    Ok(())
+}
+
+#[test]
+fn a_wrong_number_is_refused_before_reading(rt: HostRuntime) -> Result<(), Fail> {
+    let order = replay_of(&rt, 257, "-")?;
+    let mut reader = giving(STORED.as_bytes(), 0);
+    let mut out = taking(&rt, 1000, None);
+    let mut err = taking(&rt, 0, None);
+    assert_eq!(rt; run_order(&rt, &order, &mut reader, &mut out, &mut err), 2);
+    assert_eq!(rt; out.got.len(), 0);
+    Ok(())
+}
+
+#[test]
+fn a_full_output_is_told(rt: HostRuntime) -> Result<(), Fail> {
+    let order = replay_of(&rt, 1, "-")?;
+    let mut reader = giving(STORED.as_bytes(), 1000);
+    let mut out = taking(&rt, 9, None);
+    let mut err = taking(&rt, 1000, None);
+    assert_eq!(rt; run_order(&rt, &order, &mut reader, &mut out, &mut err), 7);
+    assert_eq!(rt; out.got.as_slice(), b"{\"at\":3,\"".as_slice());
+    assert_eq!(rt;
+        err.got.as_slice(),
+        b"kqsim: cannot write the report\n".as_slice()
+    );
+    Ok(())
+}
