@@ -24,6 +24,7 @@ fn user(ident: u64) -> Knote {
 }
 
 #[test]
+#[tactic(auto, unfolding(kq_model::specs::Knote::find_knote))]
 fn an_attached_knote_is_got(rt: HostRuntime) -> Result<(), Fail> {
     let mut knotes = Knotes::new(rt.alloc());
     knotes.reserve(1).map_err(|_| "memory")?;
