@@ -10,7 +10,7 @@ pub enum TraceError {
     #[error("out of memory")]
     Memory,
     /// A line is bad: the first such line, counted from 1, and the first fault that it has.
-    #[error("line {line}: bad line")]
+    #[error("line {line}: {name}", name = .fault.name())]
     Bad { line: u64, fault: LineFault },
 }
 

@@ -16,6 +16,3 @@ mod write;
 pub use fault::TraceError;
 pub use read::read_trace;
 pub use write::write_trace;
-
-#[cfg(test)]
-mod tests;

@@ -48,7 +48,10 @@ fn run_words(rt: &HostRuntime) -> Result<u8, Fault> {
     if file.as_str() == "-" {
         return Ok(run_order(rt, &order, &mut rt.stdin(), &mut out, &mut err));
     }
-    let mut reader = File::open(rt, file.as_str()).map_err(|_| Fault::Read)?;
+    let mut reader = File::open(rt, file.as_str()).map_err(|error| match error.kind() {
+        ErrorKind::OutOfMemory => Fault::Memory,
+        _ => Fault::Read,
+    })?;
     Ok(run_order(rt, &order, &mut reader, &mut out, &mut err))
 }
 

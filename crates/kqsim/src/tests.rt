@@ -1,3 +1,4 @@
 mod library;
 mod program;
 mod streams;
+mod text;

@@ -1,5 +1,6 @@
-use crate::{TraceError, read_trace, write_trace};
+//! The text of a trace: read, written, and refused.
 use kq_model::LineFault;
+use kq_trace::{TraceError, read_trace, write_trace};
 use std::test::Fail;
 
 const TEXT: &[u8] =
