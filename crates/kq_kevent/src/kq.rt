@@ -1,4 +1,4 @@
-ghost use Rattle.std.specs.Prelude.{◌≡◌, ◌≤◌, OnOk};
+ghost use Rattle.std.specs.Prelude.{◌≡◌, ◌<◌, ◌≤◌, OnOk, OnErr};
 ghost use Rattle.kq_model.specs.Kqueue.{empty_kqueue};
 
 use crate::queue::Queue;
@@ -51,6 +51,9 @@ impl Kq {
         ensures owner { self.new.owner ≡ self.old.owner }
         ensures room { OnOk result (changes ≤ self.new.room) }
         ensures kept { self.old.room ≤ self.new.room }
+
+        // Memory comes only where the room was missing.
+        ensures err { OnErr result (self.old.room < changes) }
     {
         self.knotes.reserve(changes)?;
         let waiting = self.queue.len();

@@ -1,4 +1,4 @@
-ghost use Rattle.std.specs.Prelude.{◌≡◌, ◌<◌, ◌≤◌, ◌+◌, ◌++◌, ◌∷◌, [], not, length, OnOk, MatchOption};
+ghost use Rattle.std.specs.Prelude.{◌≡◌, ◌<◌, ◌≤◌, ◌+◌, ◌++◌, ◌∷◌, [], not, length, OnOk, OnErr, MatchOption};
 ghost use Rattle.kq_model.specs.Knote.{key_eq, without_key};
 
 use kq_model::{Key, Memory};
@@ -45,6 +45,7 @@ impl Queue {
         ensures keys { self.new.keys ≡ self.old.keys }
         ensures capacity { OnOk result (length self.old.keys + more ≤ self.new.capacity) }
         ensures kept { self.old.capacity ≤ self.new.capacity }
+        ensures err { OnErr result (self.old.capacity < length self.old.keys + more) }
     {
         self.keys.reserve(more).map_err(|_| Memory)
     }

@@ -55,6 +55,8 @@ impl Knotes {
         ensures knotes { self.new.knotes ≡ self.old.knotes }
         ensures room { OnOk result (more ≤ self.new.room) }
         ensures kept { self.old.room ≤ self.new.room }
+        // Memory comes only where the room was missing.
+        ensures err { OnErr result (self.old.room < more) }
         ensures fits { OnOk result (length self.old.knotes + more < 2 ^ 64) }
     {
         self.items.reserve(more).map_err(|_| Memory)

@@ -13,10 +13,9 @@ use Rattle.kq_kevent.proofs.kq.Kq.retrieve.Goals.{in-Some, in_default}
 
 pub loop-turn-init : goal.loop-turn-init
 loop-turn-init c =
-    let all = c.len-turn-end.ensures ∙ ap (λ (v : Held). length v.kq.queue) c.self.view_is in
     let none = ap (length {A = Kevent}) c.requires.none in
     record {
-      so_far = λ views. loop_start views c.args.room c.len-turn-end.result c.args.self.now.kq c.args.events.now.items c.requires.none all;
+      so_far = λ views. loop_start views c.args.room (length c.args.self.now.kq.queue) c.args.self.now.kq c.args.events.now.items c.requires.none refl;
       left = omega arith;
       in_room = omega arith;
       no_more = omega arith;
@@ -26,13 +25,14 @@ loop-turn-init c =
 
 pub returns-then-len-room-clause-retrieved : goal.returns-then-len-room-clause-retrieved
 returns-then-len-room-clause-retrieved c = λ views.
-    loop_full views (retrieval views c.args.room c.args.self.now.kq) c.loop-turn.events.items (c.len-turn-end.result - c.loop-turn._turn) (c.args.room - length c.loop-turn.events.items) c.loop-turn.self.kq (c.loop-turn.invariant.so_far views) (omega (arith, c.loop-turn.events.ok.0))
+    loop_full views (retrieval views c.args.room c.args.self.now.kq) c.loop-turn.events.items (length c.args.self.now.kq.queue - c.loop-turn._turn) (c.args.room - length c.loop-turn.events.items) c.loop-turn.self.kq (c.loop-turn.invariant.so_far views) (omega (arith, c.loop-turn.events.ok.0))
 
 pub loop-turn-preserved : goal.loop-turn-preserved
 loop-turn-preserved c =
+    let turns = ap (λ (v : Held). length v.kq.queue) c.self.view_is in
     let before = c.loop-turn.events.items in
     let next = c.turn.new.self.kq in
-    let n = c.len-turn-end.result - (c.loop-turn._turn + 1) in
+    let n = length c.args.self.now.kq.queue - (c.loop-turn._turn + 1) in
     let shorter = length-turned nothing_seen c.loop-turn.self.kq in
     let same = ap (λ (q : Kqueue). length q.queue) (c.turn.ensures.kq nothing_seen) in
     let r : Views → Retrieved = λ views. retrieval views c.args.room c.args.self.now.kq in
@@ -42,7 +42,7 @@ loop-turn-preserved c =
           let longer : length c.match-turn.events.items ≡ length before + 1 = ap length pushed ∙ length_push before w.in-Some.event in
           record {
             so_far = λ views. subst (λ (es : List Kevent). r views ≡ preceded es (going views n (c.args.room - length c.match-turn.events.items) next)) (sym pushed)
-                (loop_delivers views (r views) before (c.len-turn-end.result - c.loop-turn._turn) (c.args.room - length before) n (c.args.room - length c.match-turn.events.items) c.loop-turn.self.kq next w.in-Some.event
+                (loop_delivers views (r views) before (length c.args.self.now.kq.queue - c.loop-turn._turn) (c.args.room - length before) n (c.args.room - length c.match-turn.events.items) c.loop-turn.self.kq next w.in-Some.event
                 (c.loop-turn.invariant.so_far views) (omega arith) (omega (arith, c.loop-turn.events.ok.0)) (omega arith) (c.turn.ensures.kq views) (w.in-Some.ensures.event views));
             left = omega arith;
             in_room = omega (arith, c.loop-turn.events.ok.0);
@@ -56,7 +56,7 @@ loop-turn-preserved c =
           let j = c.args.room - length before - 1 in
           record {
             so_far = λ views. subst (λ (es : List Kevent). r views ≡ preceded es (going views n (c.args.room - length c.match-turn.events.items) next)) (sym kept)
-                (loop_idle views (r views) before (c.len-turn-end.result - c.loop-turn._turn) (c.args.room - length before) n j c.loop-turn.self.kq next
+                (loop_idle views (r views) before (length c.args.self.now.kq.queue - c.loop-turn._turn) (c.args.room - length before) n j c.loop-turn.self.kq next
                 (c.loop-turn.invariant.so_far views) (omega arith) (omega (arith, c.loop-turn.events.ok.0)) (omega arith) (c.turn.ensures.kq views) (w.in_default.ensures.event views)
                 ∙ ap (λ m. preceded before (going views n m next)) (let e : suc j ≡ c.args.room - length c.match-turn.events.items = omega (arith, c.loop-turn.events.ok.0) in e));
             left = omega arith;
@@ -69,4 +69,5 @@ loop-turn-preserved c =
 
 pub returns-clause-retrieved : goal.returns-clause-retrieved
 returns-clause-retrieved c = λ views.
-    loop_done views (retrieval views c.args.room c.args.self.now.kq) c.loop-turn.events.items (c.len-turn-end.result - c.loop-turn._turn) (c.args.room - length c.loop-turn.events.items) c.loop-turn.self.kq (c.loop-turn.invariant.so_far views) (omega arith)
+    let turns = ap (λ (v : Held). length v.kq.queue) c.self.view_is in
+    loop_done views (retrieval views c.args.room c.args.self.now.kq) c.loop-turn.events.items (length c.args.self.now.kq.queue - c.loop-turn._turn) (c.args.room - length c.loop-turn.events.items) c.loop-turn.self.kq (c.loop-turn.invariant.so_far views) (omega arith)

@@ -7,8 +7,8 @@ use Rattle.kq_kevent.proofs.kq.Kq.retrieve.Given as goal
 
 abbrev pub invariant-loop-turn : goal.invariant-loop-turn
 invariant-loop-turn l = record {
-  so_far : (views : Views) → retrieval views l.room l.initial.self.kq ≡ preceded l.events.items (going views (l._turn-end - l._turn) (l.room - length l.events.items) l.self.kq);
-  left : l._turn-end - l._turn ≤ length l.self.kq.queue;
+  so_far : (views : Views) → retrieval views l.room l.initial.self.kq ≡ preceded l.events.items (going views (length l.initial.self.kq.queue - l._turn) (l.room - length l.events.items) l.self.kq);
+  left : length l.initial.self.kq.queue - l._turn ≤ length l.self.kq.queue;
   in_room : length l.events.items ≤ l.room;
   no_more : length l.events.items ≤ l._turn;
   capacity : vec_capacity l.events ≡ vec_capacity l.initial.events;
