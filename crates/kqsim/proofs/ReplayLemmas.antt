@@ -1,5 +1,5 @@
 -- The headline, from what reading, running and writing promise.
-use Rattle.std.proofs.Common.{◌≡◌, ◌∙◌, ℕ, List, length, refl, sym, ap, ap₂}
+use Rattle.std.proofs.Common.{◌≡◌, ◌∙◌, ℕ, List, length, ap, ap₂}
 use Rattle.kq_model.specs.declared.event.Event.{Event}
 use Rattle.kq_model.specs.declared.row.Row.{Row}
 use Rattle.kq_model.specs.Reading.{Good, reading}

@@ -1,9 +1,8 @@
 -- One step of the system by its plan, and a call in the table of live kqueues.
-use Rattle.std.proofs.Common.{◌≡◌, ◌∙◌, ◌+◌, ◌<◌, ◌≤◌, ◌==◌, ℕ, Bool, true, false, nat_eq, List, [], ◌∷◌, ◌++◌, map, Option, None, Some, refl, sym, ap, ap₂, subst, cond, arith, append-nil, append_assoc, add-one, drop, drop-cons, drop_of_length-le, get_or, length, if◌then◌else◌}
+use Rattle.std.proofs.Common.{◌≡◌, ◌∙◌, ◌+◌, ◌<◌, ◌≤◌, ℕ, Bool, true, false, nat_eq, List, [], ◌∷◌, ◌++◌, map, Option, None, Some, refl, sym, ap, ap₂, subst, cond, arith, append-nil, append_assoc, add-one, drop, drop-cons, drop_of_length-le, get_or, length}
 use Rattle.std.specs.List.{IsDistinct, AllByRecursion}
 use Rattle.std.specs.Map.{lookup, keys_of, set_value}
 use Rattle.std.proofs.lemmas.Bool.Decides.{nat_tests}
-use Rattle.std.proofs.lemmas.List.{map-append}
 use Rattle.kq_model.specs.declared.event.Event.{Event}
 use Rattle.kq_model.specs.declared.reply.Reply.{Reply}
 use Rattle.kq_model.specs.declared.row.Row.{Row}
@@ -13,8 +12,7 @@ use Rattle.kq_model.specs.Call as kevent
 use Rattle.kq_model.specs.Kqueue.{Kqueue, empty_kqueue}
 use Rattle.kq_model.specs.Views.{Views}
 use Rattle.kq_model.specs.System.{Live, Moment, System, answer, born, called_on, empty_system, kqueue_after, kqueue_step, moment_of, reply_to, row_of, rows, rows_after, step, step_by, stepped}
-use Rattle.kq_model.specs.World.{Call, Impossible, Pair, Plan, Planned, Possible, World, carried_out, idle, plan, views_of, with_kqueue, with_process}
-use Rattle.kq_kevent.specs.Held.{Held}
+use Rattle.kq_model.specs.World.{Call, Impossible, Plan, Planned, Possible, World, carried_out, idle, plan, views_of, with_kqueue, with_process}
 use Rattle.kqsim.specs.Kept.{AreUpTo, IsCalled, IsStep, Numbered, live_of}
 
 -- ---- steps by their plans

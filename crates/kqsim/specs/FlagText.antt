@@ -1,5 +1,5 @@
 -- The text of a list of flag names, written flag by flag.
-use Rattle.std.specs.Prelude.{ℕ, Bool, true, false, List, [], ◌∷◌, ◌++◌, map, if◌then◌else◌}
+use Rattle.std.specs.Prelude.{ℕ, Bool, true, List, [], ◌∷◌, ◌++◌, map, if◌then◌else◌}
 use Rattle.bitflags.specs.declared.traits.Flag.{Flag}
 use Rattle.kq_model.specs.declared.event_flags.EvFlags.{EvFlags}
 use Rattle.kq_model.specs.Bits.{asks}

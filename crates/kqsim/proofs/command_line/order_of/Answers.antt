@@ -1,8 +1,8 @@
-use Rattle.std.proofs.Common.{◌≡◌, ◌∙◌, ℕ, List, Option, Some, None, Result, Ok, Err, rules, refl, sym, ap, subst, codes, option_map}
+use Rattle.std.proofs.Common.{◌≡◌, ◌∙◌, ℕ, List, Option, Some, None, Result, rules, refl, sym, ap, subst, codes, option_map}
 use Rattle.std.specs.Prelude.{IfSome, string_bytes}
 use Rattle.std.specs.Borrow.{Bor}
 use Rattle.std.specs.Str.Parse.{ExplainsUnsignedError, HasUnsignedDigitsIfOk, ParsesUnsigned}
-use Rattle.clap.specs.Words.{ReadsOne, Row, Text, first_of, first_value, found_of, one_of, one_text, rows_of, subcommand_rows_of}
+use Rattle.clap.specs.Words.{ReadsOne, Row, Text, first_of, found_of, one_of, one_text, rows_of, subcommand_rows_of}
 use Rattle.clap.proofs.WalkLemmas.{first_value-rows, one_text-rows}
 use Rattle.kqsim.specs.CommandLine.{file_in, number_in, workers_in}
 use Rattle.kqsim.proofs.command_line.order_of.Goals as goal

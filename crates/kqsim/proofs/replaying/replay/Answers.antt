@@ -2,7 +2,6 @@ use Rattle.std.proofs.Common.{◌≡◌, ◌∙◌, IfOk, rules}
 use Rattle.std.proofs.lemmas.Result.{IfOk-weaker}
 use Rattle.kq_model.specs.Report.{report}
 use Rattle.kq_model.specs.System.{rows}
-use Rattle.kqsim.specs.Replay.{IsReport}
 use Rattle.kqsim.proofs.ReplayLemmas.{whole}
 use Rattle.kqsim.proofs.replaying.replay.Goals as goal
 

@@ -1,5 +1,4 @@
-use Rattle.std.proofs.Common.{◌≡◌, ◌∙◌, ◌++◌, [], rules, arith, sym, ap, append-nil}
-use Rattle.kq_model.specs.Report.{row_lines}
+use Rattle.std.proofs.Common.{◌∙◌, ◌++◌, rules, arith, sym, ap, append-nil}
 use Rattle.kqsim.proofs.ReportLines.{row_taken, calls_taken, events_taken, row_lines-end, call_count-end, event_count-end, report-is}
 use Rattle.kqsim.proofs.report.report_text.Goals as goal
 

@@ -1,6 +1,5 @@
-use Rattle.std.proofs.Common.{◌≡◌, ◌∙◌, ◌++◌, true, false, rules, sym, ap}
+use Rattle.std.proofs.Common.{◌∙◌, ◌++◌, sym, ap}
 use Rattle.std.proofs.lemmas.Result.{IfOk-weaker}
-use Rattle.kq_model.specs.Bits.{asks}
 use Rattle.kqsim.proofs.FlagTextLemmas.{name_taken, name_left, names_ended}
 use Rattle.kqsim.proofs.report.event.put_flags.Goals as goal
 use Rattle.kqsim.proofs.report.event.put_flags.Goals.{then-contains+in_ok-put_name, else-contains}

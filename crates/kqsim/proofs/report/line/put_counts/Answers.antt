@@ -1,6 +1,4 @@
-use Rattle.std.proofs.Common.{refl}
 use Rattle.std.proofs.lemmas.Result.{on_ok_weaker}
-use Rattle.kqsim.specs.Adds.{Adds}
 use Rattle.kqsim.proofs.Appends.{and_then, as_text}
 use Rattle.kqsim.proofs.ReportLines.{last_line-is}
 use Rattle.kqsim.proofs.report.line.put_counts.Goals as goal

@@ -1,16 +1,12 @@
-use Rattle.std.proofs.Common.{◌≡◌, ◌∙◌, ◌⊎◌, ◌<◌, ◌≤◌, ℕ, Some, None, map, length, sym, ap, subst, IfOk}
+use Rattle.std.proofs.Common.{◌≡◌, ◌∙◌, Some, map, length, sym, subst}
 use Rattle.std.proofs.lemmas.Result.{IfOk-weaker}
 use Rattle.kq_model.specs.declared.event.Event.{Event}
 use Rattle.kq_model.specs.declared.event.Event.TheVariants.{Kevent}
-use Rattle.kq_model.specs.declared.object.Named.TheVariants as named
 use Rattle.kq_model.specs.declared.reply.Reply.TheVariants as reply
-use Rattle.kq_model.specs.declared.why.Why.{Why}
 use Rattle.kq_model.specs.declared.why.Why.TheVariants.{NoProcess, NoDescriptor, TooMany}
-use Rattle.kq_model.specs.Limits.{most_changes, most_room}
 use Rattle.kq_model.specs.System.{System}
-use Rattle.kq_model.specs.Views.{Views}
 use Rattle.kq_model.specs.World.{Call, Possible, idle, plan}
-use Rattle.kqsim.specs.Kept.{IsCalled, IsStep, Running, live_of}
+use Rattle.kqsim.specs.Kept.{IsStep, Running, live_of}
 use Rattle.kqsim.proofs.PlanLemmas.{kevent_no_process, kevent_no_descriptor, kevent_too_many, kevent_calls, too_many, not_too_many}
 use Rattle.kqsim.proofs.SystemLemmas.{impossible, called}
 use Rattle.kqsim.proofs.system.System.call.Goals as goal

@@ -1,7 +1,6 @@
-use Rattle.std.proofs.Common.{◌≡◌, ◌∙◌, ◌++◌, ◌∷◌, [], ℕ, List, Option, Some, None, Bool, true, false, nat_eq, le_refl, arith, ◌<◌, refl, is_some, map, option_map, rules, sym, ap, subst}
+use Rattle.std.proofs.Common.{◌≡◌, ◌∙◌, ◌++◌, ◌∷◌, [], ℕ, List, Option, Some, None, nat_eq, le_refl, arith, ◌<◌, refl, is_some, map, option_map, sym, ap, subst}
 use Rattle.std.proofs.lemmas.List.{map-append}
 use Rattle.std.specs.Map.{lookup, keys_of}
-use Rattle.indexmap.specs.IndexMap.{insert_entry, keys}
 use Rattle.indexmap.proofs.CallerLemmas.{insert_entry-new}
 use Rattle.kq_model.specs.declared.event.Event.{Event}
 use Rattle.kq_model.specs.declared.event.Event.TheVariants.{Kqueue}

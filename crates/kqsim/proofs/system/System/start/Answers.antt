@@ -1,4 +1,4 @@
-use Rattle.std.proofs.Common.{◌≡◌, ◌∙◌, Some, map, sym, subst}
+use Rattle.std.proofs.Common.{◌∙◌, map, sym, subst}
 use Rattle.kq_model.specs.declared.event.Event.{Event}
 use Rattle.kq_model.specs.declared.event.Event.TheVariants.{Proc}
 use Rattle.kq_model.specs.declared.reply.Reply.TheVariants as reply

@@ -1,4 +1,4 @@
-use Rattle.std.proofs.Common.{◌≡◌, ◌∙◌, ◌+◌, ◌++◌, rules, sym, ap}
+use Rattle.std.proofs.Common.{◌∙◌, ◌+◌, ◌++◌, ap}
 use Rattle.kq_model.specs.System.{rows, rows_after}
 use Rattle.kqsim.proofs.SystemLemmas.{rows-begin, kept_row, rows-end}
 use Rattle.kqsim.proofs.system.fold.run.Goals as goal

@@ -1,4 +1,4 @@
-use Rattle.std.proofs.Common.{◌≡◌, ◌∙◌, ℕ, List, map, Some, nat_eq, rules, sym, ap, ap₂}
+use Rattle.std.proofs.Common.{◌≡◌, ◌∙◌, List, map, Some, nat_eq, rules, sym, ap, ap₂}
 use Rattle.indexmap.specs.IndexSet.{insert_key}
 use Rattle.kq_model.specs.World.{World, Descriptor, Process, with_process}
 use Rattle.kqsim.specs.Kept.{descriptor_of, process_of}
