@@ -22,3 +22,17 @@ pub mod Report
 pub mod CallLaws
 pub mod Ticks
 pub mod TimerWalk
+pub mod NoteBits
+pub mod Books
+pub mod Sockets
+pub mod Pipes
+pub mod Files
+pub mod Objects
+pub mod SocketSteps
+pub mod PipeSteps
+pub mod ObjectPlan
+pub mod SocketPlans
+pub mod PipePlans
+pub mod FilePlans
+pub mod Planning
+pub mod Holding
