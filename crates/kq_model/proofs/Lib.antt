@@ -24,3 +24,4 @@ pub mod TimerWalkSort
 pub mod TimerWalkTickers
 pub mod ChangeLines
 pub mod Spelled
+pub mod CountedObjects

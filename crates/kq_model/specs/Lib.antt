@@ -33,3 +33,17 @@ pub mod Moment
 pub mod System
 pub mod Tallied
 pub mod Report
+pub mod NoteBits
+pub mod Books
+pub mod Sockets
+pub mod Pipes
+pub mod Files
+pub mod Objects
+pub mod SocketSteps
+pub mod PipeSteps
+pub mod ObjectPlan
+pub mod SocketPlans
+pub mod PipePlans
+pub mod FilePlans
+pub mod Planning
+pub mod Holding

@@ -2,7 +2,9 @@
 //! definitions of the simulated system.
 #![tactic(auto)]
 
+mod act;
 mod change;
+mod doing;
 mod errno;
 mod event;
 mod event_flags;
@@ -11,14 +13,19 @@ mod kevent;
 mod key;
 mod line_fault;
 mod memory;
+mod mode;
+mod note;
 mod object;
 mod reply;
 mod row;
 mod series;
+mod side;
 mod trace;
 mod why;
 
+pub use act::Act;
 pub use change::Change;
+pub use doing::{DescriptionRecord, Doing, FileRecord, PipeRecord, SocketRecord};
 pub use errno::Errno;
 pub use event::Event;
 pub use event_flags::EvFlags;
@@ -27,9 +34,12 @@ pub use kevent::Kevent;
 pub use key::Key;
 pub use line_fault::LineFault;
 pub use memory::Memory;
+pub use mode::Mode;
+pub use note::Note;
 pub use object::{Hint, Named, Target, View};
 pub use reply::Reply;
 pub use row::Row;
 pub use series::Series;
+pub use side::Side;
 pub use trace::Trace;
 pub use why::Why;
