@@ -16,7 +16,14 @@ use Rattle.kq_model.specs.Hints.{takes, kept, is_exit, added, heard_by, unless_s
 use Rattle.kq_model.specs.Close.{closed}
 use Rattle.kq_model.specs.Clock.{clock_from, clocked}
 use Rattle.kq_model.specs.Descriptors.{named_among, is_before, with_descriptor, with_descriptors}
+use Rattle.kq_model.specs.Processes as processes
+use Rattle.kq_model.specs.Objects.{done, all_done, view_of, description_view}
+use Rattle.kq_model.specs.Sockets.{socket_view}
+use Rattle.kq_model.specs.Pipes.{pipe_view}
 use Rattle.kq_model.specs.World as world
+use Rattle.kq_model.specs.ProcessPlans.{plan_proc}
+use Rattle.kq_model.specs.DescriptorPlans.{on_named, on_descriptor, plan_kqueue, plan_call, plan_kevent}
+use Rattle.kq_model.specs.Plans.{plan}
 use Rattle.kq_model.specs.Moment.{moment_of, happened, called_at, after_call, kqueue_step}
 use Rattle.kq_model.specs.System as system
 use Rattle.kq_model.specs.Spelling.{natural, integer, flags_data, change_data, record_data, header_data, line_text, records_text, spelling}
@@ -35,7 +42,10 @@ unfolding serde_json_on_literals digits
     takes kept is_exit added heard_by unless_silent noticed if_there knotes_noticing queue_with queue_noticing queue_after_all notified
     closed clock_from clocked
     named_among is_before with_descriptor with_descriptors
-    world.was_used world.is_live world.named_by world.views_of world.plan_proc world.plan_kqueue world.plan_call world.plan_on world.plan_kevent world.plan world.with_process world.without_process world.with_kqueue world.clock_after world.carried_out
+    processes.was_used processes.is_live processes.process_of processes.ignored_by processes.with_process processes.without_process processes.disposed processes.with_disposition
+    done all_done view_of socket_view pipe_view description_view
+    world.named_by world.process_view world.view_in world.views_of world.with_kqueue world.clock_after world.carried_out
+    plan_proc on_named on_descriptor plan_kqueue plan_call plan_kevent plan
     moment_of happened called_at after_call kqueue_step
     system.stepped system.lived system.born system.answer system.reply_to system.kqueue_of system.step_by system.step system.row_of system.system_after system.rows_after system.rows_by system.rows
     natural integer flags_data change_data record_data header_data line_text records_text spelling

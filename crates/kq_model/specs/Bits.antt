@@ -49,6 +49,14 @@ flag_if holds flag flags = if holds then record { 0 = bit_or flags.0 flag } else
 abbrev pub exit_note : ℕ
 exit_note = 2 ^ 31
 
+-- NOTE_FORK
+abbrev pub fork_note : ℕ
+fork_note = 2 ^ 30
+
+-- NOTE_EXEC
+abbrev pub exec_note : ℕ
+exec_note = 2 ^ 29
+
 -- NOTE_TRACK
 abbrev pub track_note : ℕ
 track_note = 1

@@ -43,7 +43,7 @@ module _ {S : Type 0} {h : Hearing S} where
 
   -- the hints for this knote's target that its filter takes, in their order
   abbrev pub hints_for : Knote h → List Posted → List Hint
-  hints_for k posted = filter (takes k.key.filter) (map (λ p. p.hint) (filter (λ p. is_target k.target p.target) posted))
+  hints_for k posted = filter (takes k.key.filter) (map (λ (p : Posted). p.1) (filter (λ (p : Posted). is_target k.target p.0) posted))
 
   unfoldable pub added : Option Hint → Knote h → Knote h
   added None k = k

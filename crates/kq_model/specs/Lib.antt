@@ -27,12 +27,6 @@ pub mod Members
 pub mod ChangeText
 pub mod Reading
 pub mod Spelling
-pub mod Descriptors
-pub mod World
-pub mod Moment
-pub mod System
-pub mod Tallied
-pub mod Report
 pub mod NoteBits
 pub mod Books
 pub mod Sockets
@@ -47,3 +41,14 @@ pub mod PipePlans
 pub mod FilePlans
 pub mod Planning
 pub mod Holding
+pub mod Descriptors
+pub mod Processes
+pub mod World
+pub mod ProcessPlans
+pub mod DescriptorPlans
+pub mod ObjectRecordPlans
+pub mod Plans
+pub mod Moment
+pub mod System
+pub mod Tallied
+pub mod Report

@@ -9,7 +9,8 @@ use Rattle.kq_model.specs.Hints.{notified}
 use Rattle.kq_model.specs.Kqueue.{Kqueue}
 use Rattle.kq_model.specs.Targets.{Posted}
 use Rattle.kq_model.specs.Views.{Views}
-use Rattle.kq_model.specs.World.{World, Call, Plan, carried_out, views_of}
+use Rattle.kq_model.specs.Objects.{Keeping}
+use Rattle.kq_model.specs.World.{World, Call, Plan, carried_out, seen_world, views_of}
 
 pub record Moment : Type 0 where
   -- of the record in its trace
@@ -24,7 +25,7 @@ pub record Moment : Type 0 where
   pub views : Views
 
 -- the record at this place, whose plan is carried out in this world
-unfoldable pub moment_of : ℕ → ℕ → Plan → World → Moment
+unfoldable pub moment_of : {A B C D : Type 0} {k : Keeping A B C D} → ℕ → ℕ → Plan → World k → Moment
 moment_of version place p w = record {
   place = place;
   version = version;
@@ -32,7 +33,7 @@ moment_of version place p w = record {
   hints = p.hints;
   clock = p.clock;
   call = p.call;
-  views = views_of (carried_out place p w);
+  views = views_of (seen_world (carried_out place p w));
 }
 
 -- a process that calls at this moment

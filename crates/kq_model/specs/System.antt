@@ -9,7 +9,10 @@ use Rattle.kq_model.specs.Close.{Pair, has_pair}
 use Rattle.kq_model.specs.Hearing.{Hearing, listed}
 use Rattle.kq_model.specs.Kqueue.{Kqueue, empty_kqueue}
 use Rattle.kq_model.specs.Moment.{Moment, moment_of, called_at, kqueue_step}
-use Rattle.kq_model.specs.World.{World, empty_world, Call, Planned, Impossible, Possible, plan, carried_out}
+use Rattle.kq_model.specs.Objects as objects
+use Rattle.kq_model.specs.Objects.{Keeping}
+use Rattle.kq_model.specs.Plans.{plan}
+use Rattle.kq_model.specs.World.{World, empty_world, seen_world, Call, Planned, Impossible, Possible, carried_out}
 
 -- a kqueue by the place of its birth, with the process and the number that own it
 pub record Live {S : Type 0} (h : Hearing S) : Type 0 where
@@ -18,14 +21,15 @@ pub record Live {S : Type 0} (h : Hearing S) : Type 0 where
   pub number : ℕ
   pub kq : Kqueue h
 
--- the live kqueues stand by rising place of birth; the version is that of the trace's format
-pub record System {S : Type 0} (h : Hearing S) : Type 0 where
+-- the live kqueues stand by rising place of birth; the version is that of the trace's format;
+-- `h` says how what knotes heard is kept, `k` how objects are
+pub record System {S A B C D : Type 0} (h : Hearing S) (k : Keeping A B C D) : Type 0 where
   pub version : ℕ
-  pub world : World
+  pub world : World k
   pub live : List (Live h)
 
-pub record Stepped {S : Type 0} (h : Hearing S) : Type 0 where
-  pub system : System h
+pub record Stepped {S A B C D : Type 0} (h : Hearing S) (k : Keeping A B C D) : Type 0 where
+  pub system : System h k
   pub reply : Reply
   -- whose row this is: the kqueue of a call
   pub kqueue : Option ℕ
@@ -35,9 +39,6 @@ kqueue_of None = None
 kqueue_of (Some c) = Some c.kqueue
 
 module _ {S : Type 0} {h : Hearing S} where
-  abbrev pub empty_system : ℕ → System h
-  empty_system version = record { version = version; world = empty_world; live = [] }
-
   -- ---- the live kqueues
 
   unfoldable pub stepped : Moment → Live h → Live h
@@ -61,9 +62,13 @@ module _ {S : Type 0} {h : Hearing S} where
   reply_to m None live = reply.Done
   reply_to m (Some c) live = answer m c live
 
-  -- ---- one step
+-- ---- one step
 
-  unfoldable pub step_by : ℕ → Planned → System h → Stepped h
+module _ {S A B C D : Type 0} {h : Hearing S} {k : Keeping A B C D} where
+  abbrev pub empty_system : ℕ → System h k
+  empty_system version = record { version = version; world = empty_world k; live = [] }
+
+  unfoldable pub step_by : ℕ → Planned → System h k → Stepped h k
   step_by place (Impossible why) s = record { system = s; reply = reply.Impossible why; kqueue = None }
   step_by place (Possible p) s = record {
     system = record s {
@@ -74,10 +79,10 @@ module _ {S : Type 0} {h : Hearing S} where
     kqueue = kqueue_of p.call;
   }
 
-  unfoldable pub step : ℕ → Event → System h → Stepped h
-  step place e s = step_by place (plan e s.world) s
+  unfoldable pub step : ℕ → Event → System h k → Stepped h k
+  step place e s = step_by place (plan place e (seen_world s.world)) s
 
-  unfoldable pub system_after : ℕ → System h → List Event → System h
+  unfoldable pub system_after : ℕ → System h k → List Event → System h k
   system_after place s [] = s
   system_after place s (e ∷ es) = system_after (place + 1) (step place e s).system es
 
@@ -90,13 +95,13 @@ row_of place (reply.Events events) = record { at = place; reply = reply.Events e
 row_of place (reply.Failed e) = record { at = place; reply = reply.Failed e } ∷ []
 row_of place (reply.Impossible why) = record { at = place; reply = reply.Impossible why } ∷ []
 
-unfoldable pub rows_after : {S : Type 0} {h : Hearing S} → ℕ → System h → List Event → List Row
+unfoldable pub rows_after : {S A B C D : Type 0} {h : Hearing S} {k : Keeping A B C D} → ℕ → System h k → List Event → List Row
 rows_after place s [] = []
 rows_after place s (e ∷ es) = row_of place (step place e s).reply ++ rows_after (place + 1) (step place e s).system es
 
--- the rows, however what was heard is kept
-unfoldable pub rows_by : {S : Type 0} (h : Hearing S) → ℕ → List Event → List Row
-rows_by h version events = rows_after 1 (empty_system {h = h} version) events
+-- the rows, however what was heard and the objects are kept
+unfoldable pub rows_by : {S A B C D : Type 0} (h : Hearing S) (k : Keeping A B C D) → ℕ → List Event → List Row
+rows_by h k version events = rows_after 1 (empty_system {h = h} {k = k} version) events
 
 unfoldable pub rows : ℕ → List Event → List Row
-rows version events = rows_by listed version events
+rows version events = rows_by listed objects.listed version events

@@ -1,12 +1,14 @@
--- The definitions as the code has them: what was heard is kept as a tally. Each name is that of the
--- definition of which it is an instance.
+-- The definitions as the code has them: what was heard is kept as a tally, and of the objects the
+-- quantities. Each name is that of the definition of which it is an instance.
 use Rattle.kq_model.specs.Hearing.{tallying}
 use Rattle.kq_model.specs.Call as call
+use Rattle.kq_model.specs.Objects.{counted}
 use Rattle.kq_model.specs.Knote as knote
 use Rattle.kq_model.specs.Kqueue as kqueue
 use Rattle.kq_model.specs.Registration as registration
 use Rattle.kq_model.specs.Retrieval as retrieval
 use Rattle.kq_model.specs.System as system
+use Rattle.kq_model.specs.World as world
 
 abbrev pub Knote : Type 0
 Knote = knote.Knote tallying
@@ -35,8 +37,11 @@ Called = call.Called tallying
 abbrev pub Live : Type 0
 Live = system.Live tallying
 
+abbrev pub World : Type 0
+World = world.World counted
+
 abbrev pub System : Type 0
-System = system.System tallying
+System = system.System tallying counted
 
 abbrev pub Stepped : Type 0
-Stepped = system.Stepped tallying
+Stepped = system.Stepped tallying counted

@@ -39,9 +39,8 @@ target_of views owner _ ident = None
 -- ---- hints
 
 -- a hint for the knotes of a target
-pub record Posted : Type 0 where
-  pub target : Target
-  pub hint : Hint
+abbrev pub Posted : Type 0
+Posted = Target × Hint
 
 unfoldable pub target_eq : Target → Target → Bool
 target_eq (target.Socket a) (target.Socket b) = a == b
