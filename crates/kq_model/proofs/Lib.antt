@@ -25,3 +25,4 @@ pub mod TimerWalkTickers
 pub mod ChangeLines
 pub mod Spelled
 pub mod CountedObjects
+pub mod SeenWorld

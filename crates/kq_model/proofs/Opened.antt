@@ -42,7 +42,7 @@ unfolding serde_json_on_literals digits
     takes kept is_exit added heard_by unless_silent noticed if_there knotes_noticing queue_with queue_noticing queue_after_all notified
     closed clock_from clocked
     named_among is_before with_descriptor with_descriptors
-    processes.was_used processes.is_live processes.process_of processes.ignored_by processes.with_process processes.without_process processes.disposed processes.with_disposition
+    processes.was_used processes.is_live processes.process_of processes.ignored_by processes.with_start processes.with_process processes.without_process processes.with_disposition
     done all_done view_of socket_view pipe_view description_view
     world.named_by world.process_view world.view_in world.views_of world.with_kqueue world.clock_after world.carried_out
     plan_proc on_named on_descriptor plan_kqueue plan_call plan_kevent plan

@@ -15,7 +15,7 @@ use Rattle.kq_model.specs.Descriptors.{Descriptor}
 use Rattle.kq_model.specs.Holding.{hold_doings, release_all, release_hints}
 use Rattle.kq_model.specs.Limits.{most_signal}
 use Rattle.kq_model.specs.Objects.{counted}
-use Rattle.kq_model.specs.Processes.{was_used, is_live, process_of, ignored_by, ignores}
+use Rattle.kq_model.specs.Processes.{was_used, is_live, process_of, ignores_none, ignored_by}
 use Rattle.kq_model.specs.Targets.{Posted}
 use Rattle.kq_model.specs.World.{World, Planned, Impossible, Possible, idle}
 
@@ -52,7 +52,7 @@ noted pid note = (target.Process pid, hint.Note note)
 unfoldable pub plan_proc : ℕ → World counted → Planned
 plan_proc pid w =
     if was_used pid w.processes then Impossible UsedPid
-    else Possible (record idle { started = Some (record { pid = pid; ignored = [] }) })
+    else Possible (record idle { started = Some (record { pid = pid; ignores = ignores_none }) })
 
 unfoldable pub plan_fork : ℕ → ℕ → World counted → Planned
 plan_fork pid child w =
@@ -62,7 +62,7 @@ plan_fork pid child w =
       opened = inherited pid child w.table;
       doings = hold_all (names_of (inherited pid child w.table));
       hints = noted pid fork_note ∷ [];
-      started = Some (record { pid = child; ignored = ignored_by (process_of pid w.processes) });
+      started = Some (record { pid = child; ignores = ignored_by (process_of pid w.processes) });
     })
 
 unfoldable pub plan_exec : ℕ → World counted → Planned
@@ -105,7 +105,7 @@ unfoldable pub plan_sig : ℕ → ℕ → World counted → Planned
 plan_sig pid signal w =
     if not (is_live pid w.processes) then Impossible NoProcess
     else if not (is_signal signal) then Impossible TooMany
-    else Possible (record idle { hints = delivery pid signal (ignores pid signal w.processes) })
+    else Possible (record idle { hints = delivery pid signal (ignored_by (process_of pid w.processes) signal) })
 
 -- ---- the clock
 
