@@ -26,3 +26,6 @@ pub mod ChangeLines
 pub mod Spelled
 pub mod CountedObjects
 pub mod SeenWorld
+pub mod WorldPlayed
+pub mod WorldDescriptors
+pub mod WorldObjects
