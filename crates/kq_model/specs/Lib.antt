@@ -51,4 +51,5 @@ pub mod Plans
 pub mod Moment
 pub mod System
 pub mod Tallied
+pub mod Recast
 pub mod Report
