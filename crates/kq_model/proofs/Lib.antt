@@ -1,6 +1,10 @@
 pub mod ListLaws
 pub mod KeyLaws
 pub mod KnoteLaws
+pub mod Subjects
+pub mod SubjectsCall
+pub mod RegistrationLaws
+pub mod LiveKqueues
 pub mod RecastTally
 pub mod RecastKnote
 pub mod RecastRegistration

@@ -50,6 +50,9 @@ pub mod ObjectRecordPlans
 pub mod Plans
 pub mod Moment
 pub mod System
+pub mod Subjects
+pub mod RegistrationLaws
+pub mod LiveKqueues
 pub mod Tallied
 pub mod Recast
 pub mod Report

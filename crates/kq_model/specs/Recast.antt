@@ -1,6 +1,6 @@
 -- What was heard may be kept in more than one way. A map from one way to another that keeps all that the
 -- definitions ask of it takes knotes and kqueues of the one way to those of the other, and systems too.
-use Rattle.std.specs.Prelude.{◌≡◌, ℕ, Bool, List, map, length, min, Option}
+use Rattle.std.specs.Prelude.{◌≡◌, List, map, length, min}
 use Rattle.kq_model.specs.Hearing.{Hearing, Occurrence, Tally, listed, tallying, union, most_counted}
 use Rattle.kq_model.specs.Knote.{Knote}
 use Rattle.kq_model.specs.Kqueue.{Kqueue}
