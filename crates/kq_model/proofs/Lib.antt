@@ -12,6 +12,7 @@ pub mod RecastRetrieval
 pub mod RecastCall
 pub mod RecastMoment
 pub mod RecastSystem
+pub mod Tallied
 pub mod Opened
 pub mod Builders
 pub mod StoredRun

@@ -1,6 +1,8 @@
 -- What was heard may be kept in more than one way. A map from one way to another that keeps all that the
 -- definitions ask of it takes knotes and kqueues of the one way to those of the other, and systems too.
 use Rattle.std.specs.Prelude.{◌≡◌, List, map, length, min}
+use Rattle.kq_model.specs.declared.reply.Reply.{Reply}
+use Rattle.kq_model.specs.Call.{Called}
 use Rattle.kq_model.specs.Hearing.{Hearing, Occurrence, Tally, listed, tallying, union, most_counted}
 use Rattle.kq_model.specs.Knote.{Knote}
 use Rattle.kq_model.specs.Kqueue.{Kqueue}
@@ -56,3 +58,7 @@ tallied kq = recast_kqueue tallying tally_of kq
 
 abbrev pub tallied_system : System listed objects.listed → System tallying counted
 tallied_system s = recast_system tallying tally_of s
+
+-- the outcome of a call, in tallies, is this one
+abbrev pub IsTallied : Kqueue tallying → Reply → Called listed → Type 0
+IsTallied kq reply r = (kq ≡ tallied r.kq) × (reply ≡ r.reply)
