@@ -8,7 +8,6 @@ mod input;
 mod order;
 mod output;
 mod replaying;
-mod report;
 mod running;
 mod system;
 #[cfg(test)]

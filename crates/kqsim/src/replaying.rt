@@ -3,9 +3,9 @@ ghost use Rattle.kqsim.specs.Replay.{IsFault, IsReport};
 ghost use Rattle.kqsim.specs.Workers.{IsWorkerCount};
 
 use crate::fault::Fault;
-use crate::report::report_text;
 use crate::system::run;
 use crate::workers::is_worker_count;
+use kq_merge::report_text;
 use kq_trace::{TraceError, read_trace};
 
 /// The report of the trace that the bytes are, replayed by so many workers, 1 to 256; any other
