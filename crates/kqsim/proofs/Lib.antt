@@ -1,4 +1,1 @@
-pub mod WorldLemmas
-pub mod PlanLemmas
-pub mod SystemLemmas
 pub mod ReplayLemmas

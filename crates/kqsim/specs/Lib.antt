@@ -1,6 +1,5 @@
 pub mod Fault
 pub mod CommandLine
 pub mod Workers
-pub mod Kept
 pub mod Replay
 pub mod Run

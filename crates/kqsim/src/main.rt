@@ -9,7 +9,6 @@ mod order;
 mod output;
 mod replaying;
 mod running;
-mod system;
 #[cfg(test)]
 mod tests;
 mod workers;
