@@ -1,0 +1,3 @@
+pub mod WorldLemmas
+pub mod PlanLemmas
+pub mod SystemLemmas

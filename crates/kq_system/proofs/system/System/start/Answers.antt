@@ -1,0 +1,24 @@
+use Rattle.std.proofs.Common.{◌∙◌, map, sym, subst}
+use Rattle.kq_model.specs.declared.event.Event.{Event}
+use Rattle.kq_model.specs.declared.event.Event.TheVariants.{Proc}
+use Rattle.kq_model.specs.declared.reply.Reply.TheVariants as reply
+use Rattle.kq_model.specs.declared.why.Why.TheVariants.{UsedPid}
+use Rattle.kq_model.specs.System.{System}
+use Rattle.kq_system.specs.Kept.{IsStep, Running, live_of}
+use Rattle.kq_system.proofs.PlanLemmas.{proc_used, proc_starts}
+use Rattle.kq_system.proofs.SystemLemmas.{impossible, started}
+use Rattle.kq_system.proofs.system.System.start.Goals as goal
+
+pub returns-then-was_used-clause-reply : goal.returns-then-was_used-clause-reply
+returns-then-was_used-clause-reply c = λ place.
+    let e : Event = Proc c.args.pid in
+    let old : System = record { version = c.self.inside.version; world = c.self.inside.world; live = map live_of c.self.inside.live.entries } in
+    subst (λ (s : Running). IsStep place e s.system s.system (reply.Impossible UsedPid)) c.self.view_is
+    (impossible place e old UsedPid (proc_used c.args.pid old.world (sym c.was_used.ensures ∙ c.if-was_used.true)))
+
+pub returns-clause-reply : goal.returns-clause-reply
+returns-clause-reply c = λ place.
+    let e : Event = Proc c.args.pid in
+    let old : System = record { version = c.self.inside.version; world = c.self.inside.world; live = map live_of c.self.inside.live.entries } in
+    subst (λ (s : Running). IsStep place e s.system (record { version = c.self.inside.version; world = c.start.new.self; live = old.live }) reply.Done) c.self.view_is
+    (started place c.args.pid e old c.start.new.self (proc_starts c.args.pid old.world (sym c.was_used.ensures ∙ c.if-was_used.false)) c.in_ok-start.ensures.done)
