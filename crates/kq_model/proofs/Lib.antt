@@ -3,6 +3,8 @@ pub mod KeyLaws
 pub mod KnoteLaws
 pub mod Subjects
 pub mod SubjectsCall
+pub mod CloseLaw
+pub mod NamedTargets
 pub mod RegistrationLaws
 pub mod LiveKqueues
 pub mod RecastTally
@@ -34,6 +36,7 @@ pub mod TimerWalkMember
 pub mod TimerWalkQueue
 pub mod TimerWalkSort
 pub mod TimerWalkTickers
+pub mod ClockLaw
 pub mod ChangeLines
 pub mod Spelled
 pub mod CountedObjects

@@ -1,5 +1,5 @@
 -- A whole call, and what comes before it, keeps what holds of the subjects of the knotes.
-use Rattle.std.proofs.Common.{◌≡◌, ℕ, zero, suc, ◌+◌, ◌-◌, Bool, true, false, cond, not, ◌||◌, ltb, length, List, [], ◌∷◌, ◌++◌, map, filter, Option, Some, None, refl}
+use Rattle.std.proofs.Common.{ℕ, zero, suc, ◌+◌, ◌-◌, Bool, true, false, not, ◌||◌, ltb, length, List, [], ◌∷◌, ◌++◌, map, Option, Some, None}
 use Rattle.std.proofs.lemmas.Bool.{cond_both}
 use Rattle.std.proofs.lemmas.List.Elements.{All-nil, All-cons, All-head, All-tail, All-append}
 use Rattle.kq_model.specs.declared.change.Change.{Change}
@@ -199,28 +199,3 @@ module _ {S : Type 0} (h : Hearing S) (P : Filter → ℕ → Option Target → 
   unfolding happened
   happened-subjects owner m kq all =
       clocked-subjects m.clock _ (notified-subjects m.views m.hints _ (closed-subjects owner m.closed kq all))
-
--- ---- the law of close
-
--- no number of these watches what was closed
-abbrev pub IsOpenIn : ℕ → List Pair → Filter → ℕ → Option Target → Type 0
-IsOpenIn owner pairs filter ident target = is_closed owner pairs (record { ident = ident; filter = filter }) ≡ false
-
-module _ {S : Type 0} (h : Hearing S) (owner : ℕ) (pairs : List Pair) where
-  abbrev still_open : List (Knote h) → List (Knote h)
-  still_open ks = filter (λ (k : Knote h). not (is_closed owner pairs k.key)) ks
-
-  open_or_gone : (k : Knote h) (rest : List (Knote h)) (b : Bool) → is_closed owner pairs k.key ≡ b → HaveSubjects (IsOpenIn owner pairs) rest
-      → HaveSubjects (IsOpenIn owner pairs) (cond (not b) (k ∷ rest) rest)
-  open_or_gone k rest true e others = others
-  open_or_gone k rest false e others = All-cons (HasSubject (IsOpenIn owner pairs)) k rest e others
-
-  not_closed : (ks : List (Knote h)) → HaveSubjects (IsOpenIn owner pairs) (still_open ks)
-  not_closed [] = All-nil (HasSubject (IsOpenIn owner pairs))
-  not_closed (k ∷ ks) = open_or_gone k (still_open ks) (is_closed owner pairs k.key) refl (not_closed ks)
-
--- after closes, and whatever comes with them, no knote watches a number that was closed
-pub happened-closed : {S : Type 0} (h : Hearing S) (owner : ℕ) (m : Moment) (kq : Kqueue h) → HaveSubjects (IsOpenIn owner m.closed) (happened owner m kq).knotes
-unfolding happened closed
-happened-closed h owner m kq =
-    clocked-subjects h (IsOpenIn owner m.closed) m.clock _ (notified-subjects h (IsOpenIn owner m.closed) m.views m.hints _ (not_closed h owner m.closed kq.knotes))

@@ -1,8 +1,6 @@
 -- What the code does with tallies is what the definitions do with lists.
-use Rattle.std.proofs.Common.{◌≡◌, ℕ, List, Option, refl, ap, ◌∙◌}
+use Rattle.std.proofs.Common.{◌≡◌, ℕ, List, Option, ap, ◌∙◌}
 use Rattle.kq_model.specs.declared.change.Change.{Change}
-use Rattle.kq_model.specs.declared.errno.Errno.{Errno}
-use Rattle.kq_model.specs.declared.event.Event.{Event}
 use Rattle.kq_model.specs.declared.reply.Reply.{Reply}
 use Rattle.kq_model.specs.Call as call
 use Rattle.kq_model.specs.Caller.{Caller}
@@ -11,18 +9,16 @@ use Rattle.kq_model.specs.Close.{Pair, closed}
 use Rattle.kq_model.specs.Hearing.{listed, tallying}
 use Rattle.kq_model.specs.Hints.{notified}
 use Rattle.kq_model.specs.Kqueue.{Kqueue}
-use Rattle.kq_model.specs.Recast.{tally_of, tallied, tallied_system, IsTallied}
+use Rattle.kq_model.specs.Recast.{tallied, IsTallied}
 use Rattle.kq_model.specs.Registration.{register}
-use Rattle.kq_model.specs.System.{System, step}
 use Rattle.kq_model.specs.Targets.{Posted}
 use Rattle.kq_model.specs.Views.{Views}
 use Rattle.kq_model.proofs.RecastCall.{call-recast}
 use Rattle.kq_model.proofs.RecastMoment.{closed-recast, notified-recast, clocked-recast}
 use Rattle.kq_model.proofs.RecastRegistration.{register-recast}
-use Rattle.kq_model.proofs.RecastSystem.{step-recast}
 use Rattle.kq_model.proofs.RecastTally.{tally_of-map}
 
--- the kqueue that the code has stands for the one of the definitions
+-- a kqueue of the code and the one of the definitions that it stands for
 module _ (kq : Kqueue tallying) (m : Kqueue listed) (same : kq ≡ tallied m) where
   pub register-tallied : (caller : Caller) (c : Change) → (register caller c kq).kq ≡ tallied (register caller c m).kq
   register-tallied caller c =
@@ -47,13 +43,3 @@ module _ (kq : Kqueue tallying) (m : Kqueue listed) (same : kq ≡ tallied m) wh
 
   pub clocked-tallied : (span : Option Span) → clocked span kq ≡ tallied (clocked span m)
   clocked-tallied span = ap (clocked span) same ∙ clocked-recast tally_of-map span m
-
--- and so does the system
-module _ (s : System tallying) (m : System listed) (same : s ≡ tallied_system m) where
-  pub step-tallied : (place : ℕ) (e : Event) → (step place e s).system ≡ tallied_system (step place e m).system
-  step-tallied place e =
-      ap (λ t. (step place e t).system) same ∙ ap (λ r. r.system) (step-recast tally_of-map place e m)
-
-  pub step-reply-tallied : (place : ℕ) (e : Event) → (step place e s).reply ≡ (step place e m).reply
-  step-reply-tallied place e =
-      ap (λ t. (step place e t).reply) same ∙ ap (λ r. r.reply) (step-recast tally_of-map place e m)

@@ -52,6 +52,7 @@ pub mod Moment
 pub mod System
 pub mod Subjects
 pub mod RegistrationLaws
+pub mod NamedTargets
 pub mod LiveKqueues
 pub mod Tallied
 pub mod Recast
