@@ -6,6 +6,7 @@ use Rattle.std.proofs.lemmas.List.Folds.{list_any-append}
 use Rattle.std.proofs.lemmas.Option.{none-some, same_Some}
 use Rattle.std.specs.Option.{is_some}
 use Rattle.std.specs.Prelude.{All}
+use Rattle.kq_model.proofs.Descriptors.{with_descriptor-all, with_descriptors-all}
 use Rattle.kq_model.specs.declared.change.Change.{Change}
 use Rattle.kq_model.specs.declared.event.Event.{Event}
 use Rattle.kq_model.specs.declared.event.Event.TheVariants as event
@@ -21,7 +22,6 @@ use Rattle.kq_model.specs.LiveKqueues.{is_live_as, has_live, NamesLive, AreAllLi
 use Rattle.kq_model.specs.Moment.{Moment, moment_of}
 use Rattle.kq_model.specs.System.{Live, System, empty_system, stepped, lived, born, step_by, step}
 use Rattle.kq_model.specs.World.{World, Planned, Impossible, Possible, idle, was_used, is_live, named_by, plan, plan_proc, plan_kqueue, plan_call, plan_on, plan_kevent, with_kqueue, carried_out}
-use Rattle.kq_model.proofs.Descriptors.{with_descriptor-all, with_descriptors-all}
 use Rattle.kq_model.proofs.KnoteLaws.{by_test}
 
 -- ---- plans
