@@ -1,5 +1,7 @@
 pub mod Beginnings
 pub mod Logs
+pub mod Leading
+pub mod Books
 pub mod Numbers
 pub mod Keeping
 pub mod Looking

@@ -11,7 +11,7 @@ use Rattle.kq_lock.proofs.Beginnings.{prefix_between}
 
 module _ {S A : Type 0} where
   -- what begins a list keeps its place among the calls with one number
-  calls_begin : (n : ℕ) (xs ys : List (Call S A)) → IsPrefix xs ys
+  pub calls_begin : (n : ℕ) (xs ys : List (Call S A)) → IsPrefix xs ys
       → IsPrefix (calls_by n xs) (calls_by n ys)
   calls_begin n xs ys p = (
     calls_by n (p.0),

@@ -1,4 +1,4 @@
-use Rattle.std.proofs.Common.{rules, refl, sym, ◌∙◌, inl, inr, Some}
+use Rattle.std.proofs.Common.{rules, arith, refl, sym, ◌∙◌, inl, inr, Some}
 use Rattle.kq_lock.specs.declared.entry.Entry.{Entry}
 use Rattle.kq_lock.specs.Turns.{logged}
 use Rattle.kq_lock.proofs.Logs.{plain_more}
@@ -23,14 +23,15 @@ store-requires g c =
     c.exchange.new.seat.me c.exchange-in-Ok.new.seat.me c.exchange.ensures.2
     c.unwrap-kept.ensures c.exchange.ensures.3 c.exchange-in-Ok.ensures.3 in
     let items = items_on out turn.kept kept entry turn.log back.same turn.items
-    c.in-Ok.ensures.entry in (
+    c.in-Ok.ensures.entry in
+    let long = long_is c.len-at.result kept entry turn.log c.len-at.ensures
+    kept.history.ok.0 items in (
       search rules,
       search rules,
       may_raise _ _ _ _ _ c.exchange-in-Ok.new.seat.me
-          (search rules) c.args.ticket turn.kept.value turn.log kept entry c.len-at.result
+          (search rules) c.args.ticket turn.kept.value turn.log kept entry _
           back.stage back.slot items (lead_on g.M.Machine.leads out turn.kept c.args.step
-          c.in-Ok.answer kept.value back.same c.in-Ok.ensures.leads)
-          (long_is c.len-at.result kept entry turn.log c.len-at.ensures kept.history.ok.0 items),
+          c.in-Ok.answer kept.value back.same c.in-Ok.ensures.leads) (omega arith),
     )
 
 pub store-requires-in-Ok : goal.store-requires-in-Ok
