@@ -1,11 +1,10 @@
 -- A bad reading is that of the first bad line, and a good one that of each line.
-use Rattle.std.proofs.Common.{◌≡◌, ℕ, zero, suc, ◌+◌, ◌<◌, ◌==◌, false, List, [], ◌∷◌, Option, Some, None, Result, Ok, Err, refl, sym, ap, ◌∙◌, subst, arith}
+use Rattle.std.proofs.Common.{◌≡◌, ℕ, zero, suc, ◌+◌, ◌<◌, ◌==◌, false, List, [], ◌∷◌, Some, None, Result, Ok, Err, refl, sym, ap, ◌∙◌, subst, arith}
 use Rattle.std.proofs.lemmas.Bool.Decides.{nat_tests}
 use Rattle.std.specs.Prelude.{slice_get}
 use Rattle.kq_model.specs.declared.event.Event.{Event}
 use Rattle.kq_model.specs.declared.line_fault.LineFault.{LineFault}
-use Rattle.kq_model.specs.declared.line_fault.LineFault.TheVariants.{Header}
-use Rattle.kq_model.specs.Lines.{line_feed, lines_among, lines_of, onto_first, pieces_of}
+use Rattle.kq_model.specs.Lines.{lines_among, lines_of}
 use Rattle.kq_model.specs.Reading.{Outcome, Good, Bad, behind_header, fault_of, fault_on, joined, read_lines, read_records, reading, record_on, version_on, with_event}
 use Rattle.kq_trace.specs.declared.fault.TraceError.{TraceError}
 use Rattle.kq_trace.specs.declared.fault.TraceError.TheVariants.{Memory as NoMemory, Bad as BadTrace}
