@@ -1,11 +1,11 @@
 -- A trace, a line at a time.
-use Rattle.std.proofs.Common.{◌≡◌, ℕ, ◌+◌, ◌<◌, ◌≤◌, ◌^◌, List, [], ◌∷◌, ◌++◌, length, None, Some, Ok, Err, refl, sym, ap, ◌∙◌, append_assoc, append-nil, arith}
+use Rattle.std.proofs.Common.{◌≡◌, ℕ, ◌+◌, ◌<◌, ◌≤◌, ◌^◌, List, [], ◌∷◌, ◌++◌, length, None, Some, Result, Ok, Err, refl, sym, ap, ◌∙◌, append_assoc, append-nil, arith}
 use Rattle.std.proofs.lemmas.Bool.{lt-ltb, le-ltb}
 use Rattle.kq_model.specs.declared.event.Event.{Event}
 use Rattle.kq_model.specs.declared.line_fault.LineFault.{LineFault}
 use Rattle.kq_model.specs.declared.line_fault.LineFault.TheVariants.{TooLong, Header, TooManyRecords}
 use Rattle.kq_model.specs.Lines.{lines_of, pieces_of, without_empty_end}
-use Rattle.kq_model.specs.Reading.{Outcome, Good, Bad, behind_header, header_of, header_version, joined, json_of, read_lines, read_records, reading, record_on, version_on, with_event}
+use Rattle.kq_model.specs.Reading.{Outcome, Good, Bad, behind_header, event_of, header_of, header_version, joined, json_of, read_lines, read_records, reading, record_on, version_on, with_event}
 use Rattle.kq_trace.specs.Rest.{lines_behind}
 
 -- what lines give that follow lines with these events
@@ -22,6 +22,11 @@ long_line number line h = rw (lt-ltb (2 ^ 20) (length line) h) refl
 pub late_line : (number : ℕ) (line : List ℕ) → length line ≤ 2 ^ 20 → 1000001 < number → record_on number line ≡ Err TooManyRecords
 unfolding record_on
 late_line number line short late = rw (le-ltb (2 ^ 20) (length line) short, lt-ltb 1000001 number late) refl
+
+pub plain_line : (number : ℕ) (line : List ℕ) (r : Result Event LineFault) → length line ≤ 2 ^ 20 → number ≤ 1000001
+    → event_of (json_of line) ≡ r → record_on number line ≡ r
+unfolding record_on
+plain_line number line r short early is = rw (le-ltb (2 ^ 20) (length line) short, le-ltb 1000001 number early) is
 
 pub long_header : (line : List ℕ) → 2 ^ 20 < length line → version_on line ≡ Err TooLong
 unfolding version_on

@@ -9,6 +9,7 @@ use crate::header::version_on_line;
 use crate::json::line_value;
 use crate::line::first_line;
 use crate::record::event_of;
+use kq_line::LineReader;
 use kq_model::{Event, LineFault, Memory, Series, Trace};
 use std::alloc::Global;
 
@@ -18,12 +19,14 @@ const MOST_LINE_BYTES: usize = 1 << 20;
 /// Records that are read from one text.
 const MOST_RECORDS: u64 = 1_000_000;
 
-/// The record on a line that is not the first, or the fault of that line.
+/// The record on a line that is not the first, or the fault of that line. What `reader` does not know
+/// is read as a JSON value, which alone finds faults.
 #[tactic(auto, unfolding(kq_model::specs::Reading::record_on, kq_model::specs::Reading::event_of))]
-fn event_on_line(
+fn event_on_line<'a>(
     alloc: Global,
     number: u64,
-    line: &[u8],
+    line: &'a [u8],
+    reader: &mut LineReader<'a>,
 ) -> Result<Result<Event, LineFault>, Memory>
     ensures record { IfOk result (λ event. record_on number line.now ≡ event) }
     ensures limit { IfOk result (λ event. OnOk event (number ≤ 1000001)) }
@@ -33,6 +36,9 @@ fn event_on_line(
     }
     if number > MOST_RECORDS + 1 {
         return Ok(Err(LineFault::TooManyRecords));
+    }
+    if let Some(event) = reader.event_on(line) {
+        return Ok(Ok(event));
     }
     match line_value(alloc, line)? {
         Some(value) => event_of(alloc, &value),
@@ -59,11 +65,12 @@ fn read(alloc: Global, bytes: &[u8]) -> Result<Trace, TraceError>
         });
     };
     let mut events = Vec::new(alloc);
+    let mut reader = LineReader::new(alloc);
     let mut number = 2;
     let mut rest = behind;
     while !rest.is_empty() {
         let (line, behind) = first_line(rest);
-        match event_on_line(alloc, number, line)? {
+        match event_on_line(alloc, number, line, &mut reader)? {
             Ok(event) => events.push(event).map_err(|_| Memory)?,
             Err(fault) => {
                 return Err(TraceError::Bad {
