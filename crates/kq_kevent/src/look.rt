@@ -1,7 +1,7 @@
 ghost use Rattle.std.specs.Prelude.{◌≡◌};
 ghost use Rattle.kq_model.specs.Bits.{flag_if};
 ghost use Rattle.kq_model.specs.Look.{look};
-ghost use Rattle.kq_model.specs.Registration.{attended};
+ghost use Rattle.kq_model.specs.ChangedKnote.{attended};
 ghost use Rattle.kq_model.specs.Retrieval.{event_flags, event_of};
 
 use bitflags::Flags;
@@ -13,12 +13,12 @@ use kq_model::{EvFlags, Kevent};
 pub fn look_in<V: Views>(views: &V, knote: &Knote) -> Option<Seen>
     ensures { result ≡ look (V.sees views.now) knote.now }
 {
-    let view = knote.target().and_then(|target| views.view(target));
+    let view = knote.target.and_then(|target| views.view(target));
     look(knote, view)
 }
 
 /// Looks at an enabled knote, which becomes active where its condition holds.
-#[tactic(auto, unfolding(kq_model::specs::Registration::attended, kq_model::specs::Registration::activated))]
+#[tactic(auto, unfolding(kq_model::specs::ChangedKnote::attended, kq_model::specs::ChangedKnote::activated))]
 pub fn attend<V: Views>(views: &V, knote: &mut Knote)
     ensures { knote.new ≡ attended (V.sees views.now) knote.old }
 {
