@@ -2,7 +2,7 @@ ghost use Rattle.std.specs.Prelude.{◌≡◌};
 ghost use Rattle.kq_model.specs.Names.{filter_name};
 
 /// The filters of kqueue(2) by their names without `EVFILT_`.
-#[derive(Debug, Drop, Clone, Copy, PartialEq, Eq)]
+#[derive(Debug, Drop, Clone, Copy, PartialEq, Eq, Hash)]
 pub enum Filter {
     Read,
     Write,
