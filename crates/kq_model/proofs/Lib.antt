@@ -1,3 +1,6 @@
+pub mod ListLaws
+pub mod KeyLaws
+pub mod KnoteLaws
 pub mod Opened
 pub mod Builders
 pub mod StoredRun

@@ -1,5 +1,5 @@
 /// The filters of kqueue(2) by their names without `EVFILT_`.
-#[derive(Debug, Drop, Clone, Copy, PartialEq, Eq)]
+#[derive(Debug, Drop, Clone, Copy, PartialEq, Eq, Hash)]
 pub enum Filter {
     Read,
     Write,
