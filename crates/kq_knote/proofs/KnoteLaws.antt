@@ -7,7 +7,9 @@ use Rattle.std.specs.Option.{option_map}
 use Rattle.std.specs.List.{slice_get, remove}
 use Rattle.std.specs.Prelude.{slice_set}
 use Rattle.kq_model.specs.declared.key.Key.{Key}
-use Rattle.kq_model.specs.Knote.{Knote, key_eq, find_knote, with_knote, without_knote}
+use Rattle.kq_model.specs.Knote.{key_eq, find_knote, with_knote, without_knote}
+use Rattle.kq_model.specs.Hearing.{tallying}
+use Rattle.kq_model.specs.Tallied.{Knote}
 use Rattle.kq_model.specs.Kqueue.{HaveOwnKeys}
 use Rattle.kq_knote.proofs.KeyLaws.{same_key, key_eq-refl, key_eq-sym, key_eq-apart}
 
@@ -54,7 +56,7 @@ pub find_knote-later : (key : Key) (x : Knote) (ks : List Knote) → key_eq key 
 unfolding find_knote
 find_knote-later key x ks apart = ap (found_at key x ks) apart
 
-pub find_knote-none : (key : Key) → find_knote key [] ≡ None
+pub find_knote-none : (key : Key) → find_knote {h = tallying} key [] ≡ None
 unfolding find_knote
 find_knote-none key = refl
 

@@ -4,7 +4,8 @@ use Rattle.std.proofs.lemmas.Option.{slice_get_read}
 use Rattle.std.specs.List.{slice_get, remove}
 use Rattle.std.specs.Prelude.{slice_set}
 use Rattle.kq_model.specs.declared.key.Key.{Key}
-use Rattle.kq_model.specs.Knote.{Knote, key_eq, find_knote, with_knote, without_knote}
+use Rattle.kq_model.specs.Knote.{key_eq, find_knote, with_knote, without_knote}
+use Rattle.kq_model.specs.Tallied.{Knote}
 use Rattle.kq_model.specs.Kqueue.{HaveOwnKeys}
 use Rattle.kq_knote.specs.Reserved.{IsPlaceOf}
 use Rattle.kq_knote.proofs.KnoteLaws.{find_knote-key, find_knote-drop_here, slice_set-with, remove-without}

@@ -1,7 +1,8 @@
 -- The knotes of a kqueue, with the room that was reserved for further ones.
 use Rattle.std.specs.Prelude.{◌≡◌, ◌<◌, ℕ, List, length, slice_get}
 use Rattle.kq_model.specs.declared.key.Key.{Key}
-use Rattle.kq_model.specs.Knote.{Knote, find_knote}
+use Rattle.kq_model.specs.Knote.{find_knote}
+use Rattle.kq_model.specs.Tallied.{Knote}
 
 pub record Reserved : Type 0 where
   -- in order of registration

@@ -1,8 +1,8 @@
-ghost use Rattle.std.specs.Prelude.{◌≡◌, ℕ, ◌/◌};
+ghost use Rattle.std.specs.Prelude.{◌≡◌, ◌/◌};
 ghost use Rattle.kq_model.specs.Bits.{asks};
-ghost use Rattle.kq_model.specs.Registration.{fresh, begun, replaced, changed, switched, controlled, key_of};
+ghost use Rattle.kq_model.specs.Caller.{Caller};
+ghost use Rattle.kq_model.specs.ChangedKnote.{fresh, begun, replaced, changed, switched, controlled};
 ghost use Rattle.kq_model.specs.Retrieval.{rested};
-ghost use Rattle.kq_model.specs.Views.{Views};
 ghost use Rattle.kq_model.specs.declared.filter.Filter.{Filter};
 
 use crate::Knote;
@@ -20,7 +20,7 @@ const CONTROL: u32 = 0x4000_0000;
 
 /// The user's bits after a change, by its control: NOTE_FFNOP 0 leaves them, NOTE_FFAND 1,
 /// NOTE_FFOR 2 and NOTE_FFCOPY 3 do as named.
-#[tactic(auto, unfolding(kq_model::specs::Registration::controlled))]
+#[tactic(auto, unfolding(kq_model::specs::ChangedKnote::controlled))]
 fn controlled(how: u32, bits: u32, given: u32) -> u32
     ensures { result ≡ controlled how bits given }
 {
@@ -36,10 +36,10 @@ impl Knote {
     /// The knote that a first ADD makes, before it is looked at: with the change's actions, and
     /// enabled unless the change says DISABLE. Of a user event it stores the low 24 bits,
     /// whatever the control bits.
-    #[tactic(auto, unfolding(kq_model::specs::Registration::begun, kq_model::specs::Registration::fresh, kq_model::specs::Look::target_of))]
+    #[tactic(auto, unfolding(kq_model::specs::ChangedKnote::begun, kq_model::specs::ChangedKnote::fresh, kq_model::specs::Targets::target_of, kq_model::specs::ChangedKnote::always_clears))]
     pub fn first(change: &Change) -> Knote
         requires { change.now.filter ≡ Filter.User }
-        ensures { (views : Views) (owner : ℕ) → result ≡ begun change.now.filter change.now (fresh views owner change.now) }
+        ensures { (caller : Caller) → result ≡ begun change.now.filter caller change.now (fresh caller change.now) }
     {
         let flags = change.flags;
         Knote {
@@ -62,7 +62,7 @@ impl Knote {
 
     /// Replaces udata, and with ADD also the parameters; ADD enables unless the change says
     /// DISABLE.
-    #[tactic(auto, unfolding(kq_model::specs::Registration::replaced))]
+    #[tactic(auto, unfolding(kq_model::specs::ChangedKnote::replaced))]
     pub fn replace(&mut self, change: &Change)
         ensures { self.new ≡ replaced change.now self.old }
     {
@@ -76,7 +76,7 @@ impl Knote {
 
     /// Of a user event a later change applies its control to the bits, replaces the data, and
     /// triggers where it says so.
-    #[tactic(auto, unfolding(kq_model::specs::Registration::changed))]
+    #[tactic(auto, unfolding(kq_model::specs::ChangedKnote::changed))]
     pub fn control(&mut self, change: &Change)
         ensures { self.new ≡ changed change.now.filter change.now self.old }
     {
@@ -88,7 +88,7 @@ impl Knote {
     }
 
     /// ENABLE enables and DISABLE disables.
-    #[tactic(auto, unfolding(kq_model::specs::Registration::switched))]
+    #[tactic(auto, unfolding(kq_model::specs::ChangedKnote::switched))]
     pub fn switch(&mut self, change: &Change)
         ensures { self.new ≡ switched change.now self.old }
     {

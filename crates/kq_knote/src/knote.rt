@@ -34,8 +34,8 @@ pub struct Knote {
 }
 
 impl Model for Knote {
-    ghost use Rattle.std.specs.Prelude.{[], Some};
-    ghost use Rattle.kq_model.specs.Knote as model;
+    ghost use Rattle.std.specs.Prelude.{Some};
+    ghost use Rattle.kq_model.specs.Tallied as model;
     ghost use Rattle.kq_model.specs.declared.object.Target.TheVariants.{Own};
 
     ghost Value = { model.Knote };
@@ -51,7 +51,7 @@ impl Model for Knote {
       dispatch = k.dispatch;
       enabled = k.enabled;
       active = k.active;
-      seen = [];
+      seen = record { count = 0; notes = 0 };
       start = 0;
       period = 0;
       bits = k.bits;
