@@ -3,10 +3,12 @@ use Rattle.std.proofs.Common.{◌≡◌, suc, ◌+◌, ◌≤◌, Bool, true, fa
 use Rattle.std.proofs.lemmas.List.{length-map}
 use Rattle.std.proofs.lemmas.Bool.{or_right, or_left, true≢false}
 use Rattle.kq_model.specs.declared.key.Key.{Key}
-use Rattle.kq_model.specs.Knote.{Knote, key_eq, has_key, find_knote, without_knote, with_knote}
+use Rattle.kq_model.specs.Knote.{key_eq, has_key, find_knote, without_knote, with_knote}
 use Rattle.kq_model.specs.Kqueue.{AreOnce}
-use Rattle.kq_knote.proofs.KeyLaws.{same_key, key_eq-refl}
-use Rattle.kq_knote.proofs.KnoteLaws.{by_test, find_knote-none, find_knote-later, find_knote-without_other}
+use Rattle.kq_model.specs.Hearing.{tallying}
+use Rattle.kq_model.specs.Tallied.{Knote}
+use Rattle.kq_model.proofs.KeyLaws.{same_key, key_eq-refl}
+use Rattle.kq_model.proofs.KnoteLaws.{by_test, find_knote-none, find_knote-later, find_knote-without_other}
 
 abbrev kept : Knote → List Knote → Bool → List Knote
 kept x rest b = cond (not b) (x ∷ rest) rest
@@ -20,7 +22,7 @@ length-without_knote gone (x ∷ ks) =
 
 -- where there is one, one is taken out
 length-without_present : (gone : Key) (ks : List Knote) → (find_knote gone ks ≡ None → ⊥) → length (without_knote gone ks) + 1 ≤ length ks
-length-without_present gone [] present = absurd (present (find_knote-none gone))
+length-without_present gone [] present = absurd (present (find_knote-none tallying gone))
 length-without_present gone (x ∷ ks) present =
     by_test (λ b. key_eq gone x.key ≡ b → length (kept x (without_knote gone ks) b) + 1 ≤ suc (length ks)) (key_eq gone x.key)
     (λ _ _. omega (arith, length-without_knote gone ks))

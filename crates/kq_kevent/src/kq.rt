@@ -12,33 +12,38 @@ use std::marker::Model;
 #[derive(Drop)]
 pub struct Kq {
     pub(crate) owner: u32,
+    version: u32,
     pub(crate) knotes: Knotes,
     pub(crate) queue: Queue,
 }
 
 impl Model for Kq {
     ghost use Rattle.std.specs.Prelude.{◌-◌, min, length};
-    ghost use Rattle.kq_kevent.specs.Held.{Held, IsKept};
+    ghost use Rattle.kq_kevent.specs.Owned.{OwnedKqueue, IsLawful};
 
-    ghost Value = { Held };
+    ghost Value = { OwnedKqueue };
 
     ghost view = { λ k. record {
       kq = record { knotes = k.knotes.knotes; queue = k.queue.keys };
       owner = k.owner;
+      version = k.version;
       room = min k.knotes.room (k.queue.capacity - length k.knotes.knotes);
     } };
 
-    ghost invariant = { λ k. IsKept k.knotes.knotes k.queue };
+    ghost invariant = { λ k. IsLawful k.knotes.knotes k.queue };
 }
 
 impl Kq {
-    /// An empty kqueue of the process with the pid `owner`.
+    /// An empty kqueue of the process with the pid `owner`, by the rules of version 1 of the trace
+    /// format.
     pub fn new(alloc: Global, owner: u32) -> Self
         ensures kq { result.kq ≡ empty_kqueue }
         ensures owner { result.owner ≡ owner }
+        ensures version { result.version ≡ 1 }
     {
         Kq {
             owner,
+            version: 1,
             knotes: Knotes::new(alloc),
             queue: Queue::new(alloc),
         }
@@ -49,6 +54,7 @@ impl Kq {
     pub fn reserve(&mut self, changes: usize) -> Result<(), Memory>
         ensures kq { self.new.kq ≡ self.old.kq }
         ensures owner { self.new.owner ≡ self.old.owner }
+        ensures version { self.new.version ≡ self.old.version }
         ensures room { OnOk result (changes ≤ self.new.room) }
         ensures kept { self.old.room ≤ self.new.room }
 

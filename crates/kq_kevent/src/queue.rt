@@ -1,5 +1,5 @@
 ghost use Rattle.std.specs.Prelude.{◌≡◌, ◌<◌, ◌≤◌, ◌+◌, ◌++◌, ◌∷◌, [], not, length, OnOk, OnErr, MatchOption};
-ghost use Rattle.kq_model.specs.Knote.{key_eq, without_key};
+ghost use Rattle.kq_model.specs.Knote.{key_eq, has_key, without_key};
 
 use kq_model::{Key, Memory};
 use std::alloc::Global;
@@ -14,7 +14,7 @@ pub struct Queue {
 
 impl Model for Queue {
     ghost use Rattle.std.specs.VecDeque.{deque_capacity};
-    ghost use Rattle.kq_kevent.specs.Held.{Keys};
+    ghost use Rattle.kq_kevent.specs.Owned.{Keys};
 
     ghost Value = { Keys };
 
@@ -38,6 +38,13 @@ impl Queue {
         ensures { result ≡ length self.now.keys }
     {
         self.keys.len()
+    }
+
+    /// Whether a key is in the queue.
+    pub fn has(&self, key: Key) -> bool
+        ensures { result ≡ has_key key self.now.keys }
+    {
+        self.keys.contains(&key)
     }
 
     /// Makes room for so many keys behind those that it has.

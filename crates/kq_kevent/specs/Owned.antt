@@ -1,8 +1,10 @@
 -- What contracts see of a kqueue of the code.
 use Rattle.std.specs.Prelude.{ℕ, ◌≤◌, List, length}
 use Rattle.kq_model.specs.declared.key.Key.{Key}
-use Rattle.kq_model.specs.Knote.{Knote}
-use Rattle.kq_model.specs.Kqueue.{Kqueue, IsSound}
+use Rattle.kq_model.specs.Caller.{Caller}
+use Rattle.kq_model.specs.Kqueue.{IsSound}
+use Rattle.kq_model.specs.Tallied.{Knote, Kqueue}
+use Rattle.kq_model.specs.Views.{Views}
 
 -- the queue alone, with how many keys it can hold
 pub record Keys : Type 0 where
@@ -10,14 +12,20 @@ pub record Keys : Type 0 where
   pub capacity : ℕ
 
 -- a kqueue with the process that owns it and the room reserved in it
-pub record Held : Type 0 where
+pub record OwnedKqueue : Type 0 where
   pub kq : Kqueue
   -- a pid
   pub owner : ℕ
+  -- of the trace's format
+  pub version : ℕ
   -- how many knotes more can be registered
   pub room : ℕ
 
+-- the owner as it calls, where it sees this of the world
+abbrev pub caller : Views → OwnedKqueue → Caller
+caller views kq = record { views = views; owner = kq.owner; version = kq.version }
+
 -- the kqueue is sound, and its queue can hold the key of each knote
-pub record IsKept (knotes : List Knote) (queue : Keys) : Type 0 where
+pub record IsLawful (knotes : List Knote) (queue : Keys) : Type 0 where
   pub sound : IsSound (record { knotes = knotes; queue = queue.keys })
   pub capacity : length knotes ≤ queue.capacity
