@@ -1,6 +1,13 @@
 pub mod ListLaws
 pub mod KeyLaws
 pub mod KnoteLaws
+pub mod RecastTally
+pub mod RecastKnote
+pub mod RecastRegistration
+pub mod RecastRetrieval
+pub mod RecastCall
+pub mod RecastMoment
+pub mod RecastSystem
 pub mod Opened
 pub mod Builders
 pub mod StoredRun

@@ -25,7 +25,7 @@ use Rattle.kq_model.specs.Report.{kevent_data, events_data, row_data, reply_line
 unfoldable pub system_opened : ⊤
 unfolding serde_json_on_literals digits
     filter_among filter_named names_of
-    hearing.notes_of hearing.union hearing.is_none_of watches_number is_timer find_knote
+    hearing.notes_of hearing.is_none_of watches_number is_timer find_knote
     look_user look_by look is_simulated object_of file_of target_of target_eq is_target
     invalid_if is_readable is_writable is_file is_live_process process_refusal own_refusal
     knote.always_clears knote.period_in knote.controlled knote.fresh knote.started knote.begun knote.replaced knote.restarted knote.changed knote.switched knote.activated knote.attended knote.made knote.modified

@@ -2,6 +2,7 @@
 -- the definitions go by, or as a tally, which serves every filter as well (kqueue(2): events that trigger
 -- a filter more than once come as one kevent, with their number or the union of their notes).
 use Rattle.std.specs.Prelude.{ℕ, ◌+◌, ◌==◌, Bool, true, false, List, [], ◌∷◌, ◌++◌, length, min}
+use Rattle.std.specs.List.{fold}
 use Rattle.std.specs.Int.RustNames.{bit_or}
 use Rattle.kq_model.specs.declared.object.Hint.{Hint}
 use Rattle.kq_model.specs.declared.object.Hint.TheVariants.{Readable, Writable, Note, Delivered}
@@ -37,9 +38,8 @@ pub record Hearing (S : Type 0) : Type 0 where
 
 -- ---- as a list, the latest last
 
-unfoldable pub union : List Occurrence → ℕ
-union [] = 0
-union (x ∷ xs) = bit_or (notes_of x) (union xs)
+abbrev pub union : List Occurrence → ℕ
+union xs = fold (λ bits x. bit_or bits (notes_of x)) 0 xs
 
 unfoldable pub is_none_of : List Occurrence → Bool
 is_none_of [] = true

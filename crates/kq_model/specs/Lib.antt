@@ -32,4 +32,5 @@ pub mod World
 pub mod Moment
 pub mod System
 pub mod Tallied
+pub mod Recast
 pub mod Report
