@@ -1,6 +1,7 @@
 -- What registration comes to in each case, and how the code's steps make it up.
 use Rattle.std.proofs.Common.{◌≡◌, Bool, true, false, cond, not, ◌&&◌, ◌||◌, List, Option, Some, None, refl, sym, ap, ◌∙◌, subst}
 use Rattle.std.proofs.lemmas.Bool.{or_parts, not-false}
+use Rattle.std.specs.Option.{is_none}
 use Rattle.kq_model.specs.declared.change.Change.{Change}
 use Rattle.kq_model.specs.declared.errno.Errno.TheVariants.{ENOENT, EBADF, EINVAL}
 use Rattle.kq_model.specs.declared.filter.Filter.{Filter}
@@ -9,7 +10,7 @@ use Rattle.kq_model.specs.declared.key.Key.{Key}
 use Rattle.kq_model.specs.Bits.{asks, add, delete, enable, disable}
 use Rattle.kq_model.specs.Caller.{Caller}
 use Rattle.kq_model.specs.ChangedKnote.{key_of, fresh, begun, replaced, restarted, changed, switched, attended, made, modified}
-use Rattle.kq_model.specs.Knote.{find_knote, watches_number, is_timer}
+use Rattle.kq_model.specs.Knote.{find_knote, without_key, watches_number, is_timer}
 use Rattle.kq_model.specs.Kqueue.{IsSound}
 use Rattle.kq_model.specs.Look.{is_simulated}
 use Rattle.kq_model.specs.Refusals.{is_malformed, is_unopened, own_refusal}
@@ -44,7 +45,7 @@ unfolding is_timer
 restart-user c user = ap (λ f. is_timer f && asks c.flags add) user
 
 pub modified-queue : (c : Change) (k : Knote) (kq : Kqueue) → c.filter ≡ User → queue_for k kq.queue ≡ (with_modified c k kq).queue
-modified-queue c k kq user = ap (λ b. queue_for k (cond b _ kq.queue)) (sym (restart-user c user))
+modified-queue c k kq user = ap (λ b. queue_for k (cond b (without_key (key_of c) kq.queue) kq.queue)) (sym (restart-user c user))
 
 -- ---- what is not malformed is of a simulated filter
 
@@ -72,7 +73,7 @@ formed-user c good =
 
 opened-user : (caller : Caller) (c : Change) → c.filter ≡ User → is_unopened caller c ≡ false
 unfolding watches_number
-opened-user caller c user = ap (λ f. watches_number f && _) user
+opened-user caller c user = ap (λ f. watches_number f && is_none (caller.views.descriptor caller.owner c.ident)) user
 
 decision-malformed : (caller : Caller) (present : Option Knote) (c : Change) → is_malformed c ≡ true → decision caller present c ≡ Refuse EINVAL
 unfolding decision

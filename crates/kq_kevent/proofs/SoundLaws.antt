@@ -8,7 +8,7 @@ use Rattle.kq_model.specs.declared.key.Key.{Key}
 use Rattle.kq_model.specs.ChangedKnote.{key_of}
 use Rattle.kq_model.specs.Hearing.{tallying}
 use Rattle.kq_model.specs.Knote.{key_eq, has_key, without_key, find_knote, with_knote, without_knote}
-use Rattle.kq_model.specs.Kqueue.{HaveOwnKeys, is_waiting, IsSound, empty_kqueue}
+use Rattle.kq_model.specs.Kqueue.{AreOnce, HaveOwnKeys, is_waiting, IsSound, empty_kqueue}
 use Rattle.kq_model.specs.Registration.{queue_for, is_restart, with_made, with_removed, with_modified}
 use Rattle.kq_model.specs.Tallied.{Knote, Kqueue}
 use Rattle.kq_model.proofs.KeyLaws.{same_key, key_eq-refl, key_eq-sym, has_key-without_same, has_key-without_other}

@@ -211,18 +211,18 @@ going-full views n kq =
 abbrev pub after_going : Views → ℕ → ℕ → Option Kevent → Kqueue → Retrieved
 after_going views n room event kq = after_turn (λ left. going views n left) room kq event
 
+going-event : (views : Views) (n room : ℕ) (kq : Kqueue) (e : Option Kevent) → after_turn (retrieve views (take n kq.queue)) room (kqueue_of kq.knotes (drop n kq.queue)) e ≡ after_going views n room e kq
+unfolding after_turn
+going-event views n room kq None = refl
+going-event views n room kq (Some event) = refl
+
 after_alike : (views : Views) (n room : ℕ) (rest : List Key) (whole part : Turned) → AreAlike n rest whole part → after_turn (retrieve views (take n rest)) room part.kq part.event ≡ after_going views n room whole.event whole.kq
 after_alike views n room rest whole part same =
     ap (λ keys. after_turn (retrieve views keys) room part.kq part.event) (sym same.front)
     ∙ ap (λ (ks : List Knote). after_turn (retrieve views (take n whole.kq.queue)) room (kqueue_of ks part.kq.queue) part.event) (sym same.knotes)
     ∙ ap (λ (q : List Key). after_turn (retrieve views (take n whole.kq.queue)) room (kqueue_of whole.kq.knotes q) part.event) (sym same.back)
     ∙ ap (λ e. after_turn (retrieve views (take n whole.kq.queue)) room (kqueue_of whole.kq.knotes (drop n whole.kq.queue)) e) (sym same.event)
-    ∙ by_event whole.event
-  where
-    by_event : (e : Option Kevent) → after_turn (retrieve views (take n whole.kq.queue)) room (kqueue_of whole.kq.knotes (drop n whole.kq.queue)) e ≡ after_going views n room e whole.kq
-    unfolding after_turn
-    by_event None = refl
-    by_event (Some event) = refl
+    ∙ going-event views n room whole.kq whole.event
 
 -- where room is left, the next turn is the next step of the retrieval
 pub going-turned : (views : Views) (n room : ℕ) (ks : List Knote) (key : Key) (rest : List Key) → n ≤ length rest → going views (suc n) (suc room) (kqueue_of ks (key ∷ rest)) ≡ after_going views n room (turned views key (kqueue_of ks rest)).event (turned views key (kqueue_of ks rest)).kq

@@ -1,10 +1,11 @@
 -- What contracts see of a kqueue of the code.
-use Rattle.std.specs.Prelude.{ℕ, ◌≤◌, List, length}
+use Rattle.std.specs.Prelude.{ℕ, ◌+◌, ◌≤◌, List, length}
 use Rattle.kq_model.specs.declared.key.Key.{Key}
 use Rattle.kq_model.specs.Caller.{Caller}
 use Rattle.kq_model.specs.Kqueue.{IsSound}
-use Rattle.kq_model.specs.Tallied.{Knote, Kqueue}
+use Rattle.kq_model.specs.Tallied.{Kqueue}
 use Rattle.kq_model.specs.Views.{Views}
+use Rattle.kq_knote.specs.Reserved.{Reserved}
 
 -- the queue alone, with how many keys it can hold
 pub record Keys : Type 0 where
@@ -25,7 +26,11 @@ pub record OwnedKqueue : Type 0 where
 abbrev pub caller : Views → OwnedKqueue → Caller
 caller views kq = record { views = views; owner = kq.owner; version = kq.version }
 
--- the kqueue is sound, and its queue can hold the key of each knote
-pub record IsLawful (knotes : List Knote) (queue : Keys) : Type 0 where
-  pub sound : IsSound (record { knotes = knotes; queue = queue.keys })
-  pub capacity : length knotes ≤ queue.capacity
+-- how many knotes fit, with those that are there
+abbrev pub limit : OwnedKqueue → ℕ
+limit kq = length kq.kq.knotes + kq.room
+
+-- The kqueue is sound, and its queue can hold the key of each knote that fits.
+pub record IsLawful (knotes : Reserved) (queue : Keys) : Type 0 where
+  pub sound : IsSound (record { knotes = knotes.knotes; queue = queue.keys })
+  pub capacity : length knotes.knotes + knotes.room ≤ queue.capacity

@@ -1,7 +1,7 @@
-ghost use Rattle.std.specs.Prelude.{◌≡◌, ◌≤◌, ◌+◌, length, min, IfOk, IsOk, OnErr};
+ghost use Rattle.std.specs.Prelude.{◌≡◌, ◌≤◌, ◌+◌, length, max, min, IfOk, IsOk, OnErr};
 ghost use Rattle.kq_model.specs.Call.{call};
 ghost use Rattle.kq_model.specs.CallLaws.{IsAnswer, kqueue_after_changes, IsChangesThenPoll};
-ghost use Rattle.kq_kevent.specs.Owned.{caller};
+ghost use Rattle.kq_kevent.specs.Owned.{caller, limit};
 
 use crate::Kq;
 use crate::process::Ending;
@@ -37,7 +37,10 @@ impl Kq {
 
         ensures owner { self.new.owner ≡ self.old.owner }
         ensures version { self.new.version ≡ self.old.version }
+        // Room for each change is made first; what was used of it is that of the knotes that came.
+        ensures limit { IfOk result (λ _. limit self.new ≡ length self.old.kq.knotes + max self.old.room (length changes.now)) }
         ensures room { self.old.room ≤ self.new.room + length changes.now }
+
         ensures err { OnErr result (self.new.kq ≡ self.old.kq) }
 
         // Memory comes only where knotes or events need a place that was not reserved.

@@ -1,4 +1,4 @@
-ghost use Rattle.std.specs.Prelude.{◌≡◌, ◌<◌, ◌≤◌, OnOk, OnErr};
+ghost use Rattle.std.specs.Prelude.{◌≡◌, ◌<◌, OnOk, OnErr, max};
 ghost use Rattle.kq_model.specs.Kqueue.{empty_kqueue};
 
 use crate::queue::Queue;
@@ -18,7 +18,6 @@ pub struct Kq {
 }
 
 impl Model for Kq {
-    ghost use Rattle.std.specs.Prelude.{◌-◌, min, length};
     ghost use Rattle.kq_kevent.specs.Owned.{OwnedKqueue, IsLawful};
 
     ghost Value = { OwnedKqueue };
@@ -27,10 +26,10 @@ impl Model for Kq {
       kq = record { knotes = k.knotes.knotes; queue = k.queue.keys };
       owner = k.owner;
       version = k.version;
-      room = min k.knotes.room (k.queue.capacity - length k.knotes.knotes);
+      room = k.knotes.room;
     } };
 
-    ghost invariant = { λ k. IsLawful k.knotes.knotes k.queue };
+    ghost invariant = { λ k. IsLawful k.knotes k.queue };
 }
 
 impl Kq {
@@ -40,6 +39,7 @@ impl Kq {
         ensures kq { result.kq ≡ empty_kqueue }
         ensures owner { result.owner ≡ owner }
         ensures version { result.version ≡ 1 }
+        ensures room { result.room ≡ 0 }
     {
         Kq {
             owner,
@@ -49,20 +49,31 @@ impl Kq {
         }
     }
 
+    /// How many further knotes can be registered without memory.
+    pub fn room(&self) -> usize
+        ensures { result ≡ self.now.room }
+    {
+        self.knotes.room()
+    }
+
     /// Makes the room at least `changes`, for so many knotes and for their keys in the queue;
-    /// changes nothing else.
+    /// changes nothing else. After `Memory` nothing has changed.
     pub fn reserve(&mut self, changes: usize) -> Result<(), Memory>
         ensures kq { self.new.kq ≡ self.old.kq }
         ensures owner { self.new.owner ≡ self.old.owner }
         ensures version { self.new.version ≡ self.old.version }
-        ensures room { OnOk result (changes ≤ self.new.room) }
-        ensures kept { self.old.room ≤ self.new.room }
+        ensures room { OnOk result (self.new.room ≡ max self.old.room changes) }
+        ensures err { OnErr result (self.new.room ≡ self.old.room) }
 
         // Memory comes only where the room was missing.
-        ensures err { OnErr result (self.old.room < changes) }
+        ensures missing { OnErr result (self.old.room < changes) }
     {
-        self.knotes.reserve(changes)?;
-        let waiting = self.queue.len();
-        self.queue.reserve(self.knotes.len() - waiting + changes)
+        if changes <= self.knotes.room() {
+            return Ok(());
+        }
+        let unqueued = self.knotes.len() - self.queue.len();
+        let more = unqueued.checked_add(changes).ok_or(Memory)?;
+        self.queue.reserve(more)?;
+        self.knotes.reserve(changes)
     }
 }

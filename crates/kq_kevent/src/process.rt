@@ -2,7 +2,7 @@ ghost use Rattle.std.specs.Prelude.{◌≡◌, ◌≤◌, ◌+◌, [], length, m
 ghost use Rattle.std.specs.Vec.{vec_capacity};
 ghost use Rattle.kq_model.specs.Call.{number_of, entry_of, is_answered, process};
 ghost use Rattle.kq_kevent.specs.Ending.{answer_of};
-ghost use Rattle.kq_kevent.specs.Owned.{caller};
+ghost use Rattle.kq_kevent.specs.Owned.{caller, limit};
 
 use crate::Kq;
 use crate::register::asks;
@@ -70,6 +70,7 @@ impl Kq {
         ensures owner { self.new.owner ≡ self.old.owner }
         ensures version { self.new.version ≡ self.old.version }
         ensures room { self.old.room ≤ self.new.room + length changes.now }
+        ensures limit { limit self.new ≡ limit self.old }
         ensures queue { length self.new.kq.queue ≤ length self.old.kq.queue + length changes.now }
         ensures capacity { vec_capacity placed.new ≡ vec_capacity placed.old }
     {

@@ -6,7 +6,7 @@ ghost use Rattle.kq_model.specs.Knote.{find_knote, has_key};
 ghost use Rattle.kq_model.specs.Refusals.{is_malformed};
 ghost use Rattle.kq_model.specs.Registration.{register, queue_for, with_made, with_removed, with_modified};
 ghost use Rattle.kq_model.specs.declared.filter.Filter.{Filter};
-ghost use Rattle.kq_kevent.specs.Owned.{caller};
+ghost use Rattle.kq_kevent.specs.Owned.{caller, limit};
 
 use crate::Kq;
 use crate::look::attend;
@@ -64,6 +64,7 @@ impl Kq {
         ensures owner { self.new.owner ≡ self.old.owner }
         ensures version { self.new.version ≡ self.old.version }
         ensures room { self.old.room ≤ self.new.room + 1 }
+        ensures limit { limit self.new ≡ limit self.old }
     {
         number_of(self.apply(change, views))
     }
@@ -78,6 +79,7 @@ impl Kq {
         ensures owner { self.new.owner ≡ self.old.owner }
         ensures version { self.new.version ≡ self.old.version }
         ensures room { self.old.room ≤ self.new.room + 1 }
+        ensures limit { limit self.new ≡ limit self.old }
     {
         if is_malformed(change) {
             return Some(Errno::EINVAL);
@@ -112,7 +114,7 @@ impl Kq {
         ensures kq { self.new.kq ≡ with_made (made (caller (V.sees views.now) self.old) change.now) self.old.kq }
         ensures owner { self.new.owner ≡ self.old.owner }
         ensures version { self.new.version ≡ self.old.version }
-        ensures room { self.old.room ≤ self.new.room + 1 }
+        ensures room { self.new.room + 1 ≡ self.old.room }
     {
         let mut knote = Knote::first(change);
         attend(views, &mut knote);
@@ -126,6 +128,7 @@ impl Kq {
         ensures owner { self.new.owner ≡ self.old.owner }
         ensures version { self.new.version ≡ self.old.version }
         ensures room { self.old.room ≤ self.new.room }
+        ensures limit { limit self.new ≡ limit self.old }
     {
         self.knotes.remove(key);
         self.queue.take_out(key);
@@ -138,7 +141,7 @@ impl Kq {
         ensures kq { self.new.kq ≡ with_modified change.now (modified (caller (V.sees views.now) self.old) change.now present) self.old.kq }
         ensures owner { self.new.owner ≡ self.old.owner }
         ensures version { self.new.version ≡ self.old.version }
-        ensures room { self.old.room ≤ self.new.room }
+        ensures room { self.new.room ≡ self.old.room }
     {
         let mut knote = present;
         knote.replace(change);

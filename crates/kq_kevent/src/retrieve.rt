@@ -1,8 +1,9 @@
-ghost use Rattle.std.specs.Prelude.{◌≡◌, ◌<◌, ◌≤◌, ◌∷◌, List, [], Some, length, min};
+ghost use Rattle.std.specs.Prelude.{◌≡◌, ◌+◌, ◌<◌, ◌≤◌, ◌∷◌, List, [], false, length, min};
 ghost use Rattle.std.specs.Vec.{vec_capacity};
-ghost use Rattle.kq_model.specs.Knote.{find_knote};
+ghost use Rattle.kq_model.specs.Knote.{has_key};
 ghost use Rattle.kq_model.specs.Retrieval.{knotes_after, back_after, turned, retrieval};
 ghost use Rattle.kq_model.specs.declared.key.Key.{Key};
+ghost use Rattle.kq_kevent.specs.Owned.{limit};
 
 use crate::Kq;
 use crate::look::{event_of, look_in};
@@ -15,10 +16,12 @@ use kq_model::Kevent;
 /// else with CLEAR or DISPATCH it rests; else its key goes to the back.
 #[tactic(auto, unfolding(kq_model::specs::Retrieval::knotes_after, kq_model::specs::Retrieval::back_after, kq_model::specs::Retrieval::stays))]
 fn settle(knotes: &mut Knotes, queue: &mut Queue, delivered: &Knote)
-    requires { length queue.old.keys < queue.old.capacity }
+    requires absent { has_key delivered.now.key queue.old.keys ≡ false }
+    requires capacity { length queue.old.keys < queue.old.capacity }
     ensures knotes { knotes.new.knotes ≡ knotes_after delivered.now knotes.old.knotes }
     ensures keys { queue.new.keys ≡ back_after delivered.now queue.old.keys }
     ensures room { knotes.old.room ≤ knotes.new.room }
+    ensures limit { length knotes.new.knotes + knotes.new.room ≡ length knotes.old.knotes + knotes.old.room }
     ensures capacity { queue.new.capacity ≡ queue.old.capacity }
 {
     if delivered.oneshot {
@@ -44,6 +47,7 @@ impl Kq {
         ensures owner { self.new.owner ≡ self.old.owner }
         ensures version { self.new.version ≡ self.old.version }
         ensures room { self.old.room ≤ self.new.room }
+        ensures limit { limit self.new ≡ limit self.old }
     {
         let Some(key) = self.queue.take_front() else {
             unreachable!();
@@ -73,6 +77,7 @@ impl Kq {
         ensures owner { self.new.owner ≡ self.old.owner }
         ensures version { self.new.version ≡ self.old.version }
         ensures room { self.old.room ≤ self.new.room }
+        ensures limit { limit self.new ≡ limit self.old }
     {
         for _turn in 0..self.queue.len() {
             if events.len() == room {
