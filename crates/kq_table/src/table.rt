@@ -85,7 +85,7 @@ impl<T: Keyed> Table<T> {
         // Memory comes only where the room was missing.
         ensures missing { OnErr result (self.old.room < more) }
     {
-        if more <= self.limit - self.count {
+        if more <= self.room() {
             return Ok(());
         }
         let Some(limit) = self.count.checked_add(more) else {
