@@ -2,11 +2,12 @@
 use Rattle.std.proofs.Common.{◌≡◌, Bool, true, false, cond, not, ◌&&◌, ◌||◌, List, [], ◌∷◌, ◌++◌, refl, sym, ap, ◌∙◌, subst}
 use Rattle.std.proofs.lemmas.Bool.{or_parts}
 use Rattle.kq_model.specs.declared.key.Key.{Key}
-use Rattle.kq_model.specs.Knote.{Knote, key_eq, has_key, without_key, queued}
+use Rattle.kq_model.specs.Knote.{key_eq, has_key, without_key, queued}
 use Rattle.kq_model.specs.Kqueue.{AreOnce}
 use Rattle.kq_model.specs.Registration.{queue_for}
-use Rattle.kq_knote.proofs.KeyLaws.{same_key, key_eq-refl, key_eq-sym, has_key-append, has_key-without_same, has_key-without_other}
-use Rattle.kq_knote.proofs.KnoteLaws.{by_test}
+use Rattle.kq_model.specs.Tallied.{Knote}
+use Rattle.kq_model.proofs.KeyLaws.{same_key, key_eq-refl, key_eq-sym, has_key-append, has_key-without_same, has_key-without_other}
+use Rattle.kq_model.proofs.KnoteLaws.{by_test}
 
 pub has_key-push_same : (k : Key) (q : List Key) → has_key k (q ++ k ∷ []) ≡ true
 has_key-push_same k q =
@@ -106,8 +107,22 @@ AreOnce-queue_for k q once =
     (λ _. by_test (λ a. AreOnce (queue_by k q true a)) k.active (λ _. AreOnce-queued k.key q once) (λ _. once))
     (λ _. AreOnce-without k.key q once)
 
--- a disabled knote that is not in the queue leaves it as it is
-pub queue_for-disabled : (k : Knote) (q : List Key) → k.enabled ≡ false → has_key k.key q ≡ false → queue_for k q ≡ q
+-- the queue for a knote, in each case
+pub queue_for-disabled : (k : Knote) (q : List Key) → k.enabled ≡ false → queue_for k q ≡ without_key k.key q
 unfolding queue_for
-queue_for-disabled k q disabled absent =
-    ap (λ e. queue_by k q e k.active) disabled ∙ without_key-absent k.key q absent
+queue_for-disabled k q disabled = ap (λ e. queue_by k q e k.active) disabled
+
+pub queue_for-idle : (k : Knote) (q : List Key) → k.enabled ≡ true → k.active ≡ false → queue_for k q ≡ q
+unfolding queue_for
+queue_for-idle k q enabled idle = ap (λ e. queue_by k q e k.active) enabled ∙ ap (queue_by k q true) idle
+
+pub queue_for-there : (k : Knote) (q : List Key) → k.enabled ≡ true → has_key k.key q ≡ true → queue_for k q ≡ q
+unfolding queue_for
+queue_for-there k q enabled there =
+    ap (λ e. queue_by k q e k.active) enabled ∙ by_test (λ a. queue_by k q true a ≡ q) k.active
+    (λ _. ap (put_if_absent k.key q) there) (λ _. refl)
+
+pub queue_for-comes : (k : Knote) (q : List Key) → k.enabled ≡ true → k.active ≡ true → has_key k.key q ≡ false → queue_for k q ≡ q ++ k.key ∷ []
+unfolding queue_for
+queue_for-comes k q enabled active absent =
+    ap (λ e. queue_by k q e k.active) enabled ∙ ap (queue_by k q true) active ∙ ap (put_if_absent k.key q) absent

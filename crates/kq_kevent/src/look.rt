@@ -1,7 +1,7 @@
 ghost use Rattle.std.specs.Prelude.{◌≡◌};
 ghost use Rattle.kq_model.specs.Bits.{flag_if};
 ghost use Rattle.kq_model.specs.Look.{look};
-ghost use Rattle.kq_model.specs.Registration.{attended};
+ghost use Rattle.kq_model.specs.ChangedKnote.{attended};
 ghost use Rattle.kq_model.specs.Retrieval.{event_flags, event_of};
 
 use bitflags::Flags;
@@ -18,7 +18,7 @@ pub fn look_in<V: Views>(views: &V, knote: &Knote) -> Option<Seen>
 }
 
 /// Looks at an enabled knote, which becomes active where its condition holds.
-#[tactic(auto, unfolding(kq_model::specs::Registration::attended, kq_model::specs::Registration::activated))]
+#[tactic(auto, unfolding(kq_model::specs::ChangedKnote::attended, kq_model::specs::ChangedKnote::activated))]
 pub fn attend<V: Views>(views: &V, knote: &mut Knote)
     ensures { knote.new ≡ attended (V.sees views.now) knote.old }
 {

@@ -2,6 +2,7 @@ ghost use Rattle.std.specs.Prelude.{◌≡◌, ◌≤◌, ◌+◌, [], length, m
 ghost use Rattle.std.specs.Vec.{vec_capacity};
 ghost use Rattle.kq_model.specs.Call.{number_of, entry_of, is_answered, process};
 ghost use Rattle.kq_kevent.specs.Ending.{answer_of};
+ghost use Rattle.kq_kevent.specs.Owned.{caller, limit};
 
 use crate::Kq;
 use crate::register::asks;
@@ -64,9 +65,12 @@ impl Kq {
         requires none { placed.old.items ≡ [] }
         requires room { length changes.now ≤ self.old.room }
         requires capacity { min room (length changes.now) ≤ vec_capacity placed.old }
-        ensures processed { process (V.sees views.now) self.old.owner room changes.now [] self.old.kq
+        ensures processed { process (caller (V.sees views.now) self.old) room changes.now [] self.old.kq
             ≡ record { kq = self.new.kq; placed = placed.new.items; answer = answer_of result placed.new.items } }
         ensures owner { self.new.owner ≡ self.old.owner }
+        ensures version { self.new.version ≡ self.old.version }
+        ensures room { self.old.room ≤ self.new.room + length changes.now }
+        ensures limit { limit self.new ≡ limit self.old }
         ensures queue { length self.new.kq.queue ≤ length self.old.kq.queue + length changes.now }
         ensures capacity { vec_capacity placed.new ≡ vec_capacity placed.old }
     {

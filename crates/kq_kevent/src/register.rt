@@ -1,12 +1,12 @@
-ghost use Rattle.std.specs.Prelude.{◌≡◌, ◌<◌, ◌≤◌, ◌+◌, ◌++◌, ◌∷◌, [], ℕ, None, Some, false, length, OnSome};
+ghost use Rattle.std.specs.Prelude.{◌≡◌, ◌<◌, ◌≤◌, ◌+◌, [], None, Some, false, length, OnSome};
 ghost use Rattle.kq_model.specs.Bits.{asks};
 ghost use Rattle.kq_model.specs.Call.{number_of};
+ghost use Rattle.kq_model.specs.ChangedKnote.{key_of, made, modified};
 ghost use Rattle.kq_model.specs.Knote.{find_knote, has_key};
-ghost use Rattle.kq_model.specs.Registration.{register, queue_for, key_of, made, modified};
+ghost use Rattle.kq_model.specs.Refusals.{is_malformed};
+ghost use Rattle.kq_model.specs.Registration.{register, queue_for, with_made, with_removed, with_modified};
 ghost use Rattle.kq_model.specs.declared.filter.Filter.{Filter};
-ghost use Rattle.kq_kevent.specs.Steps.{is_malformed, with_made, with_removed, with_modified};
-ghost use Rattle.std.specs.Option.{ForSome};
-ghost use Rattle.kq_knote.specs.Reserved.{IsPlaceOf};
+ghost use Rattle.kq_kevent.specs.Owned.{caller, limit};
 
 use crate::Kq;
 use crate::look::attend;
@@ -37,21 +37,18 @@ fn is_malformed(change: &Change) -> bool
 }
 
 impl Queue {
-    /// Keeps the key of a knote, which waited before or not, where it now belongs: out of the
-    /// queue when disabled, at the back when it has come to wait.
+    /// Keeps the key of a knote where it now belongs: out of the queue when disabled, and when it
+    /// is to be returned at the back, unless it waits already.
     #[tactic(auto, unfolding(kq_model::specs::Registration::queue_for))]
-    pub fn place(&mut self, knote: &Knote, waited: bool)
-        requires waited { has_key knote.now.key self.old.keys ≡ waited }
-        requires capacity { waited ≡ false → length self.old.keys < self.old.capacity }
+    pub fn place(&mut self, knote: &Knote)
+        requires { has_key knote.now.key self.old.keys ≡ false → length self.old.keys < self.old.capacity }
         ensures keys { self.new.keys ≡ queue_for knote.now self.old.keys }
         ensures capacity { self.new.capacity ≡ self.old.capacity }
     {
-        if knote.enabled {
-            if knote.active && !waited {
-                self.put_in(knote.key);
-            }
-        } else if waited {
+        if !knote.enabled {
             self.take_out(knote.key);
+        } else if knote.active && !self.has(knote.key) {
+            self.put_in(knote.key);
         }
     }
 }
@@ -61,11 +58,13 @@ impl Kq {
     /// refused. It takes no memory. A refused change leaves the kqueue as it was.
     pub fn register<V: Views>(&mut self, change: &Change, views: &V) -> u32
         requires { 0 < self.old.room }
-        ensures kq { self.new.kq ≡ (register (V.sees views.now) self.old.owner change.now self.old.kq).kq }
-        ensures error { result ≡ number_of (register (V.sees views.now) self.old.owner change.now self.old.kq).error }
+        ensures kq { self.new.kq ≡ (register (caller (V.sees views.now) self.old) change.now self.old.kq).kq }
+        ensures error { result ≡ number_of (register (caller (V.sees views.now) self.old) change.now self.old.kq).error }
         ensures refused { 0 < result → self.new.kq ≡ self.old.kq }
         ensures owner { self.new.owner ≡ self.old.owner }
+        ensures version { self.new.version ≡ self.old.version }
         ensures room { self.old.room ≤ self.new.room + 1 }
+        ensures limit { limit self.new ≡ limit self.old }
     {
         number_of(self.apply(change, views))
     }
@@ -74,11 +73,13 @@ impl Kq {
     /// their order: a filter that is not simulated, ENABLE with DISABLE, nothing there and no ADD.
     pub(crate) fn apply<V: Views>(&mut self, change: &Change, views: &V) -> Option<Errno>
         requires { 0 < self.old.room }
-        ensures kq { self.new.kq ≡ (register (V.sees views.now) self.old.owner change.now self.old.kq).kq }
-        ensures error { result ≡ (register (V.sees views.now) self.old.owner change.now self.old.kq).error }
+        ensures kq { self.new.kq ≡ (register (caller (V.sees views.now) self.old) change.now self.old.kq).kq }
+        ensures error { result ≡ (register (caller (V.sees views.now) self.old) change.now self.old.kq).error }
         ensures refused { OnSome result (self.new.kq ≡ self.old.kq) }
         ensures owner { self.new.owner ≡ self.old.owner }
+        ensures version { self.new.version ≡ self.old.version }
         ensures room { self.old.room ≤ self.new.room + 1 }
+        ensures limit { limit self.new ≡ limit self.old }
     {
         if is_malformed(change) {
             return Some(Errno::EINVAL);
@@ -94,11 +95,11 @@ impl Kq {
                 }
                 self.make(change, views);
             }
-            Some(place) => {
+            Some(knote) => {
                 if asks(change.flags, EvFlags::DELETE) {
-                    self.unmake(place, key);
+                    self.unmake(key);
                 } else {
-                    self.modify(place, change, views);
+                    self.modify(knote, change, views);
                 }
             }
         }
@@ -110,43 +111,44 @@ impl Kq {
         requires room { 0 < self.old.room }
         requires user { change.now.filter ≡ Filter.User }
         requires absent { find_knote (key_of change.now) self.old.kq.knotes ≡ None }
-        ensures kq { self.new.kq ≡ with_made (made (V.sees views.now) self.old.owner change.now) self.old.kq }
+        ensures kq { self.new.kq ≡ with_made (made (caller (V.sees views.now) self.old) change.now) self.old.kq }
         ensures owner { self.new.owner ≡ self.old.owner }
-        ensures room { self.old.room ≤ self.new.room + 1 }
+        ensures version { self.new.version ≡ self.old.version }
+        ensures room { self.new.room + 1 ≡ self.old.room }
     {
         let mut knote = Knote::first(change);
         attend(views, &mut knote);
         self.knotes.attach(knote);
-        self.queue.place(&knote, false);
+        self.queue.place(&knote);
     }
 
-    /// Takes out the knote of a key, which stands at this place.
-    fn unmake(&mut self, place: usize, key: Key)
-        requires { IsPlaceOf key self.old.kq.knotes place }
+    /// Takes out the knote of a key.
+    fn unmake(&mut self, key: Key)
         ensures kq { self.new.kq ≡ with_removed key self.old.kq }
         ensures owner { self.new.owner ≡ self.old.owner }
+        ensures version { self.new.version ≡ self.old.version }
         ensures room { self.old.room ≤ self.new.room }
+        ensures limit { limit self.new ≡ limit self.old }
     {
-        let knote = self.knotes.remove_at(place, key);
-        if knote.is_waiting() {
-            self.queue.take_out(key);
-        }
+        self.knotes.remove(key);
+        self.queue.take_out(key);
     }
 
-    /// Lets a change modify the knote of its key, which stands at this place.
-    fn modify<V: Views>(&mut self, place: usize, change: &Change, views: &V)
-        requires { IsPlaceOf (key_of change.now) self.old.kq.knotes place }
-        ensures kq { ForSome (find_knote (key_of change.now) self.old.kq.knotes) (λ k. self.new.kq ≡ with_modified (modified (V.sees views.now) change.now k) self.old.kq) }
+    /// Lets a change modify the knote of its key.
+    fn modify<V: Views>(&mut self, present: Knote, change: &Change, views: &V)
+        requires user { change.now.filter ≡ Filter.User }
+        requires present { find_knote (key_of change.now) self.old.kq.knotes ≡ Some present }
+        ensures kq { self.new.kq ≡ with_modified change.now (modified (caller (V.sees views.now) self.old) change.now present) self.old.kq }
         ensures owner { self.new.owner ≡ self.old.owner }
-        ensures room { self.old.room ≤ self.new.room }
+        ensures version { self.new.version ≡ self.old.version }
+        ensures room { self.new.room ≡ self.old.room }
     {
-        let mut knote = *self.knotes.at(place);
-        let waited = knote.is_waiting();
+        let mut knote = present;
         knote.replace(change);
         knote.control(change);
         knote.switch(change);
         attend(views, &mut knote);
-        self.knotes.put_at(place, knote);
-        self.queue.place(&knote, waited);
+        self.knotes.modify(knote);
+        self.queue.place(&knote);
     }
 }

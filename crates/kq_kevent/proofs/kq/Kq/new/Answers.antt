@@ -1,6 +1,6 @@
 use Rattle.std.proofs.Common.{length, ap, arith}
 use Rattle.kq_model.specs.Kqueue.{empty_kqueue}
-use Rattle.kq_model.specs.Knote.{Knote}
+use Rattle.kq_model.specs.Tallied.{Knote}
 use Rattle.kq_kevent.proofs.RegisterLaws.{IsSound-at}
 use Rattle.kq_kevent.proofs.SoundLaws.{IsSound-empty}
 use Rattle.kq_kevent.proofs.kq.Kq.new.Goals as goal

@@ -1,7 +1,7 @@
 use Rattle.std.proofs.Common.{◌≡◌, ◌<◌, subst}
-use Rattle.kq_model.specs.Kqueue.{Kqueue}
 use Rattle.kq_kevent.proofs.CallLaws.{refused_by}
 use Rattle.kq_kevent.proofs.kq.Kq.register.Goals as goal
+use Rattle.kq_model.specs.Tallied.{Kqueue}
 
 pub returns-clause-refused : goal.returns-clause-refused
 returns-clause-refused g c =

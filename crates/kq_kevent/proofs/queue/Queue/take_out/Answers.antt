@@ -1,7 +1,7 @@
 use Rattle.std.proofs.Common.{not, ap, ◌∙◌, rules}
 use Rattle.std.proofs.lemmas.Fn.{filter_same}
 use Rattle.kq_model.specs.Knote.{key_eq, without_key}
-use Rattle.kq_kevent.specs.Held.{Keys}
+use Rattle.kq_kevent.specs.Owned.{Keys}
 use Rattle.kq_kevent.proofs.queue.Queue.take_out.Goals as goal
 
 pub returns-clause-keys : goal.returns-clause-keys

@@ -1,0 +1,4 @@
+pub mod RowLaws
+pub mod KeepLaws
+pub mod SlotLaws
+pub mod IndexLaws

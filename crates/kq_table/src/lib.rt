@@ -1,0 +1,9 @@
+//! A table of rows in order, with an index by key; and an index of keys by what they watch.
+#![tactic(auto)]
+
+mod keyed;
+mod place;
+mod table;
+
+pub use keyed::Keyed;
+pub use table::Table;
