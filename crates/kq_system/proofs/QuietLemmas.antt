@@ -60,16 +60,16 @@ unhappened m owner kq quiet = rw (quiet.closed, quiet.hints, quiet.clock) (ap (n
 
 -- a kqueue that is not called
 pub uncalled : (m : Moment) (l : Live) → IsQuiet m → m.call ≡ None → stepped m l ≡ l
-unfolding stepped kqueue_step after_call
+unfolding stepped kqueue_step after_call happened
 uncalled m l quiet none = rw none (ap (λ (kq : Kqueue). record l { kq = kq }) (unhappened m l.owner l.kq quiet))
 
 pub called_other : (m : Moment) (c : Call) (l : Live) → IsQuiet m → m.call ≡ Some c → (c.kqueue == l.place) ≡ false → stepped m l ≡ l
-unfolding stepped kqueue_step after_call
+unfolding stepped kqueue_step after_call happened
 called_other m c l quiet call other = rw (call, other) (ap (λ (kq : Kqueue). record l { kq = kq }) (unhappened m l.owner l.kq quiet))
 
 pub called_one : (m : Moment) (c : Call) (l : Live) → m.call ≡ Some c → (c.kqueue == l.place) ≡ true
     → stepped m l ≡ record l { kq = (called_at l.owner m c l.kq).kq }
-unfolding stepped kqueue_step after_call
+unfolding stepped kqueue_step after_call happened
 called_one m c l call this = rw (call, this) refl
 
 -- ---- all live kqueues
