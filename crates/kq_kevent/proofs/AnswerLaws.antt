@@ -5,6 +5,7 @@ use Rattle.std.proofs.lemmas.Bool.{ltb-true, ltb-false}
 use Rattle.std.proofs.lemmas.List.{length_push}
 use Rattle.std.specs.Prelude.{nat_lt}
 use Rattle.kq_model.specs.Caller.{Caller}
+use Rattle.kq_model.specs.Hearing.{tallying}
 use Rattle.kq_model.specs.declared.change.Change.{Change}
 use Rattle.kq_model.specs.declared.errno.Errno.{Errno}
 use Rattle.kq_model.specs.declared.kevent.Kevent.{Kevent}
@@ -21,7 +22,8 @@ use Rattle.kq_model.specs.Refusals.{is_malformed, is_unopened, own_refusal}
 use Rattle.kq_model.specs.Tallied.{Called, Decision, Knote, Kqueue, Processed, Registered, Retrieved}
 use Rattle.kq_model.proofs.KnoteLaws.{by_test, find_knote-key}
 use Rattle.kq_kevent.proofs.CallLaws.{after_by, call-through}
-use Rattle.kq_kevent.proofs.KnoteSteps.{made-key, modified-key, modified-active}
+use Rattle.kq_model.proofs.RegistrationLaws.{made-key, modified-key}
+use Rattle.kq_kevent.proofs.KnoteSteps.{modified-active}
 use Rattle.kq_kevent.proofs.SoundLaws.{IsSound-made, IsSound-removed, IsSound-modified}
 use Rattle.kq_kevent.proofs.TakenLaws.{nil_in_order, AreTaken-retrieval}
 use Rattle.kq_kevent.proofs.TurnLaws.{retrieval-going, going-full}
@@ -62,9 +64,9 @@ unfolding carried_out
 IsSound-carried caller c kq sound (Refuse e) fits = sound
 IsSound-carried caller c kq sound Remove fits = IsSound-removed kq (key_of c) sound
 IsSound-carried caller c kq sound Make fits =
-    IsSound-made kq (made caller c) sound (ap (λ o. find_knote o kq.knotes) (made-key caller c) ∙ fits)
+    IsSound-made kq (made caller c) sound (ap (λ o. find_knote o kq.knotes) (made-key tallying caller c) ∙ fits)
 IsSound-carried caller c kq sound (Modify k) fits =
-    let of_key = modified-key caller c k ∙ sym (find_knote-key (key_of c) kq.knotes k fits) in
+    let of_key = modified-key tallying caller c k ∙ sym (find_knote-key (key_of c) kq.knotes k fits) in
     IsSound-modified kq c (modified caller c k) k sound of_key (ap (λ o. find_knote o kq.knotes) of_key ∙ fits) (modified-active caller c k)
 
 pub IsSound-register : (caller : Caller) (c : Change) (kq : Kqueue) → IsSound kq → IsSound (register caller c kq).kq

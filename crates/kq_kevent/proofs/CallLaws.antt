@@ -2,7 +2,6 @@
 use Rattle.std.proofs.Common.{◌≡◌, ℕ, suc, ◌+◌, ◌<◌, ◌≤◌, Bool, true, false, cond, not, List, [], ◌∷◌, ◌++◌, length, drop, get_or, Option, Some, None, refl, sym, ap, ◌∙◌, arith}
 use Rattle.std.proofs.lemmas.Bool.{lt-ltb, le-ltb}
 use Rattle.std.proofs.lemmas.List.{drop_more, drop_all, length_push}
-use Rattle.std.specs.Option.{OnSome}
 use Rattle.std.specs.Prelude.{nat_lt}
 use Rattle.kq_model.specs.Caller.{Caller}
 use Rattle.kq_model.specs.declared.change.Change.{Change}
@@ -11,7 +10,7 @@ use Rattle.kq_model.specs.declared.kevent.Kevent.{Kevent}
 use Rattle.kq_model.specs.declared.key.Key.{Key}
 use Rattle.kq_model.specs.declared.reply.Reply.{Reply}
 use Rattle.kq_model.specs.declared.reply.Reply.TheVariants.{Events, Failed}
-use Rattle.kq_model.specs.Call.{number_of, entry_of, is_answered, ended, after, process, returned, by_entries, by_answer, concluded, call}
+use Rattle.kq_model.specs.Call.{entry_of, is_answered, ended, after, process, returned, by_entries, by_answer, concluded, call}
 use Rattle.kq_model.specs.Knote.{find_knote, has_key, key_eq, without_key, queued}
 use Rattle.kq_model.specs.Registration.{queue_for, is_restart, without_restarted, Refuse, Remove, Make, Modify, decision, carried_out, register}
 use Rattle.kq_model.specs.Retrieval.{retrieval}
@@ -20,12 +19,6 @@ use Rattle.kq_model.specs.ChangedKnote.{key_of, modified}
 use Rattle.kq_model.specs.Tallied.{Called, Decision, Knote, Kqueue, Processed, Registered}
 use Rattle.kq_model.proofs.KnoteLaws.{by_test}
 use Rattle.kq_kevent.specs.Owned.{OwnedKqueue, caller}
-
--- an error number tells that there is an error
-pub refused_by : (error : Option Errno) (P : Type 0) → 0 < number_of error → OnSome error P → P
-unfolding number_of
-refused_by None P positive fact = absurd (omega arith)
-refused_by (Some e) P positive fact = fact
 
 -- ---- the queue grows by one key at most
 

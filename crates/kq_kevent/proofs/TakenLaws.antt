@@ -11,7 +11,7 @@ use Rattle.kq_model.specs.CallLaws.{Each, key_of_event, AreInOrder, IsDue, IsLas
 use Rattle.kq_model.specs.Knote.{key_eq, has_key, find_knote, with_knote, without_knote}
 use Rattle.kq_model.specs.Kqueue.{AreOnce, IsSound}
 use Rattle.kq_model.specs.Look.{Seen, look}
-use Rattle.kq_model.specs.Retrieval.{event_flags, event_of, rested, knotes_after, back_after, with_idle, with_delivered, turned_at_look, turned_at, turned, delivered, after_turn, retrieve, retrieval}
+use Rattle.kq_model.specs.Retrieval.{event_flags, event_of, rested, knotes_after, with_idle, with_delivered, turned_at_look, turned_at, turned, delivered, after_turn, retrieve, retrieval}
 use Rattle.kq_model.specs.Views.{Views}
 use Rattle.kq_model.specs.Tallied.{Knote, Kqueue, Retrieved, Turned}
 use Rattle.kq_model.proofs.KeyLaws.{same_key, key_eq-refl, key_eq-sym}

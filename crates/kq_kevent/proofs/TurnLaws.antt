@@ -244,6 +244,38 @@ pub record IsTurn (views : Views) (kq next : Kqueue) (event : Option Kevent) : T
   pub leaves : (key : Key) (rest : List Key) → kq.queue ≡ key ∷ rest → next ≡ (turned views key (record kq { queue = rest })).kq
   pub gives : (key : Key) (rest : List Key) → kq.queue ≡ key ∷ rest → event ≡ (turned views key (record kq { queue = rest })).event
 
+-- it is enough to know it of the key that was taken
+IsTurn-of : (views : Views) (kq next : Kqueue) (event : Option Kevent) (front : Key) (behind : List Key) → kq.queue ≡ front ∷ behind → record { kq = next; event = event } ≡ turned views front (kqueue_of kq.knotes behind) → IsTurn views kq next event
+IsTurn-of views kq next event front behind first is = record {
+  leaves = λ key rest there. ap (λ (t : Turned). t.kq) (is ∙ moved key rest there);
+  gives = λ key rest there. ap (λ (t : Turned). t.event) (is ∙ moved key rest there);
+}
+  where
+    moved : (key : Key) (rest : List Key) → kq.queue ≡ key ∷ rest → turned views front (kqueue_of kq.knotes behind) ≡ turned views key (kqueue_of kq.knotes rest)
+    moved key rest there =
+        let both : front ∷ behind ≡ key ∷ rest = sym first ∙ there in
+        let same_key : front ≡ key = cc in
+        let same_rest : behind ≡ rest = cc in
+        ap (λ k. turned views k (kqueue_of kq.knotes behind)) same_key
+        ∙ ap (λ (q : List Key). turned views key (kqueue_of kq.knotes q)) same_rest
+
+pub IsTurn-idle : (views : Views) (kq next : Kqueue) (front : Key) (behind : List Key) (k : Knote) → kq.queue ≡ front ∷ behind → find_knote front kq.knotes ≡ Some k → look views k ≡ None → next ≡ with_idle k (kqueue_of kq.knotes behind) → IsTurn views kq next None
+IsTurn-idle views kq next front behind k first here nothing is =
+    IsTurn-of views kq next None front behind first
+    (ap (λ (after : Kqueue). turn after None) is ∙ sym (turned-idle views front (kqueue_of kq.knotes behind) k here nothing))
+  where
+    turn : Kqueue → Option Kevent → Turned
+    turn after event = record { kq = after; event = event }
+
+pub IsTurn-delivered : (views : Views) (kq next : Kqueue) (front : Key) (behind : List Key) (k : Knote) (seen : Seen) (e : Kevent) → kq.queue ≡ front ∷ behind → find_knote front kq.knotes ≡ Some k → look views k ≡ Some seen → next ≡ with_delivered k (kqueue_of kq.knotes behind) → e ≡ event_of k seen → IsTurn views kq next (Some e)
+IsTurn-delivered views kq next front behind k seen e first here there is event =
+    IsTurn-of views kq next (Some e) front behind first
+    (ap (λ (after : Kqueue). turn after e) is ∙ ap (λ x. turn (with_delivered k (kqueue_of kq.knotes behind)) x) event
+    ∙ sym (turned-delivered views front (kqueue_of kq.knotes behind) k seen here there))
+  where
+    turn : Kqueue → Kevent → Turned
+    turn after x = record { kq = after; event = Some x }
+
 pub turn-shortens : (views : Views) (kq next : Kqueue) (event : Option Kevent) (q : List Key) → kq.queue ≡ q → IsTurn views kq next event → length q ≤ length next.queue + 1
 turn-shortens views kq next event [] is turn = omega arith
 turn-shortens views kq next event (key ∷ rest) is turn =

@@ -1,5 +1,8 @@
 ghost use Rattle.std.specs.Prelude.{◌≡◌, ◌≤◌, ◌+◌, length, max, min, IfOk, IsOk, OnErr};
 ghost use Rattle.kq_model.specs.Call.{call};
+ghost use Rattle.kq_model.specs.Hearing.{listed};
+ghost use Rattle.kq_model.specs.Kqueue.{Kqueue};
+ghost use Rattle.kq_model.specs.Recast.{tallied, IsTallied};
 ghost use Rattle.kq_model.specs.CallLaws.{IsAnswer, kqueue_after_changes, IsChangesThenPoll};
 ghost use Rattle.kq_kevent.specs.Owned.{caller, limit};
 
@@ -28,6 +31,10 @@ impl Kq {
     ) -> Result<Reply, Memory>
         ensures called { IfOk result (λ reply. record { kq = self.new.kq; reply = reply }
             ≡ call (caller (V.sees views.now) self.old) room changes.now self.old.kq) }
+
+        // The same in the words of the definitions, which keep all that was heard.
+        ensures model { IfOk result (λ reply. (m : Kqueue listed) → self.old.kq ≡ tallied m → IsTallied self.new.kq reply
+            (call (caller (V.sees views.now) self.old) room changes.now m)) }
 
         // What the answer promises of the kqueue as the changes left it, and that a call whose
         // changes are all quiet is these changes with room 0 and then a poll.

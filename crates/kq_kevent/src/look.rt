@@ -13,7 +13,7 @@ use kq_model::{EvFlags, Kevent};
 pub fn look_in<V: Views>(views: &V, knote: &Knote) -> Option<Seen>
     ensures { result ≡ look (V.sees views.now) knote.now }
 {
-    let view = knote.target().and_then(|target| views.view(target));
+    let view = knote.target.and_then(|target| views.view(target));
     look(knote, view)
 }
 

@@ -2,11 +2,15 @@ ghost use Rattle.std.specs.Prelude.{◌≡◌, ◌<◌, ◌≤◌, ◌+◌, [], 
 ghost use Rattle.kq_model.specs.Bits.{asks};
 ghost use Rattle.kq_model.specs.Call.{number_of};
 ghost use Rattle.kq_model.specs.ChangedKnote.{key_of, made, modified};
+ghost use Rattle.kq_model.specs.Hearing.{listed};
 ghost use Rattle.kq_model.specs.Knote.{find_knote, has_key};
+ghost use Rattle.kq_model.specs.Kqueue.{Kqueue};
+ghost use Rattle.kq_model.specs.Recast.{tallied};
 ghost use Rattle.kq_model.specs.Refusals.{is_malformed};
 ghost use Rattle.kq_model.specs.Registration.{register, queue_for, with_made, with_removed, with_modified};
+ghost use Rattle.kq_model.specs.RegistrationLaws.{IsRegistered};
 ghost use Rattle.kq_model.specs.declared.filter.Filter.{Filter};
-ghost use Rattle.kq_kevent.specs.Owned.{caller, limit};
+ghost use Rattle.kq_kevent.specs.Owned.{caller, limit, IsTalliedRegistration};
 
 use crate::Kq;
 use crate::look::attend;
@@ -55,12 +59,19 @@ impl Queue {
 
 impl Kq {
     /// Registers one change of a change list: 0, or the number of the error with which it is
-    /// refused. It takes no memory. A refused change leaves the kqueue as it was.
+    /// refused (kqueue(2), ERRORS). It takes no memory.
     pub fn register<V: Views>(&mut self, change: &Change, views: &V) -> u32
         requires { 0 < self.old.room }
         ensures kq { self.new.kq ≡ (register (caller (V.sees views.now) self.old) change.now self.old.kq).kq }
         ensures error { result ≡ number_of (register (caller (V.sees views.now) self.old) change.now self.old.kq).error }
-        ensures refused { 0 < result → self.new.kq ≡ self.old.kq }
+        // What this comes to for a user: other knotes and their order stay, ADD makes no second one,
+        // and a refused change changes nothing.
+        ensures laws { IsRegistered change.now self.old.kq self.new.kq result }
+
+        // The same in the words of the definitions, which keep all that was heard.
+        ensures model { (m : Kqueue listed) → self.old.kq ≡ tallied m → IsTalliedRegistration self.new.kq result
+            (register (caller (V.sees views.now) self.old) change.now m) }
+
         ensures owner { self.new.owner ≡ self.old.owner }
         ensures version { self.new.version ≡ self.old.version }
         ensures room { self.old.room ≤ self.new.room + 1 }
@@ -84,10 +95,7 @@ impl Kq {
         if is_malformed(change) {
             return Some(Errno::EINVAL);
         }
-        let key = Key {
-            ident: change.ident,
-            filter: change.filter,
-        };
+        let key = change.key();
         match self.knotes.find(key) {
             None => {
                 if !asks(change.flags, EvFlags::ADD) {

@@ -6,6 +6,7 @@ pub mod SubjectsCall
 pub mod CloseLaw
 pub mod NamedTargets
 pub mod RegistrationLaws
+pub mod Descriptors
 pub mod LiveKqueues
 pub mod RecastTally
 pub mod RecastKnote

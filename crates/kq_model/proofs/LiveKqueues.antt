@@ -6,6 +6,7 @@ use Rattle.std.proofs.lemmas.List.Folds.{list_any-append}
 use Rattle.std.proofs.lemmas.Option.{none-some, same_Some}
 use Rattle.std.specs.Option.{is_some}
 use Rattle.std.specs.Prelude.{All}
+use Rattle.kq_model.proofs.Descriptors.{with_descriptor-all, with_descriptors-all}
 use Rattle.kq_model.specs.declared.change.Change.{Change}
 use Rattle.kq_model.specs.declared.event.Event.{Event}
 use Rattle.kq_model.specs.declared.event.Event.TheVariants as event
@@ -14,7 +15,7 @@ use Rattle.kq_model.specs.declared.object.Named.TheVariants as named
 use Rattle.kq_model.specs.declared.why.Why.{Why}
 use Rattle.kq_model.specs.declared.why.Why.TheVariants.{NoProcess, UsedPid, UsedDescriptor, TooMany}
 use Rattle.kq_model.specs.Close.{Pair, has_pair}
-use Rattle.kq_model.specs.Descriptors.{Descriptor, is_before, named_among, with_descriptor, with_descriptors, without_closed}
+use Rattle.kq_model.specs.Descriptors.{Descriptor, named_among, with_descriptors, without_closed}
 use Rattle.kq_model.specs.Hearing.{Hearing}
 use Rattle.kq_model.specs.Limits.{most_changes, most_room}
 use Rattle.kq_model.specs.LiveKqueues.{is_live_as, has_live, NamesLive, AreAllLive, NamesNoKqueue, OpensNoKqueue}
@@ -64,19 +65,6 @@ plan-opens place (event.Kevent pid fd changes room) w =
     on_descriptor-opens pid fd (plan_call changes room) (plan_call-opens changes room) w
 
 -- ---- the table
-
-with_descriptor-all : (P : Descriptor → Type 0) (d : Descriptor) (es : List Descriptor) → P d → All P es → All P (with_descriptor d es)
-unfolding with_descriptor
-with_descriptor-all P d [] has all = All-cons P d [] has all
-with_descriptor-all P d (e ∷ es) has all =
-    cond_both (is_before d e) (d ∷ e ∷ es) (e ∷ with_descriptor d es) (All P) (λ _. All-cons P d (e ∷ es) has all)
-    (λ _. All-cons P e (with_descriptor d es) (All-head P e es all) (with_descriptor-all P d es has (All-tail P e es all)))
-
-with_descriptors-all : (P : Descriptor → Type 0) (ds es : List Descriptor) → All P ds → All P es → All P (with_descriptors ds es)
-unfolding with_descriptors
-with_descriptors-all P [] es more all = all
-with_descriptors-all P (d ∷ ds) es more all =
-    with_descriptors-all P ds (with_descriptor d es) (All-tail P d ds more) (with_descriptor-all P d es (All-head P d ds more) all)
 
 All-like : {A : Type 0} (P Q : A → Type 0) → ((x : A) → P x → Q x) → (xs : List A) → All P xs → All Q xs
 All-like P Q like [] all = All-nil Q

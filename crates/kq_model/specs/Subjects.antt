@@ -26,5 +26,6 @@ module _ {S : Type 0} {h : Hearing S} where
       → P c.filter c.ident (target_of caller.views caller.owner c.filter c.ident)
 
 -- each knote that one of the changes may make has such a subject, whatever kqueue the change meets
-abbrev pub MakeSubjects : {S : Type 0} (h : Hearing S) → (Filter → ℕ → Option Target → Type 0) → Caller → List Change → Type 0
+abbrev pub MakeSubjects : {S : Type 0} (h : Hearing S) → (Filter → ℕ → Option Target → Type 0) → Caller → List Change
+    → Type 0
 MakeSubjects h P caller changes = All (λ c. (kq : Kqueue h) → MakesSubject P caller c kq) changes

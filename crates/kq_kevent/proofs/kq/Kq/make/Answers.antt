@@ -1,11 +1,12 @@
-use Rattle.std.proofs.Common.{◌≡◌, length, None, ap, ◌∙◌, arith}
+use Rattle.std.proofs.Common.{length, ap, ◌∙◌, arith}
 use Rattle.std.proofs.lemmas.List.{length_push}
 use Rattle.kq_model.specs.ChangedKnote.{key_of, made}
+use Rattle.kq_model.specs.Hearing.{tallying}
 use Rattle.kq_model.specs.Knote.{find_knote}
 use Rattle.kq_model.specs.Registration.{with_made}
 use Rattle.kq_model.specs.Tallied.{Knote, Kqueue}
 use Rattle.kq_kevent.specs.Owned.{OwnedKqueue, caller}
-use Rattle.kq_kevent.proofs.KnoteSteps.{made-key}
+use Rattle.kq_model.proofs.RegistrationLaws.{made-key}
 use Rattle.kq_kevent.proofs.RegisterLaws.{same_kqueue, IsSound-at, made-by}
 use Rattle.kq_kevent.proofs.SoundLaws.{IsSound-made, length-queue}
 use Rattle.kq_kevent.proofs.kq.Kq.make.Goals as goal
@@ -15,13 +16,13 @@ attach-requires-clause-absent g c =
     let by = caller (g.V.Views.sees c.args.views.now) c.args.self.now in
     let is = made-by by c.args.change.now c.first-knote.result c.attend.new.knote (c.first-knote.ensures by) c.attend.ensures in
     ap (λ (k : Knote). find_knote k.key c.self.inside.knotes.knotes) is
-    ∙ ap (λ key. find_knote key c.self.inside.knotes.knotes) (made-key by c.args.change.now)
+    ∙ ap (λ key. find_knote key c.self.inside.knotes.knotes) (made-key tallying by c.args.change.now)
     ∙ ap (λ (v : OwnedKqueue). find_knote (key_of c.args.change.now) v.kq.knotes) c.self.view_is ∙ c.requires.absent
 
 pub place-requires : goal.place-requires
 place-requires g c = λ _.
     let kq : Kqueue = record { knotes = c.self.inside.knotes.knotes; queue = c.self.inside.queue.keys } in
-    omega (arith, length-queue kq c.self.invariant.sound, ap (λ (v : OwnedKqueue). v.room) c.self.view_is, c.requires.room)
+    omega (arith, length-queue kq c.self.invariant.sound, c.self.invariant.capacity, ap (λ (v : OwnedKqueue). v.room) c.self.view_is, c.requires.room)
 
 pub invariant_of-self : goal.invariant_of-self
 invariant_of-self g c =
@@ -29,11 +30,11 @@ invariant_of-self g c =
     let kq : Kqueue = record { knotes = c.self.inside.knotes.knotes; queue = c.self.inside.queue.keys } in
     let k = c.attend.new.knote in
     let is = made-by by c.args.change.now c.first-knote.result c.attend.new.knote (c.first-knote.ensures by) c.attend.ensures in
-    let absent = ap (λ (k : Knote). find_knote k.key kq.knotes) is ∙ ap (λ key. find_knote key kq.knotes) (made-key by c.args.change.now)
+    let absent = ap (λ (k : Knote). find_knote k.key kq.knotes) is ∙ ap (λ key. find_knote key kq.knotes) (made-key tallying by c.args.change.now)
     ∙ ap (λ (v : OwnedKqueue). find_knote (key_of c.args.change.now) v.kq.knotes) c.self.view_is ∙ c.requires.absent in
     record {
       sound = IsSound-at c.attach.new.self.knotes c.place.new.self.keys (with_made k kq) c.attach.ensures.knotes c.place.ensures.keys (IsSound-made kq k c.self.invariant.sound absent);
-      capacity = omega (arith, ap (length {A = Knote}) c.attach.ensures.knotes, length_push kq.knotes k, c.place.ensures.capacity, c.self.invariant.capacity, ap (λ (v : OwnedKqueue). v.room) c.self.view_is, c.requires.room);
+      capacity = omega (arith, ap (length {A = Knote}) c.attach.ensures.knotes, length_push kq.knotes k, c.place.ensures.capacity, c.attach.ensures.room, c.self.invariant.capacity);
     }
 
 pub returns-clause-kq : goal.returns-clause-kq

@@ -1,13 +1,14 @@
-use Rattle.std.proofs.Common.{◌≡◌, length, Some, sym, ap, ◌∙◌, arith}
-use Rattle.kq_model.specs.declared.key.Key.{Key}
+use Rattle.std.proofs.Common.{◌≡◌, length, sym, ap, ◌∙◌, arith}
 use Rattle.kq_model.specs.ChangedKnote.{key_of, modified}
+use Rattle.kq_model.specs.Hearing.{tallying}
 use Rattle.kq_model.specs.Knote.{find_knote}
 use Rattle.kq_model.specs.Registration.{with_modified}
 use Rattle.kq_model.specs.Tallied.{Knote, Kqueue}
 use Rattle.kq_model.proofs.KnoteLaws.{find_knote-key}
 use Rattle.kq_kevent.specs.Owned.{OwnedKqueue, caller}
 use Rattle.kq_kevent.proofs.CountLaws.{length-with_knote}
-use Rattle.kq_kevent.proofs.KnoteSteps.{modified-key, modified-active}
+use Rattle.kq_model.proofs.RegistrationLaws.{modified-key}
+use Rattle.kq_kevent.proofs.KnoteSteps.{modified-active}
 use Rattle.kq_kevent.proofs.RegisterLaws.{same_kqueue, IsSound-at, modified-by, modified-queue}
 use Rattle.kq_kevent.proofs.SoundLaws.{IsSound-modified, length-queue_besides}
 use Rattle.kq_kevent.proofs.kq.Kq.modify.Goals as goal
@@ -19,7 +20,7 @@ place-requires g c = λ absent.
     let change = c.args.change.now in
     let found = ap (λ (v : OwnedKqueue). find_knote (key_of change) v.kq.knotes) c.self.view_is ∙ c.requires.present in
     let is = modified-by by change c.args.present c.replace.new.self c.control.new.self c.switch.new.self c.attend.new.knote c.requires.user c.replace.ensures c.control.ensures c.switch.ensures c.attend.ensures in
-    let same : c.attend.new.knote.key ≡ key_of change = ap (λ (k : Knote). k.key) is ∙ modified-key by change c.args.present ∙ sym (find_knote-key (key_of change) kq.knotes c.args.present found) in
+    let same : c.attend.new.knote.key ≡ key_of change = ap (λ (k : Knote). k.key) is ∙ modified-key tallying by change c.args.present ∙ sym (find_knote-key (key_of change) kq.knotes c.args.present found) in
     omega (arith, length-queue_besides kq c.self.invariant.sound c.attend.new.knote.key c.args.present (ap (λ key. find_knote key kq.knotes) same ∙ found) absent, c.self.invariant.capacity)
 
 pub invariant_of-self : goal.invariant_of-self
@@ -30,12 +31,12 @@ invariant_of-self g c =
     let k = c.attend.new.knote in
     let found = ap (λ (v : OwnedKqueue). find_knote (key_of change) v.kq.knotes) c.self.view_is ∙ c.requires.present in
     let is = modified-by by change c.args.present c.replace.new.self c.control.new.self c.switch.new.self c.attend.new.knote c.requires.user c.replace.ensures c.control.ensures c.switch.ensures c.attend.ensures in
-    let same : k.key ≡ key_of change = ap (λ (k : Knote). k.key) is ∙ modified-key by change c.args.present ∙ sym (find_knote-key (key_of change) kq.knotes c.args.present found) in
+    let same : k.key ≡ key_of change = ap (λ (k : Knote). k.key) is ∙ modified-key tallying by change c.args.present ∙ sym (find_knote-key (key_of change) kq.knotes c.args.present found) in
     record {
       sound = IsSound-at c.modify.new.self.knotes c.place.new.self.keys (with_modified change k kq) c.modify.ensures.knotes (c.place.ensures.keys ∙ modified-queue change k kq c.requires.user)
           (IsSound-modified kq change k c.args.present c.self.invariant.sound same (ap (λ key. find_knote key kq.knotes) same ∙ found)
           (λ stays idle. modified-active by change c.args.present stays (ap (λ (k : Knote). k.active) (sym is) ∙ idle)));
-      capacity = omega (arith, ap (length {A = Knote}) c.modify.ensures.knotes, length-with_knote k kq.knotes, c.place.ensures.capacity, c.self.invariant.capacity);
+      capacity = omega (arith, ap (length {A = Knote}) c.modify.ensures.knotes, length-with_knote k kq.knotes, c.modify.ensures.room, c.place.ensures.capacity, c.self.invariant.capacity);
     }
 
 pub returns-clause-kq : goal.returns-clause-kq

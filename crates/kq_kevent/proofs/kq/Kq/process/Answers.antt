@@ -75,6 +75,7 @@ loop-change-preserved g c =
             owner = c.apply-error.ensures.owner ∙ c.loop-change.invariant.owner;
             version = c.apply-error.ensures.version ∙ c.loop-change.invariant.version;
             left = omega arith;
+            limit = c.apply-error.ensures.limit ∙ c.loop-change.invariant.limit;
           }
       | else-is_answered w ↦
           let kept : c.if-is_answered.placed.items ≡ before = ap (λ (v : Vec Kevent Global). v.items) w.placed-is in
@@ -96,6 +97,7 @@ loop-change-preserved g c =
             owner = c.apply-error.ensures.owner ∙ c.loop-change.invariant.owner;
             version = c.apply-error.ensures.version ∙ c.loop-change.invariant.version;
             left = omega arith;
+            limit = c.apply-error.ensures.limit ∙ c.loop-change.invariant.limit;
           }
     ]
 

@@ -1,7 +1,7 @@
 use Rattle.std.proofs.Common.{◌≡◌, ◌-◌, ◌+◌, ◌≤◌, length, drop, []}
 use Rattle.std.specs.Vec.{vec_capacity}
 use Rattle.kq_model.specs.Call.{process}
-use Rattle.kq_kevent.specs.Owned.{caller}
+use Rattle.kq_kevent.specs.Owned.{caller, limit}
 use Rattle.kq_kevent.proofs.kq.Kq.process.Given as goal
 
 abbrev pub invariant-loop-change : goal.invariant-loop-change
@@ -16,4 +16,5 @@ invariant-loop-change g l = record {
   owner : l.self.owner ≡ l.initial.self.owner;
   version : l.self.version ≡ l.initial.self.version;
   left : l.initial.self.room ≤ l.self.room + l.change-index;
+  limit : limit l.self ≡ limit l.initial.self;
 }

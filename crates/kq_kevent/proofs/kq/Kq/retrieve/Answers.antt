@@ -22,6 +22,7 @@ loop-turn-init g c =
       owner = refl;
       version = refl;
       reserved = omega arith;
+      limit = refl;
     }
 
 pub returns-then-len-room-clause-retrieved : goal.returns-then-len-room-clause-retrieved
@@ -61,6 +62,7 @@ loop-turn-preserved g c =
             owner = c.turn.ensures.owner ∙ c.loop-turn.invariant.owner;
             version = c.turn.ensures.version ∙ c.loop-turn.invariant.version;
             reserved = omega arith;
+            limit = c.turn.ensures.limit ∙ c.loop-turn.invariant.limit;
           }
       | in_default w ↦
           let kept : c.match-turn.events.items ≡ before = ap (λ (v : Vec Kevent Global). v.items) w.events-is in
@@ -79,6 +81,7 @@ loop-turn-preserved g c =
             owner = c.turn.ensures.owner ∙ c.loop-turn.invariant.owner;
             version = c.turn.ensures.version ∙ c.loop-turn.invariant.version;
             reserved = omega arith;
+            limit = c.turn.ensures.limit ∙ c.loop-turn.invariant.limit;
           }
     ]
 

@@ -1,6 +1,7 @@
 use Rattle.std.proofs.Common.{◌≡◌, ◌-◌, ◌≤◌, length}
 use Rattle.std.specs.Vec.{vec_capacity}
 use Rattle.kq_model.specs.Retrieval.{retrieval}
+use Rattle.kq_kevent.specs.Owned.{limit}
 use Rattle.kq_kevent.proofs.TurnLaws.{going, preceded}
 use Rattle.kq_kevent.proofs.kq.Kq.retrieve.Given as goal
 
@@ -15,4 +16,5 @@ invariant-loop-turn g l = record {
   owner : l.self.owner ≡ l.initial.self.owner;
   version : l.self.version ≡ l.initial.self.version;
   reserved : l.initial.self.room ≤ l.self.room;
+  limit : limit l.self ≡ limit l.initial.self;
 }
