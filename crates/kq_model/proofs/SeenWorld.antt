@@ -38,11 +38,11 @@ module _ {A B C D : Type 0} {k : Keeping A B C D} (counts : CountsAll k) where
       → seen_world (carried_out place p w) ≡ carried_out place p (seen_world w)
   unfolding carried_out
   seen-carried_out place p w = ap (λ (o : Objects counted). record {
-      processes = with_process p.started (without_process p.ended (with_disposition p.disposed w.processes));
-      table = with_kqueue place p.born (with_descriptors p.opened (without_closed p.closed w.table));
-      objects = o;
-      now = clock_after p.clock w.now;
-    }) (all_done-quantities k counts p.doings w.objects)
+    processes = with_process p.started (without_process p.ended (with_disposition p.disposed w.processes));
+    table = with_kqueue place p.born (with_descriptors p.opened (without_closed p.closed w.table));
+    objects = o;
+    now = clock_after p.clock w.now;
+  }) (all_done-quantities k counts p.doings w.objects)
 
   abbrev with_views : ℕ → ℕ → Plan → World counted → Moment
   with_views version place p w = record {

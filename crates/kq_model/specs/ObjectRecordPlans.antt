@@ -52,12 +52,16 @@ plan_accept place pid fd to receive_buffer send_buffer w =
     on_descriptor pid fd (λ n. unless_open pid (to ∷ []) w
     (plan_act place (descriptor pid to (named.Socket place) ∷ []) (act.Accept n receive_buffer send_buffer) w)) w
 
+abbrev pub pipe_ends : ℕ → ℕ → ℕ → ℕ → List Descriptor
+pipe_ends place pid read_fd write_fd =
+    descriptor pid read_fd (named.PipeRead place) ∷ descriptor pid write_fd (named.PipeWrite place) ∷ []
+
 -- both numbers are new, and not the same
 unfoldable pub plan_pipe : ℕ → ℕ → ℕ → ℕ → ℕ → World counted → Planned
 plan_pipe place pid read_fd write_fd cap w =
     if_live pid w (if read_fd == write_fd then Impossible UsedDescriptor
     else unless_open pid (read_fd ∷ write_fd ∷ []) w
-    (plan_act place (descriptor pid read_fd (named.PipeRead place) ∷ descriptor pid write_fd (named.PipeWrite place) ∷ []) (act.Pipe cap) w))
+    (plan_act place (pipe_ends place pid read_fd write_fd) (act.Pipe cap) w))
 
 unfoldable pub plan_open : ℕ → ℕ → ℕ → ℕ → Mode → World counted → Planned
 plan_open place pid fd file mode w =

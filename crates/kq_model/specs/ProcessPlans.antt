@@ -35,10 +35,14 @@ unfoldable pub is_kqueue : Named → Bool
 is_kqueue (named.Kqueue place) = true
 is_kqueue _ = false
 
--- a child has copies of all descriptors but those of kqueues
+-- the descriptors that name no kqueue
+abbrev pub inheritable : List Descriptor → List Descriptor
+inheritable ds = filter (λ (d : Descriptor). not (is_kqueue d.named)) ds
+
+-- a child has copies of these
 abbrev pub inherited : ℕ → ℕ → List Descriptor → List Descriptor
 inherited pid child table =
-    map (λ (d : Descriptor). record d { pid = child }) (filter (λ (d : Descriptor). not (is_kqueue d.named)) (descriptors_of pid table))
+    map (λ (d : Descriptor). record d { pid = child }) (inheritable (descriptors_of pid table))
 
 unfoldable pub hold_all : List Named → List Doing
 hold_all [] = []
