@@ -1,3 +1,4 @@
+pub mod TableLaws
 pub mod QueueLaws
 pub mod CountLaws
 pub mod TableLaws

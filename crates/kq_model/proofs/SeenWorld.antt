@@ -24,6 +24,10 @@ quantities-again o =
     ∙ ap (λ f. record o { description = f; file = λ n. option_map (λ y. y) (o.file n) }) (fun_ext (λ place. as_it_is (o.description place)))
     ∙ ap (λ f. record o { file = f }) (fun_ext (λ n. as_it_is (o.file n)))
 
+-- of a world that keeps quantities alone, all is seen
+pub seen-counted : (w : World counted) → seen_world w ≡ w
+seen-counted w = ap (λ (o : Objects counted). record w { objects = o }) (quantities-again w.objects)
+
 module _ {A B C D : Type 0} {k : Keeping A B C D} (counts : CountsAll k) where
   pub seen-again : (w : World k) → seen_world (seen_world w) ≡ seen_world w
   seen-again w = ap (λ (o : Objects counted). record (seen_world w) { objects = o }) (quantities-again (quantities w.objects))

@@ -1,18 +1,12 @@
-ghost use Rattle.std.specs.Prelude.{◌≡◌, ◌+◌, ◌-◌, ◌^◌, ◌<◌, ◌≤◌, ℕ, IfOk, OnErr};
-ghost use Rattle.kq_model.specs.World.{views_of};
+ghost use Rattle.std.specs.Prelude.{◌≡◌, ◌+◌, ◌-◌, ◌^◌, ◌<◌, ◌≤◌, ℕ, IfOk, IsOk, OnErr};
 
 use crate::world::World;
 use indexmap::IndexMap;
 use kq_kevent::Kq;
-use kq_model::{Change, Event, Memory, Reply, Why};
+use kq_model::limits::{MOST_CHANGES, MOST_ROOM};
+use kq_model::{Change, Event, Memory, Named, Reply, Why};
 use std::alloc::Global;
 use std::marker::Model;
-
-/// Changes that one kevent call may have.
-const MOST_CHANGES: usize = 1024;
-
-/// Events that one kevent call may ask for.
-const MOST_ROOM: u32 = 65536;
 
 /// A live kqueue and the number under which its process opened it.
 #[derive(Drop)]
@@ -22,14 +16,15 @@ struct Live {
 }
 
 impl Model for Live {
-    ghost use Rattle.kq_system.specs.Kept.{Numbered};
+    ghost use Rattle.kq_system.specs.SystemState.{NumberedKqueue};
 
-    ghost Value = { Numbered };
+    ghost Value = { NumberedKqueue };
 
     ghost view = { λ l. record { number = l.number; kq = l.kq } };
 }
 
-/// The simulated system: a world, and the live kqueues in order of birth.
+/// The simulated system: a world, and the live kqueues in order of birth. A number of a process that
+/// names a kqueue names a live one.
 #[derive(Drop)]
 pub struct System {
     version: u32,
@@ -40,26 +35,28 @@ pub struct System {
 
 impl Model for System {
     ghost use Rattle.std.specs.Prelude.{map};
-    ghost use Rattle.kq_system.specs.Kept.{AreUpTo, Running, live_of};
-    ghost use Rattle.indexmap.specs.IndexMap.{keys};
+    ghost use Rattle.kq_system.specs.SystemState.{IsLawful, SystemState, live_of};
 
-    ghost Value = { Running };
+    ghost Value = { SystemState };
 
     ghost view = { λ s. record {
-      system = record { version = s.version; world = s.world; live = map live_of s.live.entries };
+      version = s.version;
+      world = s.world;
+      live = map live_of s.live.entries;
       applied = s.applied;
     } };
 
-    ghost invariant = { λ s. AreUpTo s.applied (keys s.live) };
+    ghost invariant = { λ s. IsLawful s.version s.applied s.world s.live.entries };
 }
 
 impl System {
     ghost use Rattle.kq_model.specs.System.{empty_system};
+    ghost use Rattle.kq_system.specs.SystemState.{system_of};
 
     /// The system before the first record of a trace of this version, which is 1.
     pub fn new(alloc: Global, version: u32) -> Self
         requires { version ≡ 1 }
-        ensures system { result.system ≡ empty_system version }
+        ensures system { system_of result ≡ empty_system version }
         ensures applied { result.applied ≡ 0 }
     {
         System {
@@ -79,15 +76,18 @@ impl System {
 }
 
 impl System {
-    ghost use Rattle.kq_system.specs.Kept.{IsCalled, IsStep};
+    ghost use Rattle.kq_model.specs.Moment.{moment_of};
+    ghost use Rattle.kq_model.specs.World.{Call};
+    ghost use Rattle.kq_system.specs.SystemState.{IsCalled, IsImpossible, IsLive, IsStep, call_plan, system_of, world_of};
 
     /// Applies one event, and gives the reply to it.
     ///
-    /// After [`Memory`] nothing has changed.
+    /// After [`Memory`] nothing has changed; a record that is impossible takes no memory.
     pub fn apply(&mut self, event: &Event) -> Result<Reply, Memory>
         requires { self.old.applied < 2 ^ 31 - 1 }
-        ensures reply { IfOk result (IsStep (self.old.applied + 1) event.now self.old.system self.new.system) }
+        ensures reply { IfOk result (IsStep (self.old.applied + 1) event.now (system_of self.old) (system_of self.new)) }
         ensures applied { IfOk result (λ _. self.new.applied ≡ self.old.applied + 1) }
+        ensures impossible { IsImpossible (self.old.applied + 1) event.now (world_of self.old.world) → IsOk result }
         ensures memory { OnErr result (self.new ≡ self.old) }
     {
         let place = self.applied + 1;
@@ -98,8 +98,9 @@ impl System {
 
     fn carry_out(&mut self, place: u64, event: &Event) -> Result<Reply, Memory>
         requires { self.old.applied < place }
-        ensures reply { IfOk result (IsStep place event.now self.old.system self.new.system) }
+        ensures reply { IfOk result (IsStep place event.now (system_of self.old) (system_of self.new)) }
         ensures applied { self.new.applied ≤ place }
+        ensures impossible { IsImpossible place event.now (world_of self.old.world) → IsOk result }
         ensures memory { OnErr result (self.new ≡ self.old) }
     {
         match event {
@@ -116,8 +117,9 @@ impl System {
 
     /// A process starts.
     fn start(&mut self, pid: u32) -> Result<Reply, Memory>
-        ensures reply { (place : ℕ) → IfOk result (IsStep place (Event.Proc pid) self.old.system self.new.system) }
+        ensures reply { (place : ℕ) → IfOk result (IsStep place (Event.Proc pid) (system_of self.old) (system_of self.new)) }
         ensures applied { self.new.applied ≡ self.old.applied }
+        ensures impossible { (place : ℕ) → IsImpossible place (Event.Proc pid) (world_of self.old.world) → IsOk result }
         ensures memory { OnErr result (self.new ≡ self.old) }
     {
         if self.world.was_used(pid) {
@@ -130,14 +132,15 @@ impl System {
     /// A process opens a kqueue under a number that is not open.
     fn open(&mut self, place: u64, pid: u32, number: u32) -> Result<Reply, Memory>
         requires { self.old.applied < place }
-        ensures reply { IfOk result (IsStep place (Event.Kqueue pid number) self.old.system self.new.system) }
+        ensures reply { IfOk result (IsStep place (Event.Kqueue pid number) (system_of self.old) (system_of self.new)) }
         ensures applied { self.new.applied ≤ place }
+        ensures impossible { IsImpossible place (Event.Kqueue pid number) (world_of self.old.world) → IsOk result }
         ensures memory { OnErr result (self.new ≡ self.old) }
     {
         if !self.world.is_live(pid) {
             return Ok(Reply::Impossible(Why::NoProcess));
         }
-        if self.world.kqueue_at(pid, number).is_some() {
+        if self.world.named(pid, number).is_some() {
             return Ok(Reply::Impossible(Why::UsedDescriptor));
         }
         let kq = Kq::new(*self.live.allocator(), pid);
@@ -160,15 +163,19 @@ impl System {
         changes: &[Change],
         room: u32,
     ) -> Result<Reply, Memory>
-        ensures reply { (place : ℕ) → IfOk result (IsStep place (Event.Kevent pid number changes.now room) self.old.system self.new.system) }
+        ensures reply { (place : ℕ) → IfOk result (IsStep place (Event.Kevent pid number changes.now room) (system_of self.old) (system_of self.new)) }
         ensures applied { self.new.applied ≡ self.old.applied }
+        ensures impossible { (place : ℕ) → IsImpossible place (Event.Kevent pid number changes.now room) (world_of self.old.world) → IsOk result }
         ensures memory { OnErr result (self.new ≡ self.old) }
     {
         if !self.world.is_live(pid) {
             return Ok(Reply::Impossible(Why::NoProcess));
         }
-        let Some(kqueue) = self.world.kqueue_at(pid, number) else {
+        let Some(named) = self.world.named(pid, number) else {
             return Ok(Reply::Impossible(Why::NoDescriptor));
+        };
+        let Named::Kqueue(kqueue) = named else {
+            return Ok(Reply::Impossible(Why::WrongKind));
         };
         if changes.len() > MOST_CHANGES || room > MOST_ROOM {
             return Ok(Reply::Impossible(Why::TooMany));
@@ -176,17 +183,19 @@ impl System {
         self.call_on(kqueue, changes, room)
     }
 
-    /// The call, on the kqueue that was born at a place.
+    /// The call, on the live kqueue that was born at a place.
     fn call_on(&mut self, kqueue: u64, changes: &[Change], room: u32) -> Result<Reply, Memory>
-        ensures reply { IfOk result (λ reply.
-            IsCalled (views_of self.old.system.world) (record { kqueue = kqueue; changes = changes.now; room = room }) self.old.system.live self.new.system.live reply) }
-        ensures version { self.new.system.version ≡ self.old.system.version }
-        ensures world { self.new.system.world ≡ self.old.system.world }
+        requires { IsLive kqueue self.old.live }
+        ensures reply { (place : ℕ) → IfOk result (λ reply.
+            let c : Call = record { kqueue = kqueue; changes = changes.now; room = room } in
+            IsCalled (moment_of self.old.version place (call_plan c) (world_of self.old.world)) c self.old.live self.new.live reply) }
+        ensures version { self.new.version ≡ self.old.version }
+        ensures world { self.new.world ≡ self.old.world }
         ensures applied { self.new.applied ≡ self.old.applied }
         ensures memory { OnErr result (self.new ≡ self.old) }
     {
         let Some(live) = self.live.get_mut(&kqueue) else {
-            return Ok(Reply::Done);
+            unreachable!();
         };
         live.kq.call(changes, room, &self.world)
     }

@@ -1,11 +1,12 @@
-ghost use Rattle.std.specs.Prelude.{◌≡◌, ℕ, None, Some, false, OnOk, OnErr, option_map};
-ghost use Rattle.kq_model.specs.World.{is_live, named_by, views_of, was_used, with_kqueue, with_process};
-ghost use Rattle.kq_model.specs.declared.object.Named.TheVariants as named;
+ghost use Rattle.std.specs.Prelude.{◌≡◌, ℕ, None, Some, false, OnOk, OnErr};
+ghost use Rattle.kq_model.specs.Processes.{is_live, was_used, with_process};
+ghost use Rattle.kq_model.specs.World.{named_by, views_of, with_kqueue};
+ghost use Rattle.kq_system.specs.SystemState.{start_of, world_of};
 
-use indexmap::{IndexMap, IndexSet};
 use kq_filters::Views;
 use kq_model::{Memory, Named, Target, View};
 use std::alloc::Global;
+use std::collections::{BTreeMap, BTreeSet};
 use std::marker::Model;
 
 /// The processes and their descriptors. What a record does to them is worked out elsewhere; here it
@@ -13,62 +14,60 @@ use std::marker::Model;
 #[derive(Drop)]
 pub struct World {
     /// The pids that were ever used. Each is live.
-    processes: IndexSet<u32>,
-    /// The kqueue that a number of a process names, by the place of its birth.
-    table: IndexMap<(u32, u32), u64>,
+    processes: BTreeSet<u32>,
+    /// What each open descriptor names, by pid and number.
+    table: BTreeMap<(u32, u32), Named>,
 }
 
 impl Model for World {
     ghost use Rattle.std.specs.Prelude.{map};
-    ghost use Rattle.kq_model.specs.World as model;
-    ghost use Rattle.kq_system.specs.Kept.{descriptor_of, process_of};
+    ghost use Rattle.kq_system.specs.SystemState.{WorldState, descriptor_of};
 
-    ghost Value = { model.World };
+    ghost Value = { WorldState };
 
-    ghost view = { λ w. record {
-      processes = map process_of w.processes.keys;
-      table = map descriptor_of w.table.entries;
-    } };
+    ghost view = { λ w. record { pids = w.processes.keys; table = map descriptor_of w.table.entries } };
 }
 
 impl World {
+    ghost use Rattle.kq_model.specs.Objects.{counted};
     ghost use Rattle.kq_model.specs.World.{empty_world};
 
     /// The world before the first record.
     pub fn new(alloc: Global) -> Self
-        ensures { result ≡ empty_world }
+        ensures { world_of result ≡ empty_world counted }
     {
         World {
-            processes: IndexSet::new(alloc),
-            table: IndexMap::new(alloc),
+            processes: BTreeSet::new(alloc),
+            table: BTreeMap::new(alloc),
         }
     }
 
     /// Whether the pid was ever used.
     pub fn was_used(&self, pid: u32) -> bool
-        ensures { result ≡ was_used pid self.now }
+        ensures { result ≡ was_used pid (world_of self.now).processes }
     {
         self.processes.contains(&pid)
     }
 
     /// Whether the pid names a live process.
     pub fn is_live(&self, pid: u32) -> bool
-        ensures { result ≡ is_live pid self.now }
+        ensures { result ≡ is_live pid (world_of self.now).processes }
     {
         self.processes.contains(&pid)
     }
 
-    /// The kqueue that a number of a process names.
-    pub fn kqueue_at(&self, pid: u32, number: u32) -> Option<u64>
-        ensures { option_map named.Kqueue result ≡ named_by pid number self.now }
+    /// What a number of a process names.
+    pub fn named(&self, pid: u32, number: u32) -> Option<Named>
+        ensures { result ≡ named_by pid number (world_of self.now) }
     {
         self.table.get(&(pid, number)).copied()
     }
 
     /// Starts a process.
     pub fn start(&mut self, pid: u32) -> Result<(), Memory>
-        requires { was_used pid self.old ≡ false }
-        ensures done { OnOk result (self.new ≡ record self.old { processes = with_process (Some pid) self.old.processes }) }
+        requires { was_used pid (world_of self.old).processes ≡ false }
+        ensures done { OnOk result (world_of self.new
+            ≡ record (world_of self.old) { processes = with_process (Some (start_of pid)) (world_of self.old).processes }) }
         ensures memory { OnErr result (self.new ≡ self.old) }
     {
         self.processes.insert(pid).map_err(|_| Memory)?;
@@ -77,29 +76,36 @@ impl World {
 
     /// Lets a number of a process name a new kqueue.
     pub fn open(&mut self, place: u64, pid: u32, number: u32) -> Result<(), Memory>
-        requires { named_by pid number self.old ≡ None }
-        ensures done { OnOk result (self.new ≡ record self.old {
+        requires { named_by pid number (world_of self.old) ≡ None }
+        ensures done { OnOk result (world_of self.new ≡ record (world_of self.old) {
           table = with_kqueue place (Some (record { pid = pid; number = number })) self.old.table;
         }) }
         ensures memory { OnErr result (self.new ≡ self.old) }
     {
-        self.table.insert((pid, number), place).map_err(|_| Memory)?;
+        self.table
+            .insert((pid, number), Named::Kqueue(place))
+            .map_err(|_| Memory)?;
         Ok(())
     }
 }
 
 /// The world as kqueues see it.
 impl Views for World {
-    ghost sees = { views_of };
+    ghost sees = { λ w. views_of (world_of w) };
 
-    #[tactic(auto, unfolding(kq_model::specs::World::views_of))]
-    fn view(&self, _target: Target) -> Option<View> {
-        None
+    fn view(&self, target: Target) -> Option<View> {
+        let Target::Process(pid) = target else {
+            return None;
+        };
+        if !self.was_used(pid) {
+            return None;
+        }
+        Some(View::Process { exited: None })
     }
 
     #[tactic(auto, unfolding(kq_model::specs::World::views_of))]
     fn descriptor(&self, pid: u32, number: u32) -> Option<Named> {
-        self.kqueue_at(pid, number).map(Named::Kqueue)
+        self.named(pid, number)
     }
 
     #[tactic(auto, unfolding(kq_model::specs::World::views_of))]
