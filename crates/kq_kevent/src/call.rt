@@ -1,4 +1,4 @@
-ghost use Rattle.std.specs.Prelude.{◌≡◌, ◌≤◌, ◌+◌, length, max, min, IfOk, IsOk, OnErr};
+ghost use Rattle.std.specs.Prelude.{◌≡◌, ◌↔◌, ◌≤◌, ◌+◌, [], length, max, min, IsTrue, IfOk, IsOk, OnErr};
 ghost use Rattle.kq_model.specs.Call.{call};
 ghost use Rattle.kq_model.specs.Hearing.{listed};
 ghost use Rattle.kq_model.specs.Kqueue.{Kqueue};
@@ -17,6 +17,13 @@ fn answer(mut events: Vec<Kevent>) -> Reply
 {
     events.shrink_to_fit();
     Reply::Events(Series::from_vec(events))
+}
+
+/// Whether a call goes on to read pending events: where no entry was placed.
+fn reads_pending(placed: &[Kevent]) -> bool
+    ensures { IsTrue result ↔ (placed.now ≡ []) }
+{
+    placed.is_empty()
 }
 
 impl Kq {
@@ -62,7 +69,7 @@ impl Kq {
             Ending::Ended(Some(error)) => Ok(Reply::Failed(error)),
             Ending::Ended(None) => Ok(answer(events)),
             Ending::Through => {
-                if events.is_empty() {
+                if reads_pending(&events) {
                     self.retrieve(room, &mut events, views);
                 }
                 Ok(answer(events))
