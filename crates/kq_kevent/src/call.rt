@@ -40,8 +40,8 @@ impl Kq {
             ≡ call (caller (V.sees views.now) self.old) room changes.now self.old.kq) }
 
         // The same in the words of the definitions, which keep all that was heard.
-        ensures model { IfOk result (λ reply. (m : Kqueue listed) → self.old.kq ≡ tallied m → IsTallied self.new.kq reply
-            (call (caller (V.sees views.now) self.old) room changes.now m)) }
+        ensures model { IfOk result (λ reply. (m : Kqueue listed) → self.old.kq ≡ tallied m
+            → IsTallied self.new.kq reply (call (caller (V.sees views.now) self.old) room changes.now m)) }
 
         // What the answer promises of the kqueue as the changes left it, and that a call whose
         // changes are all quiet is these changes with room 0 and then a poll.
@@ -52,7 +52,8 @@ impl Kq {
         ensures owner { self.new.owner ≡ self.old.owner }
         ensures version { self.new.version ≡ self.old.version }
         // Room for each change is made first; what was used of it is that of the knotes that came.
-        ensures limit { IfOk result (λ _. limit self.new ≡ length self.old.kq.knotes + max self.old.room (length changes.now)) }
+        ensures limit { IfOk result (λ _.
+            limit self.new ≡ length self.old.kq.knotes + max self.old.room (length changes.now)) }
         ensures room { self.old.room ≤ self.new.room + length changes.now }
 
         ensures err { OnErr result (self.new.kq ≡ self.old.kq) }

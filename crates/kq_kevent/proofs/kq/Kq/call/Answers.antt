@@ -19,10 +19,13 @@ returns-in-Ended-Some-clause-called g c =
     let views = g.V.Views.sees c.args.views.now in
     let by = caller views c.args.self.now in
     let items = c.process.new.placed.items in
-    call-fails by c.args.room c.args.changes.now c.args.self.now.kq c.process.new.self.kq items c.in-Ended-Some.field-0 c.in-Ended-Some.error
-    (process-from (caller views c.reserve.new.self) by c.args.room c.args.changes.now c.reserve.new.self.kq c.args.self.now.kq
+    call-fails by c.args.room c.args.changes.now c.args.self.now.kq c.process.new.self.kq items
+    c.in-Ended-Some.field-0 c.in-Ended-Some.error
+    (process-from (caller views c.reserve.new.self) by c.args.room c.args.changes.now c.reserve.new.self.kq
+    c.args.self.now.kq
     (record { kq = c.process.new.self.kq; placed = items; answer = Some (ended c.in-Ended-Some.field-0 items) })
-    (same_caller views c.reserve.new.self c.args.self.now c.in_ok-reserve.ensures.owner c.in_ok-reserve.ensures.version) c.in_ok-reserve.ensures.kq c.in-Ended-Some.ensures.processed)
+    (same_caller views c.reserve.new.self c.args.self.now c.in_ok-reserve.ensures.owner
+    c.in_ok-reserve.ensures.version) c.in_ok-reserve.ensures.kq c.in-Ended-Some.ensures.processed)
     c.in-Ended-Some.field-0-is
 
 pub returns-in-Ended-None-clause-called : goal.returns-in-Ended-None-clause-called
@@ -31,10 +34,13 @@ returns-in-Ended-None-clause-called g c =
     let by = caller views c.args.self.now in
     let items = c.process.new.placed.items in
     ap (called c.process.new.self.kq) c.answer.ensures
-    ∙ call-full by c.args.room c.args.changes.now c.args.self.now.kq c.process.new.self.kq items c.in-Ended-None.field-0
-    (process-from (caller views c.reserve.new.self) by c.args.room c.args.changes.now c.reserve.new.self.kq c.args.self.now.kq
+    ∙ call-full by c.args.room c.args.changes.now c.args.self.now.kq c.process.new.self.kq items
+    c.in-Ended-None.field-0
+    (process-from (caller views c.reserve.new.self) by c.args.room c.args.changes.now c.reserve.new.self.kq
+    c.args.self.now.kq
     (record { kq = c.process.new.self.kq; placed = items; answer = Some (ended c.in-Ended-None.field-0 items) })
-    (same_caller views c.reserve.new.self c.args.self.now c.in_ok-reserve.ensures.owner c.in_ok-reserve.ensures.version) c.in_ok-reserve.ensures.kq c.in-Ended-None.ensures.processed)
+    (same_caller views c.reserve.new.self c.args.self.now c.in_ok-reserve.ensures.owner
+    c.in_ok-reserve.ensures.version) c.in_ok-reserve.ensures.kq c.in-Ended-None.ensures.processed)
     c.in-Ended-None.field-0-is
 
 pub returns-after-reads_pending-clause-called : goal.returns-after-reads_pending-clause-called
@@ -42,29 +48,37 @@ returns-after-reads_pending-clause-called g c =
     let views = g.V.Views.sees c.args.views.now in
     let by = caller views c.args.self.now in
     let items = c.process.new.placed.items in
-    let is = process-from (caller views c.reserve.new.self) by c.args.room c.args.changes.now c.reserve.new.self.kq c.args.self.now.kq
+    let is = process-from (caller views c.reserve.new.self) by c.args.room c.args.changes.now c.reserve.new.self.kq
+    c.args.self.now.kq
     (record { kq = c.process.new.self.kq; placed = items; answer = None })
-    (same_caller views c.reserve.new.self c.args.self.now c.in_ok-reserve.ensures.owner c.in_ok-reserve.ensures.version) c.in_ok-reserve.ensures.kq c.in-Through.ensures.processed in
+    (same_caller views c.reserve.new.self c.args.self.now c.in_ok-reserve.ensures.owner
+    c.in_ok-reserve.ensures.version) c.in_ok-reserve.ensures.kq c.in-Through.ensures.processed in
     elim c.if-reads_pending.branch [
       | then-reads_pending w ↦
           let none = sym c.deref.ensures.value ∙ c.reads_pending.ensures.0 w.if-reads_pending.true in
           ap (λ (v : OwnedKqueue). called v.kq c.answer-in-Through.result) w.self-is
-          ∙ ap (called w.retrieve.new.self.kq) (c.answer-in-Through.ensures ∙ ap (λ (v : Vec Kevent Global). Events v.items) w.events-is)
-          ∙ call-retrieves by c.args.room c.args.changes.now c.args.self.now.kq c.process.new.self.kq w.retrieve.new.self.kq items w.retrieve.new.events.items is
+          ∙ ap (called w.retrieve.new.self.kq)
+          (c.answer-in-Through.ensures ∙ ap (λ (v : Vec Kevent Global). Events v.items) w.events-is)
+          ∙ call-retrieves by c.args.room c.args.changes.now c.args.self.now.kq c.process.new.self.kq
+          w.retrieve.new.self.kq items w.retrieve.new.events.items is
           none w.retrieve.ensures.retrieved
       | else-reads_pending w ↦
           ap (λ (v : OwnedKqueue). called v.kq c.answer-in-Through.result) w.self-is
-          ∙ ap (called c.process.new.self.kq) (c.answer-in-Through.ensures ∙ ap (λ (v : Vec Kevent Global). Events v.items) w.events-is)
+          ∙ ap (called c.process.new.self.kq)
+          (c.answer-in-Through.ensures ∙ ap (λ (v : Vec Kevent Global). Events v.items) w.events-is)
           ∙ call-entries by c.args.room c.args.changes.now c.args.self.now.kq c.process.new.self.kq items is
-          (λ zero. true≢false (sym (c.reads_pending.ensures.1 (c.deref.ensures.value ∙ nil_from_length items zero)) ∙ w.if-reads_pending.false))
+          (λ zero. true≢false (sym (c.reads_pending.ensures.1 (c.deref.ensures.value ∙ nil_from_length items zero))
+          ∙ w.if-reads_pending.false))
     ]
 
 pub returns-in-Ended-Some-clause-answer : goal.returns-in-Ended-Some-clause-answer
 returns-in-Ended-Some-clause-answer g c =
     let views = g.V.Views.sees c.args.views.now in
     let by = caller views c.args.self.now in
-    let sound = subst IsSound (ap (λ (v : OwnedKqueue). v.kq) c.self.view_is ∙ c.in_ok-reserve.ensures.kq) c.self.invariant.sound in
-    subst (λ (x : Called). IsAnswer views c.args.room (kqueue_after_changes by c.args.room c.args.changes.now c.args.self.now.kq) x.kq x.reply)
+    let sound = subst IsSound (ap (λ (v : OwnedKqueue). v.kq) c.self.view_is ∙ c.in_ok-reserve.ensures.kq)
+    c.self.invariant.sound in
+    subst (λ (x : Called). IsAnswer views c.args.room
+    (kqueue_after_changes by c.args.room c.args.changes.now c.args.self.now.kq) x.kq x.reply)
     (sym (returns-in-Ended-Some-clause-called g c))
     (call-answer by c.args.room c.args.changes.now c.args.self.now.kq sound)
 
@@ -72,8 +86,10 @@ pub returns-in-Ended-None-clause-answer : goal.returns-in-Ended-None-clause-answ
 returns-in-Ended-None-clause-answer g c =
     let views = g.V.Views.sees c.args.views.now in
     let by = caller views c.args.self.now in
-    let sound = subst IsSound (ap (λ (v : OwnedKqueue). v.kq) c.self.view_is ∙ c.in_ok-reserve.ensures.kq) c.self.invariant.sound in
-    subst (λ (x : Called). IsAnswer views c.args.room (kqueue_after_changes by c.args.room c.args.changes.now c.args.self.now.kq) x.kq x.reply)
+    let sound = subst IsSound (ap (λ (v : OwnedKqueue). v.kq) c.self.view_is ∙ c.in_ok-reserve.ensures.kq)
+    c.self.invariant.sound in
+    subst (λ (x : Called). IsAnswer views c.args.room
+    (kqueue_after_changes by c.args.room c.args.changes.now c.args.self.now.kq) x.kq x.reply)
     (sym (returns-in-Ended-None-clause-called g c))
     (call-answer by c.args.room c.args.changes.now c.args.self.now.kq sound)
 
@@ -81,8 +97,10 @@ pub returns-after-reads_pending-clause-answer : goal.returns-after-reads_pending
 returns-after-reads_pending-clause-answer g c =
     let views = g.V.Views.sees c.args.views.now in
     let by = caller views c.args.self.now in
-    let sound = subst IsSound (ap (λ (v : OwnedKqueue). v.kq) c.self.view_is ∙ c.in_ok-reserve.ensures.kq) c.self.invariant.sound in
-    subst (λ (x : Called). IsAnswer views c.args.room (kqueue_after_changes by c.args.room c.args.changes.now c.args.self.now.kq) x.kq x.reply)
+    let sound = subst IsSound (ap (λ (v : OwnedKqueue). v.kq) c.self.view_is ∙ c.in_ok-reserve.ensures.kq)
+    c.self.invariant.sound in
+    subst (λ (x : Called). IsAnswer views c.args.room
+    (kqueue_after_changes by c.args.room c.args.changes.now c.args.self.now.kq) x.kq x.reply)
     (sym (returns-after-reads_pending-clause-called g c))
     (call-answer by c.args.room c.args.changes.now c.args.self.now.kq sound)
 
@@ -119,14 +137,17 @@ returns-in_err-events-clause-poll g c =
 pub returns-in-Ended-Some-clause-model : goal.returns-in-Ended-Some-clause-model
 returns-in-Ended-Some-clause-model g c = λ m same.
     let by = caller (g.V.Views.sees c.args.views.now) c.args.self.now in
-    call-tallied c.args.self.now.kq m same by c.args.room c.args.changes.now _ _ (returns-in-Ended-Some-clause-called g c)
+    call-tallied c.args.self.now.kq m same by c.args.room c.args.changes.now _ _
+    (returns-in-Ended-Some-clause-called g c)
 
 pub returns-in-Ended-None-clause-model : goal.returns-in-Ended-None-clause-model
 returns-in-Ended-None-clause-model g c = λ m same.
     let by = caller (g.V.Views.sees c.args.views.now) c.args.self.now in
-    call-tallied c.args.self.now.kq m same by c.args.room c.args.changes.now _ _ (returns-in-Ended-None-clause-called g c)
+    call-tallied c.args.self.now.kq m same by c.args.room c.args.changes.now _ _
+    (returns-in-Ended-None-clause-called g c)
 
 pub returns-after-reads_pending-clause-model : goal.returns-after-reads_pending-clause-model
 returns-after-reads_pending-clause-model g c = λ m same.
     let by = caller (g.V.Views.sees c.args.views.now) c.args.self.now in
-    call-tallied c.args.self.now.kq m same by c.args.room c.args.changes.now _ _ (returns-after-reads_pending-clause-called g c)
+    call-tallied c.args.self.now.kq m same by c.args.room c.args.changes.now _ _
+    (returns-after-reads_pending-clause-called g c)
