@@ -1,4 +1,3 @@
-pub mod TableLaws
 pub mod QueueLaws
 pub mod CountLaws
 pub mod KnoteSteps
