@@ -214,3 +214,13 @@ not_born n k [] lt all = refl
 not_born n k (e ∷ es) lt all =
     let other : nat_eq k e.0 ≡ false = above k e.0 n lt all.0 in
     rw other (not_born n k es lt all.1)
+
+keys_step : (k : ℕ) (e : ℕ × NumberedKqueue) (es : List (ℕ × NumberedKqueue)) (w : NumberedKqueue) (b : Bool) → keys_of (set_value (nat_eq k) es w) ≡ keys_of es
+    → keys_of (cond b ((e.0, w) ∷ es) (e ∷ set_value (nat_eq k) es w)) ≡ keys_of (e ∷ es)
+keys_step k e es w true rest = refl
+keys_step k e es w false rest = ap (λ ks. e.0 ∷ ks) rest
+
+-- a write in its place leaves the places as they are
+pub keys_kept : (k : ℕ) (es : List (ℕ × NumberedKqueue)) (w : NumberedKqueue) → keys_of (set_value (nat_eq k) es w) ≡ keys_of es
+keys_kept k [] w = refl
+keys_kept k (e ∷ es) w = keys_step k e es w (nat_eq k e.0) (keys_kept k es w)

@@ -3,7 +3,7 @@ use Rattle.std.proofs.lemmas.Result.{on_ok_weaker}
 use Rattle.kq_model.specs.declared.reply.Reply.{Reply}
 use Rattle.kq_model.specs.declared.row.Row.{Row}
 use Rattle.kq_model.specs.System.{row_of}
-use Rattle.kq_system.proofs.SystemLemmas.{row_of-done, row_of-other}
+use Rattle.kq_system.proofs.RowLemmas.{row_of-done, row_of-other}
 use Rattle.kq_system.proofs.fold.put_row.Goals as goal
 
 pub returns-in-Done : goal.returns-in-Done

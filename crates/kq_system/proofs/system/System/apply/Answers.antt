@@ -6,8 +6,12 @@ use Rattle.kq_system.proofs.system.System.apply.Goals as goal
 
 pub invariant_of-self : goal.invariant_of-self
 invariant_of-self c =
+    let kept = c.self-2.invariant in
     let least : c.self-2.inside.applied ≤ c.self.inside.applied + 1 =
     subst (λ n. n ≤ c.self.inside.applied + 1) (ap (λ (s : SystemState). s.applied) (sym c.self-2.view_is)) c.carry_out.ensures.applied in
-    record c.self-2.invariant {
-      born = up_to_more c.self-2.inside.applied (c.self.inside.applied + 1) (keys c.self-2.inside.live) least c.self-2.invariant.born;
+    record {
+      version_one = kept.version_one;
+      of_version = kept.of_version;
+      born = up_to_more c.self-2.inside.applied (c.self.inside.applied + 1) (keys c.self-2.inside.live) least kept.born;
+      all_live = kept.all_live;
     }

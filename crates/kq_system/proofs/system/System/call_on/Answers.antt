@@ -7,8 +7,8 @@ use Rattle.kq_model.specs.Caller.{Caller}
 use Rattle.kq_model.specs.Moment.{Moment, called_at, caller_at, moment_of}
 use Rattle.kq_model.specs.Tallied.{Called, Live}
 use Rattle.kq_model.specs.World.{Call, views_of}
-use Rattle.kq_system.specs.SystemState.{IsCalled, IsLive, NumberedKqueue, SystemState, call_plan, live_of, world_of}
-use Rattle.kq_system.proofs.CallLemmas.{called_some, kept, live_found, named_kept, version_found, version_kept}
+use Rattle.kq_system.specs.SystemState.{AreUpTo, IsCalled, IsLawful, IsLive, NumberedKqueue, SystemState, call_plan, live_of, world_of}
+use Rattle.kq_system.proofs.CallLemmas.{called_some, kept, keys_kept, live_found, named_kept, version_found, version_kept}
 use Rattle.kq_system.proofs.SystemLemmas.{call_at, call_of, quiet_call}
 use Rattle.kq_system.proofs.system.System.call_on.Goals as goal
 
@@ -43,3 +43,23 @@ returns-clause-memory c =
     (ap (map live_of) writes.0 ∙ kept c.args.kqueue es v w found refl c.call.ensures.owner same)
     ∙ c.self.view_is)
     c.call.ensures.err
+
+pub unreachable-requires : goal.unreachable-requires
+unreachable-requires c =
+    live_found c.args.kqueue c.self.inside.live.entries
+    (subst (IsLive c.args.kqueue) (sym (ap (λ (s : SystemState). s.live) c.self.view_is)) c.requires) (sym c.in_default.ensures.value)
+
+pub invariant_of-self : goal.invariant_of-self
+invariant_of-self c =
+    let es = c.self.inside.live.entries in
+    let v : NumberedKqueue = record { number = c.live.inside.number; kq = c.live.inside.kq } in
+    let w : NumberedKqueue = record { number = c.live.inside.number; kq = c.call.new.self } in
+    let writes = c.get_mut.follows.holds w in
+    let found : lookup (nat_eq c.args.kqueue) es ≡ Some v = sym c.in-Some.ensures.value ∙ ap Some (sym c.live.view_is) in
+    let kept = c.self.invariant in
+    subst (IsLawful c.self.inside.version c.self.inside.applied c.self.inside.world) (sym writes.0) (record {
+      version_one = kept.version_one;
+      of_version = version_kept c.self.inside.version c.args.kqueue es v w found c.call.ensures.version kept.of_version;
+      born = subst (AreUpTo c.self.inside.applied) (sym (keys_kept c.args.kqueue es w)) kept.born;
+      all_live = named_kept c.args.kqueue es v w found refl c.call.ensures.owner c.self.inside.world.table kept.all_live;
+    })
