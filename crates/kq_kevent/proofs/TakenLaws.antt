@@ -16,7 +16,7 @@ use Rattle.kq_model.specs.Views.{Views}
 use Rattle.kq_model.specs.Tallied.{Knote, Kqueue, Retrieved, Turned}
 use Rattle.kq_model.proofs.KeyLaws.{same_key, key_eq-refl, key_eq-sym}
 use Rattle.kq_model.proofs.KnoteLaws.{by_test, find_knote-key, find_knote-with_other, find_knote-with_none, find_knote-without_same, find_knote-without_other, find_knote-without_none}
-use Rattle.kq_kevent.proofs.TurnLaws.{rested-key}
+use Rattle.kq_kevent.proofs.TurnSound.{rested-key}
 
 -- ---- the flags of an event
 

@@ -1,4 +1,4 @@
-use Rattle.std.proofs.Common.{subst, vec_len, Vec, Global, ◌≡◌, Some, None, sym, ap, ◌∙◌, arith}
+use Rattle.std.proofs.Common.{subst, Vec, Global, Some, None, sym, ap, ◌∙◌}
 use Rattle.std.proofs.lemmas.Bool.{true≢false}
 use Rattle.std.proofs.lemmas.List.{nil_from_length}
 use Rattle.kq_model.specs.declared.kevent.Kevent.{Kevent}

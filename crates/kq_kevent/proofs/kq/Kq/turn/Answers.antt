@@ -9,7 +9,8 @@ use Rattle.kq_kevent.specs.Owned.{OwnedKqueue}
 use Rattle.kq_kevent.proofs.CountLaws.{length-with_knote}
 use Rattle.kq_kevent.proofs.RegisterLaws.{same_kqueue, IsSound-at}
 use Rattle.kq_kevent.proofs.SoundLaws.{length-queue}
-use Rattle.kq_kevent.proofs.TurnLaws.{kqueue_of, IsTurn, IsTurn-idle, IsTurn-delivered, IsSound-with_idle, IsSound-with_delivered, front_present}
+use Rattle.kq_kevent.proofs.TurnLaws.{kqueue_of, IsTurn, IsTurn-idle, IsTurn-delivered}
+use Rattle.kq_kevent.proofs.TurnSound.{IsSound-with_idle, IsSound-with_delivered, front_present}
 use Rattle.kq_kevent.proofs.kq.Kq.turn.Goals as goal
 
 pub unreachable-requires-in_default-find : goal.unreachable-requires-in_default-find
