@@ -47,6 +47,13 @@ impl Knotes {
         self.rows.is_empty()
     }
 
+    /// How many further knotes fit without memory.
+    pub fn room(&self) -> usize
+        ensures { result ≡ self.now.room }
+    {
+        self.rows.room()
+    }
+
     /// Makes the room at least `more`; changes nothing else.
     pub fn reserve(&mut self, more: usize) -> Result<(), Memory>
         ensures knotes { self.new.knotes ≡ self.old.knotes }

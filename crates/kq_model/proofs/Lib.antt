@@ -1,6 +1,13 @@
 pub mod ListLaws
 pub mod KeyLaws
 pub mod KnoteLaws
+pub mod Subjects
+pub mod SubjectsCall
+pub mod CloseLaw
+pub mod NamedTargets
+pub mod RegistrationLaws
+pub mod Descriptors
+pub mod LiveKqueues
 pub mod RecastTally
 pub mod RecastKnote
 pub mod RecastRegistration
@@ -8,6 +15,7 @@ pub mod RecastRetrieval
 pub mod RecastCall
 pub mod RecastMoment
 pub mod RecastSystem
+pub mod Tallied
 pub mod Opened
 pub mod Builders
 pub mod StoredRun
@@ -29,5 +37,6 @@ pub mod TimerWalkMember
 pub mod TimerWalkQueue
 pub mod TimerWalkSort
 pub mod TimerWalkTickers
+pub mod ClockLaw
 pub mod ChangeLines
 pub mod Spelled

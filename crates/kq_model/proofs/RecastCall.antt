@@ -1,5 +1,5 @@
 -- A kevent call commutes with a change of how what was heard is kept, and gives the same reply.
-use Rattle.std.proofs.Common.{◌≡◌, ℕ, Bool, true, false, cond, List, [], ◌∷◌, ◌++◌, length, ltb, map, Option, Some, None, refl, sym, ap, ◌∙◌}
+use Rattle.std.proofs.Common.{◌≡◌, ℕ, Bool, cond, List, [], ◌∷◌, ◌++◌, length, ltb, Option, Some, None, refl, sym, ap, ◌∙◌}
 use Rattle.kq_model.specs.declared.change.Change.{Change}
 use Rattle.kq_model.specs.declared.kevent.Kevent.{Kevent}
 use Rattle.kq_model.specs.declared.reply.Reply.{Reply}
@@ -9,7 +9,6 @@ use Rattle.kq_model.specs.Hearing.{Hearing}
 use Rattle.kq_model.specs.Kqueue.{Kqueue}
 use Rattle.kq_model.specs.Recast.{IsHearingMap, recast_kqueue}
 use Rattle.kq_model.specs.Registration.{Registered, register}
-use Rattle.kq_model.specs.Retrieval.{retrieval}
 use Rattle.kq_model.specs.Views.{Views}
 use Rattle.kq_model.proofs.RecastKnote.{cond-map}
 use Rattle.kq_model.proofs.RecastRegistration.{recast_registered, register-recast}

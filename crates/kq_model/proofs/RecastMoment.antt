@@ -1,5 +1,5 @@
 -- Closes, hints and the clock commute with a change of how what was heard is kept.
-use Rattle.std.proofs.Common.{◌≡◌, ℕ, zero, suc, ◌+◌, ◌-◌, Bool, true, false, cond, not, ◌&&◌, List, [], ◌∷◌, ◌++◌, map, filter, Option, Some, None, refl, sym, ap, ◌∙◌}
+use Rattle.std.proofs.Common.{◌≡◌, ℕ, zero, suc, ◌+◌, ◌-◌, Bool, true, false, cond, not, List, [], ◌∷◌, ◌++◌, map, filter, Option, Some, None, refl, sym, ap, ◌∙◌}
 use Rattle.std.proofs.lemmas.List.{map-append}
 use Rattle.std.specs.Option.{option_map}
 use Rattle.kq_model.specs.declared.key.Key.{Key}
@@ -9,13 +9,12 @@ use Rattle.kq_model.specs.Clock.{Span, timers, expires_at, expired, waiting_of, 
 use Rattle.kq_model.specs.Close.{Pair, is_closed, closed}
 use Rattle.kq_model.specs.Hearing.{Hearing, Expired, Told}
 use Rattle.kq_model.specs.Hints.{kept, hints_for, added, heard_by, hears_exit, unless_silent, noticed, if_there, knotes_noticing, queue_with, queue_noticing, queue_after_all, notified}
-use Rattle.kq_model.specs.Knote.{Knote, key_eq, without_key}
+use Rattle.kq_model.specs.Knote.{Knote}
 use Rattle.kq_model.specs.Kqueue.{Kqueue}
 use Rattle.kq_model.specs.Look.{look}
 use Rattle.kq_model.specs.Recast.{IsHearingMap, recast, recast_kqueue}
-use Rattle.kq_model.specs.Registration.{queue_for}
 use Rattle.kq_model.specs.Targets.{Posted}
-use Rattle.kq_model.specs.TimerWalk.{Waiting, is_fresh, rung_at, queue_at, moment_step, walked}
+use Rattle.kq_model.specs.TimerWalk.{Waiting, rung_at, queue_at, moment_step, walked}
 use Rattle.kq_model.specs.Views.{Views}
 use Rattle.kq_model.proofs.RecastKnote.{cond-map, filter-recast, activated-recast, look-recast}
 use Rattle.kq_model.proofs.RecastRegistration.{queue_for-recast}

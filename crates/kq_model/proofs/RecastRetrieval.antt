@@ -1,5 +1,5 @@
 -- A retrieval commutes with a change of how what was heard is kept, and gives the same events.
-use Rattle.std.proofs.Common.{◌≡◌, ℕ, zero, suc, Bool, true, false, cond, ◌||◌, List, [], ◌∷◌, ◌++◌, map, Option, Some, None, refl, sym, ap, ◌∙◌}
+use Rattle.std.proofs.Common.{◌≡◌, ℕ, zero, suc, false, cond, ◌||◌, List, [], ◌∷◌, map, Option, Some, None, refl, sym, ap, ◌∙◌}
 use Rattle.std.specs.Option.{option_map}
 use Rattle.kq_model.specs.declared.kevent.Kevent.{Kevent}
 use Rattle.kq_model.specs.declared.key.Key.{Key}
@@ -8,7 +8,7 @@ use Rattle.kq_model.specs.Knote.{Knote, find_knote, with_knote, without_knote}
 use Rattle.kq_model.specs.Kqueue.{Kqueue}
 use Rattle.kq_model.specs.Look.{Seen, look}
 use Rattle.kq_model.specs.Recast.{IsHearingMap, recast, recast_kqueue}
-use Rattle.kq_model.specs.Retrieval.{Retrieved, Turned, event_flags, event_of, reset, rested, knotes_after, stays, back_after, with_idle, with_delivered, turned_at_look, turned_at, turned, delivered, after_turn, retrieve, retrieval}
+use Rattle.kq_model.specs.Retrieval.{Retrieved, Turned, event_flags, event_of, reset, rested, knotes_after, stays, back_after, with_delivered, turned_at_look, turned_at, turned, delivered, after_turn, retrieve, retrieval}
 use Rattle.kq_model.specs.Views.{Views}
 use Rattle.kq_model.proofs.RecastKnote.{cond-map, find_knote-recast, with_knote-recast, without_knote-recast, look-recast}
 

@@ -1,18 +1,18 @@
 -- The fold of a trace gives the same rows, however what was heard is kept.
-use Rattle.std.proofs.Common.{◌≡◌, ℕ, ◌+◌, Bool, true, false, cond, not, eqb, List, [], ◌∷◌, ◌++◌, map, filter, Option, Some, None, refl, sym, ap, ◌∙◌}
+use Rattle.std.proofs.Common.{◌≡◌, ℕ, ◌+◌, cond, not, eqb, List, [], ◌∷◌, ◌++◌, map, filter, Option, Some, None, refl, sym, ap, ◌∙◌}
 use Rattle.std.proofs.lemmas.List.{map-append}
 use Rattle.kq_model.specs.declared.event.Event.{Event}
 use Rattle.kq_model.specs.declared.reply.Reply.{Reply}
 use Rattle.kq_model.specs.Call.{Called, call}
 use Rattle.kq_model.specs.Clock.{clocked}
 use Rattle.kq_model.specs.Close.{Pair, has_pair, closed}
-use Rattle.kq_model.specs.Hearing.{Hearing, listed, tallying}
+use Rattle.kq_model.specs.Hearing.{Hearing, tallying}
 use Rattle.kq_model.specs.Hints.{notified}
 use Rattle.kq_model.specs.Kqueue.{Kqueue}
 use Rattle.kq_model.specs.Moment.{Moment, moment_of, caller_at, happened, called_at, after_call, kqueue_step}
-use Rattle.kq_model.specs.Recast.{IsHearingMap, recast_kqueue, recast_live, recast_system, tally_of}
-use Rattle.kq_model.specs.System.{Live, System, Stepped, empty_system, stepped, lived, born, answer, reply_to, kqueue_of, step_by, step, row_of, system_after, rows_after, rows_by, rows}
-use Rattle.kq_model.specs.World.{Call, Plan, Planned, Impossible, Possible, World, plan, carried_out}
+use Rattle.kq_model.specs.Recast.{IsHearingMap, recast_kqueue, recast_live, recast_system}
+use Rattle.kq_model.specs.System.{Live, System, Stepped, empty_system, stepped, lived, born, answer, reply_to, kqueue_of, step_by, step, row_of, rows_after, rows_by, rows}
+use Rattle.kq_model.specs.World.{Call, Planned, Impossible, Possible, World, plan, carried_out}
 use Rattle.kq_model.proofs.RecastCall.{recast_called, call-recast}
 use Rattle.kq_model.proofs.RecastKnote.{cond-map}
 use Rattle.kq_model.proofs.RecastMoment.{closed-recast, notified-recast, clocked-recast}

@@ -46,7 +46,8 @@ abbrev pub IsIdle : {S : Type 0} {h : Hearing S} → Views → List (Knote h) �
 IsIdle {h = h} views knotes key = (k : Knote h) → find_knote key knotes ≡ Some k → look views k ≡ None
 
 -- events were taken out of a kqueue, which is left as `after`
-pub record AreTaken {S : Type 0} {h : Hearing S} (views : Views) (room : ℕ) (kq after : Kqueue h) (events : List Kevent) : Type 0 where
+pub record AreTaken {S : Type 0} {h : Hearing S} (views : Views) (room : ℕ) (kq after : Kqueue h) (events : List Kevent)
+    : Type 0 where
   -- in the order of the queue as it was, each knote at most once
   pub in_order : AreInOrder (map key_of_event events) kq.queue
   pub once : AreOnce (map key_of_event events)
@@ -60,7 +61,8 @@ pub record AreTaken {S : Type 0} {h : Hearing S} (views : Views) (room : ℕ) (k
       → (has_key key (map key_of_event events) ≡ true) ⊎ IsIdle views kq.knotes key
 
 -- entries, each with ERROR, and nothing was taken out of the kqueue
-pub record AreEntries {S : Type 0} {h : Hearing S} (room : ℕ) (kq after : Kqueue h) (events : List Kevent) : Type 0 where
+pub record AreEntries {S : Type 0} {h : Hearing S} (room : ℕ) (kq after : Kqueue h) (events : List Kevent)
+    : Type 0 where
   pub entries : Each (λ e. asks e.flags error ≡ true) events
   pub some : 0 < length events
   pub within : length events ≤ room

@@ -76,12 +76,18 @@ module _ {S : Type 0} {h : Hearing S} where
   unfoldable pub replaced : Change → Knote h → Knote h
   replaced c k =
       if asks c.flags add
-      then record k { fflags = c.fflags; datum = c.datum; udata = c.udata; enabled = k.enabled || not (asks c.flags disable) }
+      then record k {
+        fflags = c.fflags;
+        datum = c.datum;
+        udata = c.udata;
+        enabled = k.enabled || not (asks c.flags disable);
+      }
       else record k { udata = c.udata }
 
   -- with ADD a TIMER starts anew: what it heard is forgotten, and it is not active
   unfoldable pub restarted : Filter → Caller → Change → Knote h → Knote h
-  restarted Timer caller c k = if asks c.flags add then record (started caller c k) { seen = h.empty; active = false } else k
+  restarted Timer caller c k =
+      if asks c.flags add then record (started caller c k) { seen = h.empty; active = false } else k
   restarted _ caller c k = k
 
   -- each later change of a USER applies its control, and replaces the data

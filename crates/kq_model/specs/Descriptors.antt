@@ -1,5 +1,5 @@
 -- The table of open descriptors, in rising order of pid and number.
-use Rattle.std.specs.Prelude.{ℕ, ◌==◌, Bool, not, ◌&&◌, ◌||◌, List, [], ◌∷◌, filter, nat_lt, Option, Some, None, if◌then◌else◌}
+use Rattle.std.specs.Prelude.{◌≡◌, ℕ, ◌==◌, Bool, true, not, ◌&&◌, ◌||◌, List, [], ◌∷◌, filter, nat_lt, Option, Some, None, if◌then◌else◌, All}
 use Rattle.kq_model.specs.declared.object.Named.{Named}
 use Rattle.kq_model.specs.Close.{Pair, has_pair}
 
@@ -29,3 +29,8 @@ with_descriptors (d ∷ ds) table = with_descriptors ds (with_descriptor d table
 
 abbrev pub without_closed : List Pair → List Descriptor → List Descriptor
 without_closed closed table = filter (λ d. not (has_pair d.pid d.number closed)) table
+
+-- each comes before all later ones
+abbrev pub IsRising : List Descriptor → Type 0
+IsRising [] = Unit {0}
+IsRising (d ∷ ds) = All (λ e. is_before d e ≡ true) ds × IsRising ds

@@ -31,6 +31,10 @@ pub mod Descriptors
 pub mod World
 pub mod Moment
 pub mod System
+pub mod Subjects
+pub mod RegistrationLaws
+pub mod NamedTargets
+pub mod LiveKqueues
 pub mod Tallied
 pub mod Recast
 pub mod Report

@@ -1,6 +1,8 @@
 -- What was heard may be kept in more than one way. A map from one way to another that keeps all that the
 -- definitions ask of it takes knotes, kqueues and systems of the one way to those of the other.
-use Rattle.std.specs.Prelude.{◌≡◌, ℕ, Bool, List, map, length, min, Option}
+use Rattle.std.specs.Prelude.{◌≡◌, List, map, length, min}
+use Rattle.kq_model.specs.declared.reply.Reply.{Reply}
+use Rattle.kq_model.specs.Call.{Called}
 use Rattle.kq_model.specs.Hearing.{Hearing, Occurrence, Tally, listed, tallying, union, most_counted}
 use Rattle.kq_model.specs.Knote.{Knote}
 use Rattle.kq_model.specs.Kqueue.{Kqueue}
@@ -52,3 +54,7 @@ tallied kq = recast_kqueue tallying tally_of kq
 
 abbrev pub tallied_system : System listed → System tallying
 tallied_system s = recast_system tallying tally_of s
+
+-- the outcome of a call, in tallies, is this one
+abbrev pub IsTallied : Kqueue tallying → Reply → Called listed → Type 0
+IsTallied kq reply r = (kq ≡ tallied r.kq) × (reply ≡ r.reply)

@@ -25,7 +25,8 @@ module _ {S : Type 0} {h : Hearing S} where
 
   unfoldable pub event_flags : Knote h → Seen → EvFlags
   event_flags k seen =
-      flag_if seen.eof eof (flag_if k.dispatch dispatch (flag_if k.clear clear (flag_if k.oneshot oneshot (record { 0 = 0 }))))
+      flag_if seen.eof eof (flag_if k.dispatch dispatch (flag_if k.clear clear (
+      flag_if k.oneshot oneshot (record { 0 = 0 }))))
 
   unfoldable pub event_of : Knote h → Seen → Kevent
   event_of k seen = record {

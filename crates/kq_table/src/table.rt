@@ -52,6 +52,10 @@ impl<T: Keyed> Table<T> {
         }
     }
 
+    pub fn allocator(&self) -> Global {
+        *self.slots.allocator()
+    }
+
     pub fn len(&self) -> usize
         ensures { result ≡ length self.now.rows }
     {

@@ -2,6 +2,7 @@
 #![tactic(auto)]
 
 use bitflags::Flags;
+use kq_filters::NothingThere;
 use kq_kevent::Kq;
 use kq_model::{Change, EvFlags, Filter, Memory, Reply};
 use std::alloc::Global;
@@ -31,10 +32,10 @@ fn rung(alloc: Global) -> Result<(Reply, Reply), Memory> {
     let mut kqueue = Kq::new(alloc, 1);
     let made = change(EvFlags::ADD.union(EvFlags::CLEAR), 0);
     let ring = change(EvFlags::from_bits_retain(0), TRIGGER);
-    kqueue.call(&[made], 0)?;
-    kqueue.call(&[ring], 0)?;
-    let first = kqueue.call(&[], 4)?;
-    let second = kqueue.call(&[], 4)?;
+    kqueue.call(&[made], 0, &NothingThere)?;
+    kqueue.call(&[ring], 0, &NothingThere)?;
+    let first = kqueue.call(&[], 4, &NothingThere)?;
+    let second = kqueue.call(&[], 4, &NothingThere)?;
     Ok((first, second))
 }
 
