@@ -1,25 +1,24 @@
-"""What one run of a program took, as the kernel counts it."""
+"""What the runs of one program took, as the kernel counts it."""
 import os
 import subprocess
 import sys
-import time
 
 
 class Measure:
     """The shortest time, in seconds, and the greatest peak memory, in bytes, of some runs of one program."""
 
-    def __init__(self):
+    def __init__(self, words, given, taken):
+        self.words, self.given, self.taken = words, given, taken
         self.seconds, self.peak = float("inf"), 0
 
-    def run(self, words, given, taken):
-        with open(given, "rb") as source, open(taken, "wb") as sink:
-            began = time.perf_counter()
-            child = subprocess.Popen(words, stdin=source, stdout=sink)
+    def run(self):
+        with open(self.given, "rb") as source, open(self.taken, "wb") as sink:
+            child = subprocess.Popen(self.words, stdin=source, stdout=sink)
             _, status, used = os.wait4(child.pid, 0)
-            self.seconds = min(self.seconds, time.perf_counter() - began)
         child.returncode = os.waitstatus_to_exitcode(status)
         if child.returncode:
-            sys.exit(f"{words[0]} ended with status {child.returncode}")
+            sys.exit(f"{self.words[0]} ended with status {child.returncode}")
+        self.seconds = min(self.seconds, used.ru_utime + used.ru_stime)
         self.peak = max(self.peak, used.ru_maxrss * 1024)
 
 

@@ -56,22 +56,22 @@ fn record_value<'a>(
 
 /// Reads the members of a change, from behind its brace, in place of what was found before; and gives the
 /// text behind the brace that closes it.
-pub fn change_members<'a>(text: &'a [u8], found: &mut Found<'a>) -> Option<&'a [u8]>
-    ensures value { IfSome result (λ tail. (ms : Members) × AreMembers 1 text.now tail.now ms × Shows found.new ms) }
+pub fn change_members<'a>(text: &'a [u8], change: &mut Found<'a>) -> Option<&'a [u8]>
+    ensures value { IfSome result (λ tail. (ms : Members) × AreMembers 1 text.now tail.now ms × Shows change.new ms) }
     ensures shorter { IfSome result (λ tail. length tail.now < length text.now) }
 {
-    found.clear();
+    change.clear();
     let mut rest = text;
     'members: loop {
         let (name, value) = key(rest)?;
         let (piece, behind_value) = change_value(value)?;
-        if found.members.is_full() {
+        if change.members.is_full() {
             return None;
         }
-        if found.has(name) {
+        if change.has(name) {
             return None;
         }
-        found.members.push(Member { name, piece });
+        change.members.push(Member { name, piece });
         if let Some(tail) = behind(behind_value, b'}') {
             return Some(tail);
         }

@@ -1,12 +1,12 @@
 //! A whole trace, line by line.
 
-ghost use Rattle.std.specs.Prelude.{◌≡◌, ◌<◌, ◌≤◌, IfErr, IfOk, OnOk};
-ghost use Rattle.kq_model.specs.Reading.{Good, reading, record_on};
+ghost use Rattle.std.specs.Prelude.{◌≡◌, ◌≤◌, IfErr, IfOk, IfSome, Ok, OnOk};
+ghost use Rattle.kq_model.specs.Reading.{Good, event_of, json_of, reading, record_on};
 ghost use Rattle.kq_trace.specs.Faults.{IsFault, IsLeastFault};
 
 use crate::TraceError;
 use crate::header::version_on_line;
-use crate::json::line_value;
+use crate::values::line_value;
 use crate::line::first_line;
 use crate::record::event_of;
 use kq_line::LineReader;
@@ -19,13 +19,34 @@ const MOST_LINE_BYTES: usize = 1 << 20;
 /// Records that are read from one text.
 const MOST_RECORDS: u64 = 1_000_000;
 
-/// The record on a line that is not the first, or the fault of that line. What `reader` does not know
-/// is read as a JSON value, which alone finds faults.
+/// What reads a line behind the header.
+#[derive(Drop, Clone, Copy)]
+enum Readers {
+    /// The typed pass, and what that does not know a JSON value.
+    TypedFirst,
+    /// A JSON value alone.
+    ValuesAlone,
+}
+
+/// The record on a line, where the typed pass is asked and knows it.
+#[inline(always)]
+fn typed_event<'a>(readers: Readers, reader: &mut LineReader<'a>, line: &'a [u8]) -> Option<Event>
+    ensures { IfSome result (λ event. event_of (json_of line.now) ≡ Ok event) }
+{
+    match readers {
+        Readers::TypedFirst => reader.event_on(line),
+        Readers::ValuesAlone => None,
+    }
+}
+
+/// The record on a line that is not the first, or the fault of that line. What the typed pass does not
+/// know is read as a JSON value, which alone finds faults.
 #[tactic(auto, unfolding(kq_model::specs::Reading::record_on, kq_model::specs::Reading::event_of))]
 fn event_on_line<'a>(
     alloc: Global,
     number: u64,
     line: &'a [u8],
+    readers: Readers,
     reader: &mut LineReader<'a>,
 ) -> Result<Result<Event, LineFault>, Memory>
     ensures record { IfOk result (λ event. record_on number line.now ≡ event) }
@@ -37,7 +58,7 @@ fn event_on_line<'a>(
     if number > MOST_RECORDS + 1 {
         return Ok(Err(LineFault::TooManyRecords));
     }
-    if let Some(event) = reader.event_on(line) {
+    if let Some(event) = typed_event(readers, reader, line) {
         return Ok(Ok(event));
     }
     match line_value(alloc, line)? {
@@ -47,7 +68,7 @@ fn event_on_line<'a>(
 }
 
 /// The trace that a text is, or its first bad line; memory outermost.
-fn read(alloc: Global, bytes: &[u8]) -> Result<Trace, TraceError>
+fn read(alloc: Global, bytes: &[u8], readers: Readers) -> Result<Trace, TraceError>
     ensures good { IfOk result (λ trace. reading bytes.now ≡ Good trace.version trace.events) }
     ensures bad { IfErr result (IsFault bytes.now) }
 {
@@ -70,7 +91,7 @@ fn read(alloc: Global, bytes: &[u8]) -> Result<Trace, TraceError>
     let mut rest = behind;
     while !rest.is_empty() {
         let (line, behind) = first_line(rest);
-        match event_on_line(alloc, number, line, &mut reader)? {
+        match event_on_line(alloc, number, line, readers, &mut reader)? {
             Ok(event) => events.push(event).map_err(|_| Memory)?,
             Err(fault) => {
                 return Err(TraceError::Bad {
@@ -99,5 +120,14 @@ pub fn read_trace<R: AllocGlobal>(rt: &R, bytes: &[u8]) -> Result<Trace, TraceEr
     ensures bad { IfErr result (IsFault bytes.now) }
     ensures least { IfErr result (IsLeastFault bytes.now) }
 {
-    read(rt.alloc(), bytes)
+    read(rt.alloc(), bytes, Readers::TypedFirst)
+}
+
+/// The same as [`read_trace`], each line by way of a JSON value: slower, and what the typed pass is
+/// held against.
+pub fn read_trace_by_values<R: AllocGlobal>(rt: &R, bytes: &[u8]) -> Result<Trace, TraceError>
+    ensures good { IfOk result (λ trace. reading bytes.now ≡ Good trace.version trace.events) }
+    ensures bad { IfErr result (IsFault bytes.now) }
+{
+    read(rt.alloc(), bytes, Readers::ValuesAlone)
 }

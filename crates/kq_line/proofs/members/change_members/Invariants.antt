@@ -5,7 +5,7 @@ use Rattle.kq_line.proofs.members.change_members.Given as goal
 
 abbrev pub invariant-members : goal.invariant-members
 invariant-members l = record {
-  so_far : PartsSoFar 1 l.text l.rest l.found;
+  so_far : PartsSoFar 1 l.text l.rest l.change;
   shorter : length l.rest ≤ length l.text;
 }
 
