@@ -38,10 +38,10 @@ returns-in_default-named c =
     let old : SystemState = record { version = c.self.inside.version; world = c.self.inside.world; live = map live_of c.self.inside.live.entries; applied = c.self.inside.applied } in
     record {
       reply = λ place. subst (λ (s : SystemState). IsStep place e (system_of s) (system_of s) (reply.Impossible WrongKind)) c.self.view_is
-        (impossible place e (system_of old) WrongKind
+          (impossible place e (system_of old) WrongKind
           (kevent_on place c.args.pid c.args.number c.args.room c.args.changes.now (world_of old.world) c.in-Some.named
-            (sym c.is_live.ensures ∙ c.if-not-is_live.false) (sym c.in-Some.ensures)
-            ∙ wrong_kind c.args.changes.now c.args.room c.in-Some.named c.in_default-named.not-Kqueue));
+          (sym c.is_live.ensures ∙ c.if-not-is_live.false) (sym c.in-Some.ensures)
+          ∙ wrong_kind c.args.changes.now c.args.room c.in-Some.named c.in_default-named.not-Kqueue));
       applied = refl;
       impossible = λ place none. search rules;
       memory = search rules;

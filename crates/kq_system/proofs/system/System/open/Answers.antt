@@ -81,9 +81,9 @@ invariant_of-self-in-Ok c =
     record {
       version_one = c.self.invariant.version_one;
       of_version = subst (AreOfVersion version) (sym grown)
-        (version_push version es (c.args.place, v) c.self.invariant.of_version (c.new-kq.ensures.version ∙ sym c.self.invariant.version_one));
+          (version_push version es (c.args.place, v) c.self.invariant.of_version (c.new-kq.ensures.version ∙ sym c.self.invariant.version_one));
       born = subst (AreUpTo c.args.place) (sym (ap keys_of grown ∙ map-append (λ (n : ℕ × NumberedKqueue). n.0) es ((c.args.place, v) ∷ [])))
-        (up_to_push c.args.place c.args.place (keys_of es) (le_refl c.args.place)
+          (up_to_push c.args.place c.args.place (keys_of es) (le_refl c.args.place)
           (up_to_more c.self.inside.applied c.args.place (keys_of es) (omega (arith, later)) c.self.invariant.born));
       all_live = stays_live c.args.place e (system_of old) (system_of now) reply.Done steps c.self.invariant.all_live;
     }
