@@ -10,14 +10,9 @@ use crate::line::first_line;
 use crate::record::event_of;
 use crate::values::line_value;
 use kq_line::LineReader;
+use kq_model::limits::{MOST_LINE_BYTES, MOST_RECORDS};
 use kq_model::{Event, LineFault, Memory, Series, Trace};
 use std::alloc::Global;
-
-/// Bytes of the longest line, without the line feed that ends it.
-const MOST_LINE_BYTES: usize = 1 << 20;
-
-/// Records that are read from one text.
-const MOST_RECORDS: u64 = 1_000_000;
 
 /// What reads a line behind the header.
 #[derive(Drop, Clone, Copy)]

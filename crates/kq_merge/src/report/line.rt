@@ -1,12 +1,12 @@
 ghost use Rattle.std.specs.Prelude.{◌++◌, codes, decimal, false, OnOk};
 ghost use Rattle.serde_json.specs.Written.{comma_if, compact_text};
 ghost use Rattle.kq_model.specs.Report.{kevent_data, last_line, reply_line};
-ghost use Rattle.kq_merge.specs.Adds.{Adds};
+ghost use Rattle.kq_text.specs.Adds.{Adds};
 ghost use Rattle.kq_merge.specs.EventsText.{events_text};
 
 use super::event::put_event;
-use super::text::{put, put_number};
 use kq_model::{Errno, Kevent, Memory, Reply, Why};
+use kq_text::{put, put_number};
 
 /// Adds the line of the reply to the record at a place; of a record that was only done, nothing.
 pub fn put_reply(out: &mut Vec<u8>, at: u64, reply: &Reply) -> Result<(), Memory>

@@ -1,8 +1,8 @@
 use Rattle.std.proofs.Common.{subst}
 use Rattle.std.specs.Prelude.{decimal}
 use Rattle.std.proofs.lemmas.Result.{on_ok_weaker}
-use Rattle.kq_merge.specs.Adds.{Adds}
-use Rattle.kq_merge.proofs.Appends.{and_then, as_text}
+use Rattle.kq_text.specs.Adds.{Adds}
+use Rattle.kq_text.proofs.Appends.{and_then, as_text}
 use Rattle.kq_merge.proofs.ReportLines.{failed_line}
 use Rattle.kq_merge.proofs.report.line.put_failed.Goals as goal
 
