@@ -52,13 +52,13 @@ module _ {M S A : Type 0} where
   count_next [] c cs h = omega arith
   count_next (v ∷ vs) c cs h = dite (ℕ_discrete v.number c.number)
       (λ e.
-          let mine = ap length (next_same v.number c cs e) in
-          let others = ap (sum_by length) (next_others v.number vs c cs h.0 e) in
-          let after = count_cons v vs (c ∷ cs) in let before = count_cons v vs cs in omega arith)
+      let mine = ap length (next_same v.number c cs e) in
+      let others = ap (sum_by length) (next_others v.number vs c cs h.0 e) in
+      let after = count_cons v vs (c ∷ cs) in let before = count_cons v vs cs in omega arith)
       (λ ne.
-          let mine = ap length (next_other v.number c cs ne) in
-          let others = count_next vs c cs h.1 in
-          let after = count_cons v vs (c ∷ cs) in let before = count_cons v vs cs in omega arith)
+      let mine = ap length (next_other v.number c cs ne) in
+      let others = count_next vs c cs h.1 in
+      let after = count_cons v vs (c ∷ cs) in let before = count_cons v vs cs in omega arith)
 
   none_made : (vs : List (Seated M S A)) → count_by vs [] ≡ 0
   none_made [] = refl
@@ -89,14 +89,14 @@ module _ {M S A : Type 0} where
         others = ap (λ l. calls_by v.number cs ∷ l) (next_others v.number vs c cs h.0 e);
       })
       (λ ne.
-          let mine = next_other v.number c cs ne in let count = ap length mine in
-          let after = count_cons v vs (c ∷ cs) in let before = count_cons v vs cs in
-          let found = first_call vs c cs h.1 (omega arith) in record {
-            seat = suc found.seat;
-            rest = found.rest;
-            first = found.first;
-            others = cc (mine, found.others);
-          })
+      let mine = next_other v.number c cs ne in let count = ap length mine in
+      let after = count_cons v vs (c ∷ cs) in let before = count_cons v vs cs in
+      let found = first_call vs c cs h.1 (omega arith) in record {
+        seat = suc found.seat;
+        rest = found.rest;
+        first = found.first;
+        others = cc (mine, found.others);
+      })
 
   -- Where all calls are the seats', the history is a merge of what they called.
   pub calls_merge : (vs : List (Seated M S A)) (log : List (Call S A)) → AreApart vs

@@ -68,6 +68,6 @@ module _ {M S A : Type 0} where
       let fits = prefix_length v.seen w.seen h.grows.begins in
       let more = ap length h.grows.own ∙ length-append (calls_by v.number v.seen) (c ∷ []) in
       let whole : length w.seen ≤ length v.seen → ⊥ = λ le.
-          let same = prefix_whole v.seen w.seen h.grows.begins le in
-          let none = ap (λ (l : List (Call S A)). length (calls_by v.number l)) same in omega arith in
+      let same = prefix_whole v.seen w.seen h.grows.begins le in
+      let none = ap (λ (l : List (Call S A)). length (calls_by v.number l)) same in omega arith in
       let place = h.place in let shorter = h.shorter in omega arith

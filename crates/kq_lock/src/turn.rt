@@ -78,9 +78,7 @@ pub fn take_turn<M: Machine>(
     requires table { (token.old.table_id ≡ table.now.table_id) × IsLockTable table.now.table_id }
     requires turn { HasTurn M.leads ticket token.old.me × (token.old.me.0.last ≤ 2 ^ 62) }
     ensures seat { IsSameSeat token.old token.new × (token.new.me.1 ≡ []) }
-    ensures view {
-        token.new.me.0 ≡ record token.old.me.0 { seen = token.new.me.0.seen; stage = Idle }
-    }
+    ensures view { token.new.me.0 ≡ record token.old.me.0 { seen = token.new.me.0.seen; stage = Idle } }
     ensures ok { IfOk result (λ r. IsLogged M.leads token.old.me.0 token.new.me.0 step r.1) }
     ensures at { IfOk result (λ r. r.0 ≡ length token.new.me.0.seen) }
     ensures err { OnErr result (token.new.me.0.seen ≡ token.old.me.0.seen) }
@@ -114,9 +112,7 @@ pub fn make_call<M: Machine>(
     requires table { (token.old.table_id ≡ table.now.table_id) × IsLockTable table.now.table_id }
     requires turn { HasTurn M.leads ticket token.old.me × (token.old.me.0.last ≤ 2 ^ 62) }
     ensures seat { IsSameSeat token.old token.new × (token.new.me.1 ≡ []) }
-    ensures view {
-        token.new.me.0 ≡ record token.old.me.0 { seen = token.new.me.0.seen; stage = Idle }
-    }
+    ensures view { token.new.me.0 ≡ record token.old.me.0 { seen = token.new.me.0.seen; stage = Idle } }
     ensures ok { IfOk result (λ r. IsLogged M.leads token.old.me.0 token.new.me.0 step r.answer) }
     ensures at { IfOk result (λ r. (r.at ≡ length token.new.me.0.seen) × (seen_len.new ≡ r.at)) }
     ensures seen_len { IfOk result (λ r. r.seen_len ≡ seen_len.old) }

@@ -1,11 +1,10 @@
 -- What threads have done once their seats are joined.
-use Rattle.std.proofs.Common.{◌≡◌, ◌≢◌, ℕ, zero, suc, ◌+◌, ◌<◌, ◌≤◌, List, [], ◌∷◌, ◌++◌, length, map, sum_by, refl}
+use Rattle.std.proofs.Common.{◌≡◌, ℕ, suc, List, [], ◌∷◌, ◌++◌, length, refl}
 use Rattle.std.proofs.Common.{ap, sym, ◌∙◌, subst, arith}
 use mathlib.Core.List.{IsPrefix, map-append}
-use Rattle.kq_lock.specs.declared.entry.Entry.{Entry}
 use Rattle.kq_lock.specs.declared.view.Call.{Call}
 use Rattle.kq_lock.specs.Calls.{calls_by, call_of}
-use Rattle.kq_lock.specs.Seats.{Seated, own_calls, Called, EachSeat, IsFresh}
+use Rattle.kq_lock.specs.Seats.{Seated, own_calls, Called}
 use Rattle.kq_lock.proofs.Beginnings.{prefix_self, prefix_trans}
 use Rattle.kq_lock.proofs.Logs.{calls_begin}
 use Rattle.kq_serve.specs.Shares.{share, shares, steps_of, HasServed, AreServed}
@@ -25,7 +24,7 @@ module _ {M S A : Type 0} where
       let c : Call S A = call_of w.number (record { step = step; answer = answer }) in
       let number : w'.number ≡ w.number = ap (λ (z : Seated M S A). z.number) made.same in
       let calls : own_calls w' ≡ own_calls w ++ c ∷ [] =
-          ap (λ (n : ℕ). calls_by n w'.seen) number ∙ made.grows.own in record {
+      ap (λ (n : ℕ). calls_by n w'.seen) number ∙ made.grows.own in record {
         lock = ap (λ (z : Seated M S A). z.lock) made.same ∙ h.lock;
         number = number ∙ h.number;
         done = ap steps_of calls ∙ (map-append (λ (d : Call S A). d.step) (own_calls w) (c ∷ [])

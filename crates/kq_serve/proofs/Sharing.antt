@@ -1,6 +1,6 @@
 -- How a share grows with the list, and that all shares together are the list.
 use Rattle.std.proofs.Common.{◌≡◌, ◌≢◌, ℕ, zero, suc, ◌+◌, ◌%◌, ◌==◌, ◌<◌, ◌≤◌, cond, List, [], ◌∷◌}
-use Rattle.std.proofs.Common.{◌++◌, length, take, get_or, map, sum_by, refl, ap, sym, ◌∙◌, subst, arith}
+use Rattle.std.proofs.Common.{◌++◌, length, take, get_or, sum_by, refl, ap, sym, ◌∙◌, arith}
 use Rattle.std.proofs.Common.{ne_eqb, eq-eqb}
 use Rattle.std.proofs.lemmas.List.{append-nil}
 use Rattle.std.proofs.lemmas.List.Elements.{filter_more}
@@ -64,11 +64,11 @@ module _ {S : Type 0} (owner : S → ℕ) (n : ℕ) where
   total_below zero x xs lt = absurd (omega arith)
   total_below (suc k) x xs lt = dite (ℕ_discrete (owner x % n) k)
       (λ e.
-          let before = total_above k x xs (omega arith) in let mine = next_in k x xs e in
-          let all = total_next k (x ∷ xs) in let less = total_next k xs in omega arith)
+      let before = total_above k x xs (omega arith) in let mine = next_in k x xs e in
+      let all = total_next k (x ∷ xs) in let less = total_next k xs in omega arith)
       (λ ne.
-          let before = total_below k x xs (omega arith) in let out = next_out k x xs ne in
-          let all = total_next k (x ∷ xs) in let less = total_next k xs in omega arith)
+      let before = total_below k x xs (omega arith) in let out = next_out k x xs ne in
+      let all = total_next k (x ∷ xs) in let less = total_next k xs in omega arith)
 
   total_none : (k : ℕ) → total k [] ≡ 0
   total_none zero = refl

@@ -5,7 +5,7 @@ use Rattle.kq_lock.specs.declared.entry.Entry.{Entry}
 use Rattle.kq_lock.specs.declared.view.Call.{Call}
 use Rattle.kq_lock.specs.Calls.{plain, calls_by, Leads}
 use Rattle.kq_lock.specs.Merging.{IsMerge}
-use Rattle.kq_lock.specs.Seats.{LockName, Seated, own_calls}
+use Rattle.kq_lock.specs.Seats.{Seated, own_calls}
 
 module _ {S : Type 0} where
   -- the steps of thread t among n, in their order: those whose owner leaves t when divided by n

@@ -3,11 +3,11 @@
 
 mod error;
 mod gate;
-mod service;
 mod served;
+mod service;
 mod share;
 
 pub use error::ServeError;
 pub use gate::{Always, Gate, Open, Starts};
-pub use service::{serve, serve_all};
 pub use served::Served;
+pub use service::{serve, serve_all};

@@ -65,6 +65,9 @@ fn main(rt: HostRuntime) -> Result<(), anyhow::Error> {
     }
     let meeting = Meeting::new();
     totalled(&rt, alloc, &meeting, &Always, all, 2)?;
-    println!(rt; "two threads were at the gate at once: {}", meeting.was_held())?;
+    println!(rt;
+        "two threads were at the gate at once: {}",
+        meeting.was_held()
+    )?;
     Ok(())
 }

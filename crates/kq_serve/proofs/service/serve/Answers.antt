@@ -1,4 +1,4 @@
-use Rattle.std.proofs.Common.{rules, ◌≡◌, ℕ, sym, subst, ◌∙◌, arith, length, sum_by, vec_len}
+use Rattle.std.proofs.Common.{rules, ℕ, subst, ◌∙◌}
 use Rattle.kq_serve.specs.Shares.{shares, AreServed}
 use Rattle.kq_serve.proofs.Sharing.{total_all}
 use Rattle.kq_serve.proofs.Merges.{serves}
