@@ -10,12 +10,10 @@ mod total;
 use kq_serve::{Always, Gate, Open, ServeError, Starts, serve};
 use meeting::Meeting;
 use std::alloc::Global;
+use std::io;
 use std::sync::Wait;
 use std::thread::Threads;
 use total::{Addition, Total};
-
-/// How many amounts are added.
-const AMOUNTS: u64 = 1_000;
 
 // Refuses the start of this thread alone.
 #[derive(Drop)]
@@ -27,7 +25,20 @@ impl Starts for Without {
     }
 }
 
-// The total and the number of calls that threads made, where all were made.
+// Amounts from 1 on, of a hundred customers.
+fn fill(additions: &mut [Addition])
+    ensures { length additions.new ≡ length additions.old }
+{
+    for i in 0..additions.len() {
+        let amount = i as u64 + 1;
+        additions[i] = Addition {
+            customer: amount % 100,
+            amount,
+        };
+    }
+}
+
+// The total that so many threads make of the amounts, and how many calls they made.
 fn totalled<R: Threads + Wait + Sync, G: Gate + Sync, S: Starts>(
     rt: &R,
     alloc: Global,
@@ -43,31 +54,32 @@ fn totalled<R: Threads + Wait + Sync, G: Gate + Sync, S: Starts>(
     Ok((total.sum(), history.len()))
 }
 
-fn main(rt: HostRuntime) -> Result<(), anyhow::Error> {
+fn show(rt: &HostRuntime, threads: u32, made: Result<(u64, usize), ServeError>) -> io::Result<()> {
+    match made {
+        Ok((sum, calls)) => println!(rt; "{threads} threads: {calls} calls, total {sum}"),
+        Err(refused) => println!(rt; "{threads} threads: {refused}"),
+    }
+}
+
+fn main(rt: HostRuntime) -> io::Result<()> {
     let alloc = rt.alloc();
-    let mut additions = Vec::new(alloc);
-    for amount in 1..=AMOUNTS {
-        additions.push(Addition {
-            customer: amount % 100,
-            amount,
-        })?;
-    }
+    let mut additions = [Addition {
+        customer: 0,
+        amount: 0,
+    }; 1000];
+    fill(&mut additions);
     let all = additions.as_slice();
-    for threads in [1, 2, 3, 8, 64] {
-        let (sum, calls) = totalled(&rt, alloc, &Open, &Always, all, threads)?;
-        println!(rt; "{threads} threads: {calls} calls, total {sum}")?;
-    }
-    for refused in [7, 1] {
-        match totalled(&rt, alloc, &Open, &Without(refused), all, 8) {
-            Ok(_) => println!(rt; "thread {refused} was started")?,
-            Err(error) => println!(rt; "without thread {refused}: {error}")?,
-        }
-    }
+    show(&rt, 1, totalled(&rt, alloc, &Open, &Always, all, 1))?;
+    show(&rt, 2, totalled(&rt, alloc, &Open, &Always, all, 2))?;
+    show(&rt, 3, totalled(&rt, alloc, &Open, &Always, all, 3))?;
+    show(&rt, 8, totalled(&rt, alloc, &Open, &Always, all, 8))?;
+    show(&rt, 64, totalled(&rt, alloc, &Open, &Always, all, 64))?;
+    show(&rt, 8, totalled(&rt, alloc, &Open, &Without(7), all, 8))?;
+    show(&rt, 8, totalled(&rt, alloc, &Open, &Without(1), all, 8))?;
     let meeting = Meeting::new();
-    totalled(&rt, alloc, &meeting, &Always, all, 2)?;
+    show(&rt, 2, totalled(&rt, alloc, &meeting, &Always, all, 2))?;
     println!(rt;
         "two threads were at the gate at once: {}",
         meeting.was_held()
-    )?;
-    Ok(())
+    )
 }
