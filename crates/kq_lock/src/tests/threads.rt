@@ -36,7 +36,10 @@ fn held_and_tried<R: Threads + Wait + Sync>(
 }
 
 // What a call that holds the turn of a lock with so many tickets answers, and what a try meanwhile.
-fn tried_while_held(rt: &HostRuntime, last: u64) -> Result<(Told, Told), Fail>
+fn tried_while_held<R: AllocGlobal + Threads + Wait + Sync>(
+    rt: &R,
+    last: u64,
+) -> Result<(Told, Told), Fail>
     requires { last ≤ 2 ^ 62 }
 {
     let word = Arc::new(rt.alloc(), AtomicU64::new(0))?;
