@@ -54,7 +54,7 @@ fn totalled<R: Threads + Wait + Sync, G: Gate + Sync, S: Starts>(
     Ok((total.sum(), history.len()))
 }
 
-fn show(rt: &HostRuntime, threads: u32, made: Result<(u64, usize), ServeError>) -> io::Result<()> {
+fn show(rt: &impl Print, threads: u32, made: Result<(u64, usize), ServeError>) -> io::Result<()> {
     match made {
         Ok((sum, calls)) => println!(rt; "{threads} threads: {calls} calls, total {sum}"),
         Err(refused) => println!(rt; "{threads} threads: {refused}"),
