@@ -29,17 +29,19 @@ balance-told f g r rs = gained (total f rs) (total g rs) (f r) (g r)
 socket-told : (r : SocketRecord) (rs : List SocketRecord) → sockets.socket_state (r ∷ rs) ≡ sockets.socket_after r (sockets.socket_state rs)
 unfolding sockets.socket_state sockets.socket_after
 socket-told r rs = rw (
-    balance-told sockets.arrives sockets.accepts r rs,
-    balance-told sockets.received sockets.taken r rs,
-    balance-told sockets.written sockets.transmitted r rs,
-    balance-told sockets.holds sockets.releases r rs) refl
+  balance-told sockets.arrives sockets.accepts r rs,
+  balance-told sockets.received sockets.taken r rs,
+  balance-told sockets.written sockets.transmitted r rs,
+  balance-told sockets.holds sockets.releases r rs,
+) refl
 
 pipe-told : (r : PipeRecord) (rs : List PipeRecord) → pipes.pipe_state (r ∷ rs) ≡ pipes.pipe_after r (pipes.pipe_state rs)
 unfolding pipes.pipe_state pipes.pipe_after
 pipe-told r rs = rw (
-    balance-told pipes.written pipes.taken r rs,
-    balance-told pipes.holds_read pipes.releases_read r rs,
-    balance-told pipes.holds_write pipes.releases_write r rs) refl
+  balance-told pipes.written pipes.taken r rs,
+  balance-told pipes.holds_read pipes.releases_read r rs,
+  balance-told pipes.holds_write pipes.releases_write r rs,
+) refl
 
 description-told : (r : DescriptionRecord) (rs : List DescriptionRecord) → files.description_state (r ∷ rs) ≡ files.description_after r (files.description_state rs)
 unfolding files.description_state files.description_after

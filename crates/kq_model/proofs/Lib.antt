@@ -22,3 +22,12 @@ pub mod TimerWalkTickers
 pub mod ChangeLines
 pub mod Spelled
 pub mod CountedObjects
+pub mod ObjectBuilders
+pub mod SocketRows
+pub mod PipeRows
+pub mod FileRows
+pub mod HeldObjects
+pub mod HeldNames
+pub mod CountedNotes
+pub mod FreePlaces
+pub mod UntouchedViews

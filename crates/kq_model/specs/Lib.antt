@@ -36,3 +36,4 @@ pub mod PipePlans
 pub mod FilePlans
 pub mod Planning
 pub mod Holding
+pub mod Touching

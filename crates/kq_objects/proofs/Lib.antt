@@ -1,0 +1,4 @@
+pub mod Making
+pub mod Ready
+pub mod Notes
+pub mod Releasing
