@@ -27,6 +27,7 @@ test:
 bench: all
 	cd crates/value_count && rt run < stdin
 	bench/run $(KQSIM) $(VALUE_COUNT)
+	bench/kevents $(KQSIM)
 
 install: all
 	install -D -m 755 $(KQSIM) $(DESTDIR)$(PREFIX)/bin/kqsim

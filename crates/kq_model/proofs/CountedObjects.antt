@@ -109,7 +109,7 @@ module _ {A B C D : Type 0} (k : Keeping A B C D) (counts : CountsAll k) where
   done-counted (ToDescription place r) o = ap (λ f. record (quantities o) { description = f }) (fun_ext (told_at-counted k.descriptions counted.descriptions counts.descriptions files.is_description_held place r o.description))
   done-counted (ToFile number r) o = ap (λ f. record (quantities o) { file = f }) (fun_ext (told_at-counted k.files counted.files counts.files (λ s. true) number r o.file))
 
-  all_done-quantities : (ds : List Doing) (o : Objects k) → quantities (all_done ds o) ≡ all_done ds (quantities o)
+  pub all_done-quantities : (ds : List Doing) (o : Objects k) → quantities (all_done ds o) ≡ all_done ds (quantities o)
   unfolding all_done
   all_done-quantities [] o = refl
   all_done-quantities (d ∷ ds) o = all_done-quantities ds (done d o) ∙ ap (all_done ds) (done-counted d o)

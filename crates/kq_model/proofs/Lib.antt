@@ -1,3 +1,21 @@
+pub mod ListLaws
+pub mod KeyLaws
+pub mod KnoteLaws
+pub mod Subjects
+pub mod SubjectsCall
+pub mod CloseLaw
+pub mod NamedTargets
+pub mod RegistrationLaws
+pub mod Descriptors
+pub mod LiveKqueues
+pub mod RecastTally
+pub mod RecastKnote
+pub mod RecastRegistration
+pub mod RecastRetrieval
+pub mod RecastCall
+pub mod RecastMoment
+pub mod RecastSystem
+pub mod Tallied
 pub mod Opened
 pub mod Builders
 pub mod StoredRun
@@ -19,6 +37,7 @@ pub mod TimerWalkMember
 pub mod TimerWalkQueue
 pub mod TimerWalkSort
 pub mod TimerWalkTickers
+pub mod ClockLaw
 pub mod ChangeLines
 pub mod Spelled
 pub mod CountedObjects
@@ -31,3 +50,7 @@ pub mod HeldNames
 pub mod CountedNotes
 pub mod FreePlaces
 pub mod UntouchedViews
+pub mod SeenWorld
+pub mod WorldPlayed
+pub mod WorldDescriptors
+pub mod WorldObjects

@@ -116,6 +116,11 @@ unfoldable pub all_released : {A B C D : Type 0} {k : Keeping A B C D} → List 
 all_released [] o = o
 all_released (n ∷ ns) o = all_released ns (release n o)
 
+-- what is noted of the objects, where each descriptor is released after the one before it
+unfoldable pub release_all : List Named → Objects counted → List Doing
+release_all [] o = []
+release_all (n ∷ ns) o = release_doings n o ++ release_all ns (release n o)
+
 unfoldable pub option_list : Option (Target × Hint) → List (Target × Hint)
 option_list None = []
 option_list (Some x) = x ∷ []

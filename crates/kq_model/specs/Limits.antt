@@ -24,3 +24,7 @@ most_capacity = 2 ^ 31 - 1
 -- the size of a file and an offset in it, in bytes
 abbrev pub most_file_size : ℕ
 most_file_size = 2 ^ 61
+
+-- the greatest number of a signal
+abbrev pub most_signal : ℕ
+most_signal = 128

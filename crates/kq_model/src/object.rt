@@ -1,6 +1,6 @@
 /// What a knote watches. A socket, a pipe and an open file description are named by the place of
 /// the record that made them.
-#[derive(Debug, Drop, Clone, Copy, PartialEq, Eq)]
+#[derive(Debug, Drop, Clone, Copy, PartialEq, Eq, Hash)]
 pub enum Target {
     Socket(u64),
     Pipe(u64),

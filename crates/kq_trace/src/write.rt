@@ -56,7 +56,7 @@ fn add_record(alloc: Global, text: &mut Vec<u8>, event: &Event) -> Result<(), Me
 pub fn write_trace(alloc: Global, trace: &Trace) -> Result<Vec<u8>, Memory>
     ensures text { IfOk result (λ text. text.items ≡ spelling trace.now.version trace.now.events) }
     ensures read_again { IfOk result
-        (λ text. CanBeReadAgain trace.now.events → reading text.items ≡ Good trace.now.events) }
+        (λ text. CanBeReadAgain trace.now.events → reading text.items ≡ Good trace.now.version trace.now.events) }
 {
     let mut text = Vec::new(alloc);
     add_header(alloc, &mut text, trace.version)?;
