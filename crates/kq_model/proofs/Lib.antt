@@ -48,7 +48,7 @@ pub mod FileRows
 pub mod HeldObjects
 pub mod HeldNames
 pub mod CountedNotes
-pub mod FreePlaces
+pub mod ReleasedAll
 pub mod UntouchedViews
 pub mod SeenWorld
 pub mod WorldPlayed
