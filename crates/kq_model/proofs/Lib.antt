@@ -41,6 +41,17 @@ pub mod ClockLaw
 pub mod ChangeLines
 pub mod Spelled
 pub mod CountedObjects
+pub mod ObjectBuilders
+pub mod SocketRows
+pub mod PipeRows
+pub mod FileRows
+pub mod HeldObjects
+pub mod HeldNames
+pub mod CountedNotes
+pub mod CountedPlans
+pub mod FreePlaces
+pub mod ReleasedAll
+pub mod UntouchedViews
 pub mod SeenWorld
 pub mod WorldPlayed
 pub mod WorldDescriptors

@@ -59,9 +59,9 @@ world_after rs = seen_world (world_from 1 (empty_world listed) rs)
 unfoldable pub world_opened : ⊤
 unfolding on_named on_descriptor plan_close closes close_doings close_hints duplicated plan_dup plan_kqueue plan_call plan_kevent
     named_among is_before with_descriptor with_descriptors
-    file.file_amount file.noted file.readable_each file.extending file.made_file file.plan_file file.present file.opened file.plan_open file.sized file.truncated file.plan_truncate file.deletion file.said file.plan_note file.sought file.sought_in file.plan_seek file.read_file file.reached file.grows file.write_file
+    file.file_amount file.noted file.extending file.made_file file.plan_file file.present file.opened file.plan_open file.sized file.truncated file.plan_truncate file.deletion file.said file.plan_note file.sought file.sought_in file.plan_seek file.read_file file.reached file.grows file.written file.write_file
     files.description_state files.description_after files.may_read files.may_write files.file_state files.file_after
-    holding.holders_of holding.hold_doings holding.hold holding.left holding.release_doings holding.release holding.close_hint holding.end_hint holding.release_hint holding.all_held holding.all_released holding.release_all holding.option_list holding.release_hints
+    holding.holders_of holding.hold_doings holding.hold holding.leaving holding.left holding.release_doings holding.release holding.close_hint holding.end_hint holding.release_hint holding.all_held holding.all_released holding.release_all holding.option_list holding.release_hints
     object.hints_for
     records.with_objects records.plan_act records.plan_at records.unless_open records.if_live records.plan_socket records.plan_accept records.plan_pipe records.plan_open
     done all_done view_of description_view

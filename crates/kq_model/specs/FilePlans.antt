@@ -36,13 +36,11 @@ unfoldable pub noted : ℕ → ℕ → Target × Hint
 noted number bits = (target.File number, hint.Note bits)
 
 -- the descriptions of a file are readable as far as its size says
-unfoldable pub readable_each : List ℕ → List (Target × Hint)
-readable_each [] = []
-readable_each (place ∷ places) = (target.Open place, hint.Readable) ∷ readable_each places
+abbrev pub readable : ℕ → Target × Hint
+readable place = (target.Open place, hint.Readable)
 
-abbrev pub descriptions_of : Option FileState → List ℕ
-descriptions_of None = []
-descriptions_of (Some s) = s.descriptions
+abbrev pub readable_each : List ℕ → List (Target × Hint)
+readable_each places = map readable places
 
 -- NOTE_EXTEND comes with the bits where the file grows
 unfoldable pub extending : ℕ → Bool → ℕ
@@ -103,7 +101,7 @@ unfoldable pub sought : ℕ → Option ℕ → Planned
 sought place None = Err TooMany
 sought place (Some offset) = Ok (record {
   doings = ToDescription place (description.Sought offset) ∷ [];
-  hints = (target.Open place, hint.Readable) ∷ [];
+  hints = readable place ∷ [];
 })
 
 unfoldable pub sought_in : ℕ → ℤ → Option DescriptionState → Planned
@@ -133,13 +131,18 @@ reached number bytes end = if bytes == 0 then [] else ToFile number (file.Reache
 unfoldable pub grows : ℕ → ℕ → ℕ → Bool
 grows size bytes end = not (bytes == 0) && nat_lt size end
 
+unfoldable pub written : ℕ → ℕ → DescriptionState → Option FileState → Planned
+written place bytes s None = Err WrongKind
+written place bytes s (Some f) = Ok (record {
+  doings = ToDescription place (description.Moved bytes) ∷ reached s.file bytes (s.offset + bytes);
+  hints = readable_each f.descriptions
+      ++ noted s.file (extending note_write (grows f.size bytes (s.offset + bytes))) ∷ [];
+})
+
+-- (the file of a description is always there)
 unfoldable pub write_file : ℕ → ℕ → Option DescriptionState → Objects counted → Planned
 write_file place bytes None o = Err WrongKind
 write_file place bytes (Some s) o =
     if not (may_write s.mode) then Err WrongKind
     else if nat_lt most_file_size (s.offset + bytes) then Err TooMany
-    else Ok (record {
-      doings = ToDescription place (description.Moved bytes) ∷ reached s.file bytes (s.offset + bytes);
-      hints = readable_each (descriptions_of (o.file s.file))
-          ++ noted s.file (extending note_write (grows (size_of (o.file s.file)) bytes (s.offset + bytes))) ∷ [];
-    })
+    else written place bytes s (o.file s.file)

@@ -1,7 +1,9 @@
 -- Descriptors and the objects that they name: how many name each, and what happens when one more names
 -- it or one no longer does. The last one that no longer names it ends the object, or its end of a pipe.
 -- Source: dup(2), close(2), fork(2); NOTE_CLOSE and NOTE_CLOSE_WRITE of kqueue(2).
-use Rattle.std.specs.Prelude.{◌≡◌, ◌==◌, ℕ, ◌+◌, ℤ, pos, int_le, Bool, false, List, [], ◌∷◌, ◌++◌, Option, Some, None, if◌then◌else◌}
+use Rattle.std.specs.Prelude.{◌≡◌, ◌==◌, ◌≤◌, ℕ, ◌+◌, ℤ, pos, int_le, Bool, true, false, List, [], ◌∷◌, ◌++◌, Option, Some, None, if◌then◌else◌}
+use Rattle.kq_model.specs.declared.act.Act.{Act}
+use Rattle.kq_model.specs.declared.act.Act.TheVariants as act
 use Rattle.kq_model.specs.declared.doing.DescriptionRecord.TheVariants as description
 use Rattle.kq_model.specs.declared.doing.Doing.{Doing}
 use Rattle.kq_model.specs.declared.doing.Doing.TheVariants.{ToSocket, ToPipe, ToDescription, ToFile}
@@ -15,11 +17,11 @@ use Rattle.kq_model.specs.declared.object.Named.TheVariants as named
 use Rattle.kq_model.specs.declared.object.Target.{Target}
 use Rattle.kq_model.specs.declared.object.Target.TheVariants as target
 use Rattle.kq_model.specs.declared.side.Side.TheVariants as side
-use Rattle.kq_model.specs.Files.{DescriptionState, may_write}
+use Rattle.kq_model.specs.Files.{DescriptionState, FileState, is_description_held, may_write}
 use Rattle.kq_model.specs.NoteBits.{note_close, note_close_write}
 use Rattle.kq_model.specs.Objects.{Keeping, Objects, counted, quantities, all_done}
-use Rattle.kq_model.specs.Pipes.{PipeState}
-use Rattle.kq_model.specs.Sockets.{SocketState}
+use Rattle.kq_model.specs.Pipes.{PipeState, is_pipe_held}
+use Rattle.kq_model.specs.Sockets.{SocketState, is_socket_held}
 
 -- ---- how many descriptors name an object
 
@@ -65,16 +67,21 @@ hold n o = all_done (hold_doings n) o
 abbrev pub is_last : ℤ → Bool
 is_last holders = int_le holders (pos 1)
 
--- the file no longer has the description, where its last descriptor goes
-unfoldable pub left : ℕ → Option DescriptionState → List Doing
-left place None = []
-left place (Some s) = if is_last s.holders then ToFile s.file (file.Left place) ∷ [] else []
+unfoldable pub leaving : ℕ → ℕ → Option FileState → List Doing
+leaving place number None = []
+leaving place number (Some f) = ToFile number (file.Left place) ∷ []
+
+-- its file no longer has the description, where the last descriptor goes
+unfoldable pub left : ℕ → Option DescriptionState → Objects counted → List Doing
+left place None o = []
+left place (Some s) o = if is_last s.holders then leaving place s.file (o.file s.file) else []
 
 unfoldable pub release_doings : Named → Objects counted → List Doing
 release_doings (named.Socket place) o = ToSocket place socket.Released ∷ []
 release_doings (named.PipeRead place) o = ToPipe place (pipe.Released side.Read) ∷ []
 release_doings (named.PipeWrite place) o = ToPipe place (pipe.Released side.Write) ∷ []
-release_doings (named.Open place number) o = ToDescription place description.Released ∷ left place (o.description place)
+release_doings (named.Open place number) o =
+    ToDescription place description.Released ∷ left place (o.description place) o
 release_doings (named.Kqueue place) o = []
 
 unfoldable pub release : {A B C D : Type 0} {k : Keeping A B C D} → Named → Objects k → Objects k
@@ -143,3 +150,24 @@ times n (m ∷ ms) = times n ms + one_if (is_same n m)
 -- the counts of descriptors are those of the descriptors that there are, in whatever order
 abbrev pub IsCounted : Objects counted → List Named → Type 0
 IsCounted o names = (n : Named) → holders_of n o ≡ pos (times n names)
+
+-- a descriptor among these names the object; of a kqueue nothing is asked
+abbrev pub IsNamed : Named → List Named → Type 0
+IsNamed (named.Kqueue place) names = Unit {0}
+IsNamed n names = 1 ≤ times n names
+
+-- a descriptor names each object that is there, files excepted
+pub record AreHeld (o : Objects counted) : Type 0 where
+  pub socket : (place : ℕ) (s : SocketState) → o.socket place ≡ Some s → is_socket_held s ≡ true
+  pub pipe : (place : ℕ) (s : PipeState) → o.pipe place ≡ Some s → is_pipe_held s ≡ true
+  pub description : (place : ℕ) (s : DescriptionState) → o.description place ≡ Some s → is_description_held s ≡ true
+
+-- ---- what a record makes descriptors name
+
+-- the objects, and ends of a pipe, that the record of a place makes, each named by one descriptor
+unfoldable pub made_names : ℕ → Act → List Named
+made_names place (act.Socket receive_buffer send_buffer) = named.Socket place ∷ []
+made_names place (act.Accept on receive_buffer send_buffer) = named.Socket place ∷ []
+made_names place (act.Pipe cap) = named.PipeRead place ∷ named.PipeWrite place ∷ []
+made_names place (act.Open number mode) = named.Open place number ∷ []
+made_names place _ = []

@@ -41,6 +41,7 @@ pub mod PipePlans
 pub mod FilePlans
 pub mod Planning
 pub mod Holding
+pub mod Touching
 pub mod Descriptors
 pub mod Processes
 pub mod World

@@ -2,7 +2,7 @@
 -- the file's number; what is noted of them, and what filters see.
 -- An object is kept from the record that makes it until its last descriptor is closed, a file for ever.
 -- The definitions are generic in how it is kept: `listed` keeps the records, `counted` the quantities.
-use Rattle.std.specs.Prelude.{◌==◌, ℕ, ℤ, pos, Bool, true, List, [], ◌∷◌, Option, Some, None, if◌then◌else◌}
+use Rattle.std.specs.Prelude.{◌≡◌, ◌==◌, ℕ, ℤ, pos, Bool, true, List, [], ◌∷◌, Option, Some, None, if◌then◌else◌}
 use Rattle.std.specs.Option.{option_map}
 use Rattle.kq_model.specs.declared.doing.SocketRecord.{SocketRecord}
 use Rattle.kq_model.specs.declared.doing.PipeRecord.{PipeRecord}
@@ -86,7 +86,9 @@ told_at b stays place r objects p = if place == p then kept b stays (told_of b r
 unfoldable pub done : {A B C D : Type 0} {k : Keeping A B C D} → Doing → Objects k → Objects k
 done {k = k} (ToSocket place r) o = record o { socket = told_at k.sockets is_socket_held place r o.socket }
 done {k = k} (ToPipe place r) o = record o { pipe = told_at k.pipes is_pipe_held place r o.pipe }
-done {k = k} (ToDescription place r) o = record o { description = told_at k.descriptions is_description_held place r o.description }
+done {k = k} (ToDescription place r) o = record o {
+  description = told_at k.descriptions is_description_held place r o.description;
+}
 done {k = k} (ToFile number r) o = record o { file = told_at k.files (λ s. true) number r o.file }
 
 unfoldable pub all_done : {A B C D : Type 0} {k : Keeping A B C D} → List Doing → Objects k → Objects k
@@ -110,3 +112,9 @@ view_of (target.Pipe place) o = option_map pipe_view (o.pipe place)
 view_of (target.Open place) o = option_map (description_view o) (o.description place)
 view_of (target.File number) o = option_map (λ s. view.File) (o.file number)
 view_of _ o = None
+
+-- no object is at the place
+pub record IsFree (place : ℕ) (o : Objects counted) : Type 0 where
+  pub socket : o.socket place ≡ None
+  pub pipe : o.pipe place ≡ None
+  pub description : o.description place ≡ None

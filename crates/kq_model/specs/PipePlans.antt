@@ -17,7 +17,10 @@ plan_pipe place cap =
 -- what one step at a pipe comes to
 unfoldable pub pipe_plan : ℕ → PipeStep → Planned
 pipe_plan place (Err why) = Err why
-pipe_plan place (Ok (told, hint)) = Ok (record { doings = ToPipe place told ∷ []; hints = hints_for (target.Pipe place) hint })
+pipe_plan place (Ok (told, hint)) = Ok (record {
+  doings = ToPipe place told ∷ [];
+  hints = hints_for (target.Pipe place) hint;
+})
 
 unfoldable pub plan_at_pipe : (PipeState → PipeStep) → ℕ → Option PipeState → Planned
 plan_at_pipe step place None = Err WrongKind

@@ -29,7 +29,10 @@ socket_at _ o = Err WrongKind
 -- what one step at a socket comes to
 unfoldable pub socket_plan : ℕ → SocketStep → Planned
 socket_plan place (Err why) = Err why
-socket_plan place (Ok (told, hint)) = Ok (record { doings = ToSocket place told ∷ []; hints = hints_for (target.Socket place) hint })
+socket_plan place (Ok (told, hint)) = Ok (record {
+  doings = ToSocket place told ∷ [];
+  hints = hints_for (target.Socket place) hint;
+})
 
 unfoldable pub step_of : (SocketState → SocketStep) → Result (ℕ × SocketState) Why → Planned
 step_of step (Err why) = Err why

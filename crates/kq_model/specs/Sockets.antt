@@ -188,4 +188,6 @@ socket_space s = pos s.send_buffer -ℤ s.unsent
 unfoldable pub socket_view : SocketState → View
 socket_view s =
     if s.listening then view.Listen s.pending
-    else view.Sock s.readable (pos s.read_mark) s.read_shut s.read_error s.connected (socket_space s) (pos s.write_mark) s.write_shut s.write_error
+    else view.Sock
+    s.readable (pos s.read_mark) s.read_shut s.read_error s.connected
+    (socket_space s) (pos s.write_mark) s.write_shut s.write_error

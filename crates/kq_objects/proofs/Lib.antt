@@ -1,0 +1,5 @@
+pub mod Making
+pub mod Ready
+pub mod Notes
+pub mod Releasing
+pub mod Counted

@@ -1,0 +1,6 @@
+pub mod Fits
+pub mod Kept
+pub mod Descriptions
+pub mod Files
+pub mod Objects
+pub mod Holding

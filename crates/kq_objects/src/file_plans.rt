@@ -1,0 +1,176 @@
+// The plans of the records about files by their numbers.
+ghost use Rattle.std.specs.Prelude.{◌≡◌, ◌≤◌, ◌∷◌, [], ◌++◌, None, Some, IfOk, IfSome};
+ghost use Rattle.std.specs.Option.{option_map, option_copied};
+ghost use Rattle.kq_model.specs.FilePlans.{file_amount, noted, readable_each, extending, plan_file, present, plan_open, plan_truncate, sized, plan_note, deletion};
+ghost use Rattle.kq_model.specs.Limits.{most_file_size};
+ghost use Rattle.kq_model.specs.NoteBits.{bit_of};
+ghost use Rattle.kq_objects.specs.Descriptions.{description_at};
+ghost use Rattle.kq_objects.specs.Files.{file_at};
+ghost use Rattle.kq_objects.specs.Kept.{FileKept};
+ghost use Rattle.kq_objects.specs.Objects.{objects_of, IsPlanned, IsReady};
+
+use crate::file::File;
+use crate::note_bits::{NOTE_ATTRIB, NOTE_EXTEND, NOTE_OPEN, bit_of};
+use crate::objects::Objects;
+use crate::{Plan, PlanError};
+use kq_model::{DescriptionRecord, Doing, FileRecord, Hint, Memory, Mode, Note, Target, Why};
+use std::alloc::Global;
+
+/// The greatest size of a file, and the greatest offset, in bytes.
+pub const MOST_FILE_SIZE: u64 = 1 << 61;
+
+/// A size or an offset, if it is within the limits.
+#[tactic(auto, unfolding(kq_model::specs::FilePlans::file_amount))]
+pub fn file_amount(amount: i64) -> Option<u64>
+    ensures exact { result ≡ file_amount amount }
+    ensures within { IfSome result (λ n. n ≤ most_file_size) }
+{
+    if amount < 0 {
+        return None;
+    }
+    let amount = amount as u64;
+    if amount <= MOST_FILE_SIZE {
+        Some(amount)
+    } else {
+        None
+    }
+}
+
+#[tactic(auto, unfolding(kq_model::specs::FilePlans::noted))]
+pub fn noted(number: u32, bits: u32) -> (Target, Hint)
+    ensures { result ≡ noted number bits }
+{
+    (Target::File(number), Hint::Note(bits))
+}
+
+/// The bits, with EXTEND where the file grows.
+#[tactic(auto, unfolding(kq_model::specs::FilePlans::extending))]
+pub fn extending(bits: u32, grows: bool) -> u32
+    requires { bits ≤ 1024 }
+    ensures { result ≡ extending bits grows }
+{
+    if grows { bits + NOTE_EXTEND } else { bits }
+}
+
+/// Each of these open descriptions is readable, and then one hint more.
+pub fn hints_to(
+    alloc: Global,
+    descriptions: &[u64],
+    last: (Target, Hint),
+) -> Result<Vec<(Target, Hint)>, Memory>
+    ensures { IfOk result (λ hints. hints.items ≡ readable_each descriptions.now ++ last ∷ []) }
+{
+    let mut hints = Vec::new(alloc);
+    for place in descriptions {
+        hints
+            .push((Target::Open(*place), Hint::Readable))
+            .map_err(|_| Memory)?;
+    }
+    hints.push(last).map_err(|_| Memory)?;
+    Ok(hints)
+}
+
+/// What is noted of a file: a deletion, and of all else nothing.
+#[tactic(auto, unfolding(kq_model::specs::FilePlans::deletion))]
+fn deletion(alloc: Global, number: u32, note: Note) -> Result<Vec<Doing>, Memory>
+    ensures { IfOk result (λ doings. doings.items ≡ deletion number note) }
+{
+    match note {
+        Note::Delete => {
+            let told = FileRecord::Deleted;
+            vec![in alloc; Doing::ToFile { file: number, told }].map_err(|_| Memory)
+        }
+        Note::Attrib | Note::Link | Note::Rename | Note::Revoke => Ok(Vec::new(alloc)),
+    }
+}
+
+impl Objects {
+    #[tactic(auto, unfolding(kq_model::specs::FilePlans::plan_file, kq_model::specs::FilePlans::made_file, kq_model::specs::ObjectPlan::hints_for))]
+    pub(crate) fn plan_file(&mut self, number: u32, size: i64) -> Result<Plan, PlanError>
+        ensures same { objects_of self.new ≡ objects_of self.old }
+        ensures plan { IsPlanned result (plan_file number size (objects_of self.old)) }
+        ensures ready { IfOk result (λ p. IsReady p.doings self.new) }
+    {
+        if self.files.get(number).is_some() {
+            return Err(PlanError::Why(Why::UsedFile));
+        }
+        let Some(size) = file_amount(size) else {
+            return Err(PlanError::Why(Why::TooMany));
+        };
+        self.files.reserve()?;
+        let told = FileRecord::Made { size };
+        let doing = Doing::ToFile { file: number, told };
+        Ok(Plan::of_one(self.alloc, doing, Target::File(number), None)?)
+    }
+
+    /// A file that is there and not deleted.
+    #[tactic(auto, unfolding(kq_model::specs::FilePlans::present))]
+    fn present(&self, number: u32) -> Option<&File>
+        ensures exact { option_map (λ (kept : FileKept). kept.state) (option_copied result)
+            ≡ present (file_at self.now.files number) }
+        ensures there { IfSome result (λ kept. file_at self.now.files number ≡ Some kept.now.state) }
+    {
+        let file = self.files.get(number)?;
+        if file.is_deleted() { None } else { Some(file) }
+    }
+
+    #[tactic(auto, unfolding(kq_model::specs::FilePlans::plan_open, kq_model::specs::FilePlans::opened))]
+    pub(crate) fn plan_open(
+        &mut self,
+        place: u64,
+        number: u32,
+        mode: Mode,
+    ) -> Result<Plan, PlanError>
+        requires { description_at self.old.descriptions place ≡ None }
+        ensures same { objects_of self.new ≡ objects_of self.old }
+        ensures plan { IsPlanned result (plan_open place number mode (objects_of self.old)) }
+        ensures ready { IfOk result (λ p. IsReady p.doings self.new) }
+    {
+        let Some(_present) = self.present(number) else {
+            return Err(PlanError::Why(Why::Absent));
+        };
+        self.descriptions.reserve()?;
+        self.files.reserve_on(number)?;
+        let opened = Doing::ToDescription {
+            place,
+            told: DescriptionRecord::Opened { file: number, mode },
+        };
+        let listed = Doing::ToFile {
+            file: number,
+            told: FileRecord::Opened { description: place },
+        };
+        let hint = noted(number, NOTE_OPEN);
+        Ok(Plan::of_two(self.alloc, opened, listed, hint)?)
+    }
+
+    #[tactic(auto, unfolding(kq_model::specs::FilePlans::plan_truncate, kq_model::specs::FilePlans::truncated, kq_model::specs::FilePlans::sized))]
+    pub(crate) fn plan_truncate(&self, number: u32, size: i64) -> Result<Plan, PlanError>
+        ensures plan { IsPlanned result (plan_truncate number size (objects_of self.now)) }
+        ensures ready { IfOk result (λ p. IsReady p.doings self.now) }
+    {
+        let Some(file) = self.present(number) else {
+            return Err(PlanError::Why(Why::Absent));
+        };
+        let Some(size) = file_amount(size) else {
+            return Err(PlanError::Why(Why::TooMany));
+        };
+        let last = noted(number, extending(NOTE_ATTRIB, file.size() < size));
+        let hints = hints_to(self.alloc, file.descriptions(), last)?;
+        let told = FileRecord::Sized { size };
+        let doings = vec![in self.alloc; Doing::ToFile { file: number, told }].map_err(|_| Memory)?;
+        Ok(Plan::of(doings, hints))
+    }
+
+    #[tactic(auto, unfolding(kq_model::specs::FilePlans::plan_note, kq_model::specs::FilePlans::said))]
+    pub(crate) fn plan_note(&self, number: u32, note: Note) -> Result<Plan, PlanError>
+        ensures plan { IsPlanned result (plan_note number note (objects_of self.now)) }
+        ensures ready { IfOk result (λ p. IsReady p.doings self.now) }
+    {
+        let Some(_present) = self.present(number) else {
+            return Err(PlanError::Why(Why::Absent));
+        };
+        let doings = deletion(self.alloc, number, note)?;
+        let hints = vec![in self.alloc; noted(number, bit_of(note))].map_err(|_| Memory)?;
+        Ok(Plan::of(doings, hints))
+    }
+}

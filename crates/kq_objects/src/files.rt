@@ -1,0 +1,86 @@
+ghost use Rattle.std.specs.Prelude.{◌≡◌, ℕ, nat_eq, true, ◌+◌, ◌<◌, ◌≤◌, None, OnOk, IfSome};
+ghost use Rattle.std.specs.HashMap.{get, spare};
+ghost use Rattle.std.specs.Option.{option_copied};
+ghost use Rattle.kq_model.specs.Objects.{counted, told_at};
+ghost use Rattle.kq_objects.specs.Files.{file_at, room_on};
+ghost use Rattle.kq_objects.specs.Fits.{FitsFileAt, made_file, opened_at, opened_on};
+
+use crate::file::File;
+use kq_model::{FileRecord, Memory};
+use std::alloc::Global;
+use std::collections::HashMap;
+
+/// The files that ever were, by their numbers.
+#[derive(Drop)]
+pub struct Files {
+    table: HashMap<u32, File>,
+    alloc: Global,
+}
+
+impl Files {
+    pub fn new(alloc: Global) -> Self
+        ensures { (q : ℕ) → file_at result q ≡ None }
+    {
+        Files {
+            table: HashMap::new(alloc),
+            alloc,
+        }
+    }
+
+    /// Makes room for one more.
+    pub fn reserve(&mut self) -> Result<(), Memory>
+        ensures same { (q : ℕ) → file_at self.new q ≡ file_at self.old q }
+        ensures room { OnOk result (0 < spare self.new.table) }
+    {
+        self.table.reserve(1).map_err(|_| Memory)
+    }
+
+    /// Makes room for one more open description of a file.
+    pub fn reserve_on(&mut self, number: u32) -> Result<(), Memory>
+        ensures same { (q : ℕ) → file_at self.new q ≡ file_at self.old q }
+        ensures room { OnOk result (IfSome (file_at self.new number) (λ _. 1 ≤ room_on number self.new)) }
+    {
+        match self.table.get_mut(&number) {
+            Some(file) => file.reserve(),
+            None => Ok(()),
+        }
+    }
+
+    pub fn get(&self, number: u32) -> Option<&File>
+        ensures { option_copied result ≡ get nat_eq self.now.table number }
+    {
+        self.table.get(&number)
+    }
+
+    /// Notes one more record of a file, which is there from its first record on.
+    pub fn tell(&mut self, number: u32, told: FileRecord)
+        requires fits { FitsFileAt told (file_at self.old number) }
+        requires room { made_file told ≤ spare self.old.table }
+        requires room_on { opened_on told ≤ room_on number self.old }
+        ensures done { (q : ℕ) → file_at self.new q
+            ≡ told_at counted.files (λ _. true) number told (file_at self.old) q }
+        ensures room { spare self.old.table ≤ spare self.new.table + made_file told }
+        ensures room_on { (q : ℕ) → room_on q self.old ≤ room_on q self.new + opened_at q number told }
+    {
+        let Some(file) = self.table.get_mut(&number) else {
+            self.make(number, told);
+            return;
+        };
+        file.tell(told);
+    }
+
+    /// Notes the first record of a file.
+    fn make(&mut self, number: u32, told: FileRecord)
+        requires absent { get nat_eq self.old.table number ≡ None }
+        requires fits { FitsFileAt told None }
+        requires room { made_file told ≤ spare self.old.table }
+        ensures done { (q : ℕ) → file_at self.new q
+            ≡ told_at counted.files (λ _. true) number told (file_at self.old) q }
+        ensures room { spare self.old.table ≤ spare self.new.table + made_file told }
+        ensures room_on { (q : ℕ) → room_on q self.old ≤ room_on q self.new + opened_at q number told }
+    {
+        let mut file = File::unmade(self.alloc);
+        file.tell(told);
+        let _ = self.table.insert(number, file);
+    }
+}

@@ -1,0 +1,28 @@
+//! Sockets, pipes, files and open file descriptions: what a record does to them, and what they show.
+#![tactic(auto)]
+
+mod carrying;
+mod description;
+mod description_plans;
+mod descriptions;
+mod error;
+mod file;
+mod file_plans;
+mod files;
+mod holding;
+mod note_bits;
+mod objects;
+mod pipe;
+mod pipe_plans;
+mod pipe_steps;
+mod pipes;
+mod plan;
+mod planning;
+mod socket;
+mod socket_plans;
+mod socket_steps;
+mod sockets;
+
+pub use error::PlanError;
+pub use objects::Objects;
+pub use plan::Plan;

@@ -1,0 +1,68 @@
+// The plans of the records about pipes.
+ghost use Rattle.std.specs.Prelude.{◌≡◌, nat_eq, None, Some, IfOk};
+ghost use Rattle.std.specs.HashMap.{get};
+ghost use Rattle.std.specs.Result.{ForOk};
+ghost use Rattle.kq_model.specs.PipePlans.{plan_pipe, pipe_plan, plan_at_pipe};
+ghost use Rattle.kq_model.specs.PipeSteps.{read_pipe, write_pipe};
+ghost use Rattle.kq_objects.specs.Fits.{IsPipeNote};
+ghost use Rattle.kq_objects.specs.Objects.{objects_of, IsPlanned, IsReady};
+
+use crate::objects::Objects;
+use crate::pipe_steps::PipeStep;
+use crate::socket_steps::is_capacity;
+use crate::{Plan, PlanError};
+use kq_model::{Doing, PipeRecord, Target, Why};
+
+impl Objects {
+    #[tactic(auto, unfolding(kq_model::specs::PipePlans::plan_pipe, kq_model::specs::ObjectPlan::hints_for))]
+    pub(crate) fn plan_pipe(&mut self, place: u64, cap: u32) -> Result<Plan, PlanError>
+        requires { get nat_eq self.old.pipes.table place ≡ None }
+        ensures same { objects_of self.new ≡ objects_of self.old }
+        ensures plan { IsPlanned result (plan_pipe place cap) }
+        ensures ready { IfOk result (λ p. IsReady p.doings self.new) }
+    {
+        if !is_capacity(cap) {
+            return Err(PlanError::Why(Why::TooMany));
+        }
+        self.pipes.reserve()?;
+        let doing = Doing::ToPipe {
+            place,
+            told: PipeRecord::Made { cap },
+        };
+        Ok(Plan::of_one(self.alloc, doing, Target::Pipe(place), None)?)
+    }
+
+    /// The plan of one step at a pipe.
+    #[tactic(auto, unfolding(kq_model::specs::PipePlans::pipe_plan))]
+    fn note_pipe(&self, place: u64, step: PipeStep) -> Result<Plan, PlanError>
+        requires { ForOk step (λ s. IsPipeNote s.0 (get nat_eq self.now.pipes.table place)) }
+        ensures plan { IsPlanned result (pipe_plan place step) }
+        ensures ready { IfOk result (λ p. IsReady p.doings self.now) }
+    {
+        let (told, hint) = step?;
+        let doing = Doing::ToPipe { place, told };
+        Ok(Plan::of_one(self.alloc, doing, Target::Pipe(place), hint)?)
+    }
+
+    #[tactic(auto, unfolding(kq_model::specs::PipePlans::plan_at_pipe))]
+    pub(crate) fn read_pipe(&self, place: u64, bytes: u32) -> Result<Plan, PlanError>
+        ensures plan { IsPlanned result (plan_at_pipe (read_pipe bytes) place (get nat_eq self.now.pipes.table place)) }
+        ensures ready { IfOk result (λ p. IsReady p.doings self.now) }
+    {
+        match self.pipes.get(place) {
+            Some(pipe) => self.note_pipe(place, pipe.read(bytes)),
+            None => Err(PlanError::Why(Why::WrongKind)),
+        }
+    }
+
+    #[tactic(auto, unfolding(kq_model::specs::PipePlans::plan_at_pipe))]
+    pub(crate) fn write_pipe(&self, place: u64, bytes: u32) -> Result<Plan, PlanError>
+        ensures plan { IsPlanned result (plan_at_pipe (write_pipe bytes) place (get nat_eq self.now.pipes.table place)) }
+        ensures ready { IfOk result (λ p. IsReady p.doings self.now) }
+    {
+        match self.pipes.get(place) {
+            Some(pipe) => self.note_pipe(place, pipe.write(bytes)),
+            None => Err(PlanError::Why(Why::WrongKind)),
+        }
+    }
+}
