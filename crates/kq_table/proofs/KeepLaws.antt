@@ -1,8 +1,9 @@
 -- Rows stay told apart by their keys when one is attached, replaced or taken out.
-use Rattle.std.proofs.Common.{◌≡◌, Bool, false, cond, not, List, [], ◌∷◌, ◌++◌, length, suc, Some, None, sym, ap, ◌∙◌, refl}
+use Rattle.std.proofs.Common.{◌≡◌, Bool, false, cond, not, List, [], ◌∷◌, ◌++◌, length, suc, Some, None, sym, ap, ◌∙◌, refl, ◌+◌, arith}
+use Rattle.std.proofs.lemmas.Option.{none-some}
 use Rattle.std.specs.Cmp.{IsEquivalence}
 use Rattle.kq_table.specs.Rows.{find_row, with_row, without_row, HaveOwnKeys}
-use Rattle.kq_table.proofs.RowLaws.{by_test, found_or, find_row-none, find_row-later, find_row-head, find_row-tail, find_row-append, find_row-same}
+use Rattle.kq_table.proofs.RowLaws.{by_test, found_at, find_row-cons, found_or, find_row-none, find_row-later, find_row-head, find_row-tail, find_row-append, find_row-same}
 
 module _ {K T : Type 0} (same : K → K → Bool) (key_of : T → K) (laws : IsEquivalence same) where
   abbrev put : T → T → Bool → T
@@ -90,3 +91,12 @@ module _ {K T : Type 0} (same : K → K → Bool) (key_of : T → K) (laws : IsE
   pub without_row-head : (x : T) (rows : List T) → HaveOwnKeys same key_of (x ∷ rows) → without_row same key_of (key_of x) (x ∷ rows) ≡ rows
   without_row-head x rows own =
       ap (kept x (without_row same key_of (key_of x) rows)) (laws.refl (key_of x)) ∙ without_row-absent (key_of x) rows own.0
+
+  -- the row that is taken out is one
+  pub length-without_row : (gone : K) (rows : List T) (row : T) → HaveOwnKeys same key_of rows → find_row same key_of gone rows ≡ Some row → length (without_row same key_of gone rows) + 1 ≡ length rows
+  length-without_row gone [] row own found = absurd (none-some row (sym (find_row-none same key_of gone) ∙ found))
+  length-without_row gone (x ∷ rows) row own found =
+      by_test (λ b. same gone (key_of x) ≡ b → found_at same key_of gone x rows b ≡ Some row → length (kept x (without_row same key_of gone rows) b) + 1 ≡ length (x ∷ rows)) (same gone (key_of x))
+      (λ _ is _. let whole = ap length (without_row-absent gone rows (find_row-same same key_of laws gone (key_of x) rows is ∙ own.0)) in omega arith)
+      (λ _ _ e. let rest = length-without_row gone rows row own.1 e in omega arith)
+      refl (sym (find_row-cons same key_of gone x rows) ∙ found)

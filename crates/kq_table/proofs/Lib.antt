@@ -8,3 +8,4 @@ pub mod ChainLaws
 pub mod WovenLaws
 pub mod WatchLaws
 pub mod EndLaws
+pub mod CountLaws

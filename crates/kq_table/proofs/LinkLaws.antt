@@ -1,5 +1,5 @@
 -- Changing the link of one key: which keys, targets and ends stay, and that the table's call does it.
-use Rattle.std.proofs.Common.{◌≡◌, Bool, true, false, cond, List, [], ◌∷◌, ◌++◌, map, Option, Some, None, refl, sym, ap, ◌∙◌}
+use Rattle.std.proofs.Common.{◌≡◌, Bool, true, false, cond, List, [], ◌∷◌, ◌++◌, map, length, suc, Option, Some, None, refl, sym, ap, ◌∙◌}
 use Rattle.std.proofs.lemmas.Option.{same_Some}
 use Rattle.std.specs.Cmp.{IsEquivalence}
 use Rattle.kq_table.specs.declared.watch.Watch.{Watch}
@@ -14,6 +14,10 @@ use Rattle.kq_table.proofs.FoundLaws.{filter-map}
 pub map-none : {T : Type 0} (f : T → T) → ((x : T) → f x ≡ x) → (rows : List T) → map f rows ≡ rows
 map-none f stays [] = refl
 map-none f stays (x ∷ rows) = ap (λ y. y ∷ map f rows) (stays x) ∙ ap (λ rest. x ∷ rest) (map-none f stays rows)
+
+pub length-map : {A B : Type 0} (f : A → B) (rows : List A) → length (map f rows) ≡ length rows
+length-map f [] = refl
+length-map f (x ∷ rows) = ap suc (length-map f rows)
 
 module _ {K G : Type 0} where
   pub first_key-map : (f : Link K G → Link K G) → ((l : Link K G) → (f l).key ≡ l.key) → (links : List (Link K G)) → first_key (map f links) ≡ first_key links

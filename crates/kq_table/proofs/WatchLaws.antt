@@ -40,6 +40,7 @@ module _ {K G : Type 0} (same : K → K → Bool) (alike : G → G → Bool) whe
       (subst (λ (es : List (Ends K G)). IsWoven same alike [] es) (sym no_ends)
       (record {
         own_keys = tt;
+        own_ends = tt;
         linked = λ target. tt;
         ended = λ target. subst (λ o. AreEnds o []) (sym (find_row-none alike (λ (e : Ends K G). e.target) target)) refl;
       }))

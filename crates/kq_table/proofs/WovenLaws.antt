@@ -87,7 +87,7 @@ module _ {K G : Type 0} (same : K → K → Bool) (laws : IsEquivalence same) (a
           elsewhere links t s ends.last found.0 own (ap (find_row same key_of ends.last) is ∙ found.1) other
 
   module _ (links : List (Link K G)) (ends more : List (Ends K G)) (t : G) (new : Link K G) (is : IsWoven same alike links ends) (absent : find_row same key_of new.key links ≡ None)
-      (target : new.target ≡ t) (before : new.before ≡ last_of (find_row alike target_of t ends)) (after : new.after ≡ None)
+      (own_more : HaveOwnKeys alike target_of more) (target : new.target ≡ t) (before : new.before ≡ last_of (find_row alike target_of t ends)) (after : new.after ≡ None)
       (ended : (s : G) → find_row alike target_of s more ≡ cond (alike t s) (Some (joined t new.key (find_row alike target_of t ends))) (find_row alike target_of s ends)) where
     abbrev at_t : Option (Ends K G)
     at_t = find_row alike target_of t ends
@@ -125,6 +125,7 @@ module _ {K G : Type 0} (same : K → K → Bool) (laws : IsEquivalence same) (a
     IsWoven-attach = record {
       own_keys = HaveOwnKeys-append same key_of laws (with_after same last (Some new.key) links) new
           (HaveOwnKeys-map same key_of laws mark mark_keeps links is.own_keys) (find_row-map_none same key_of laws mark mark_keeps new.key links absent);
+      own_ends = own_more;
       linked = λ s. by_test (λ b. alike s t ≡ b → AreLinked None (of_target alike s (with_after same last (Some new.key) links ++ new ∷ []))) (alike s t)
           (λ _ e. subst (λ ls. AreLinked None ls) (sym (here s e)) (both s e).0)
           (λ _ e. subst (λ ls. AreLinked None ls) (sym (away s e)) (is.linked s)) refl;
@@ -168,7 +169,7 @@ module _ {K G : Type 0} (same : K → K → Bool) (laws : IsEquivalence same) (a
       of_cases (Some b) (Some a) before_is after_is (inr front) (inl behind) = absurd (none-some a (sym behind.0 ∙ after_is))
 
   module _ (links : List (Link K G)) (ends fewer : List (Ends K G)) (key : K) (l : Link K G) (is : IsWoven same alike links ends) (found : find_row same key_of key links ≡ Some l)
-      (ended : (s : G) → find_row alike target_of s fewer ≡ cond (alike l.target s) (left l.before l.after (find_row alike target_of l.target ends)) (find_row alike target_of s ends)) where
+      (own_fewer : HaveOwnKeys alike target_of fewer) (ended : (s : G) → find_row alike target_of s fewer ≡ cond (alike l.target s) (left l.before l.after (find_row alike target_of l.target ends)) (find_row alike target_of s ends)) where
     abbrev rest : List (Link K G)
     rest = without_row same key_of key links
 
@@ -220,6 +221,7 @@ module _ {K G : Type 0} (same : K → K → Bool) (laws : IsEquivalence same) (a
     IsWoven-remove = record {
       own_keys = HaveOwnKeys-map same key_of laws (marked same l.after set_before) (marked-key same laws set_before (λ _. refl) l.after) (with_after same l.before l.after rest)
           (HaveOwnKeys-map same key_of laws (marked same l.before set_after) (marked-key same laws set_after (λ _. refl) l.before) rest (HaveOwnKeys-without same key_of laws key links is.own_keys));
+      own_ends = own_fewer;
       linked = λ s. by_test (λ b. alike s l.target ≡ b → AreLinked None (of_target alike s (mended same laws l.before l.after rest))) (alike s l.target)
           (λ _ e. subst (λ ls. AreLinked None ls) (sym (split_left s)) (AreLinked-mended same laws None (of_target alike s links) key l (own s) (is.linked s) tt (in_target s e)))
           (λ _ e. subst (λ ls. AreLinked None ls) (sym (split_left s ∙ all_away s e)) (is.linked s)) refl;

@@ -1,11 +1,11 @@
 -- Which keys watch which targets: what contracts see of it, and how it is kept. The watches of one target are
 -- linked in their order, each with the one before it and the one behind it. `same` tells whether two keys are one,
 -- and `alike` whether two targets are.
-use Rattle.std.specs.Prelude.{◌≡◌, ℕ, Bool, List, [], ◌∷◌, map, filter, Option, Some, None, if◌then◌else◌}
+use Rattle.std.specs.Prelude.{◌≡◌, ◌≤◌, ◌+◌, ℕ, Bool, List, [], ◌∷◌, map, filter, length, Option, Some, None, if◌then◌else◌}
 use Rattle.kq_table.specs.declared.watch.Watch.{Watch}
 use Rattle.kq_table.specs.declared.watch.Link.{Link}
 use Rattle.kq_table.specs.declared.watch.Ends.{Ends}
-use Rattle.kq_table.specs.Rows.{find_row, HaveOwnKeys}
+use Rattle.kq_table.specs.Rows.{Tabled, find_row, HaveOwnKeys}
 
 -- what contracts see of an index
 pub record Watched (K G : Type 0) : Type 0 where
@@ -35,6 +35,10 @@ module _ {K G : Type 0} where
   last_key before [] = before
   last_key before (l ∷ links) = last_key (Some l.key) links
 
+  -- the ends of this target
+  abbrev pub ends_at : (G → G → Bool) → G → List (Ends K G) → Option (Ends K G)
+  ends_at alike target ends = find_row alike (λ (e : Ends K G). e.target) target ends
+
   -- each is linked with the one before it and the one behind it
   abbrev pub AreLinked : Option K → List (Link K G) → Type 0
   AreLinked before [] = Unit {0}
@@ -45,10 +49,19 @@ module _ {K G : Type 0} where
   AreEnds None links = links ≡ []
   AreEnds (Some ends) links = (first_key links ≡ Some ends.first) × (last_key None links ≡ Some ends.last)
 
-  pub record IsWoven (same : K → K → Bool) (alike : G → G → Bool) (links : List (Link K G)) (ends : List (Ends K G)) : Type 0 where
+  -- keys differ, and the watches of each target are linked in their order
+  pub record IsWoven (same : K → K → Bool) (alike : G → G → Bool)
+      (links : List (Link K G)) (ends : List (Ends K G)) : Type 0 where
     pub own_keys : HaveOwnKeys same (λ (l : Link K G). l.key) links
+    pub own_ends : HaveOwnKeys alike (λ (e : Ends K G). e.target) ends
     pub linked : (target : G) → AreLinked None (of_target alike target links)
-    pub ended : (target : G) → AreEnds (find_row alike (λ (e : Ends K G). e.target) target ends) (of_target alike target links)
+    pub ended : (target : G) → AreEnds (ends_at alike target ends) (of_target alike target links)
+
+  -- What an index keeps: the ends of as many targets fit as watches do.
+  pub record IsIndex (same : K → K → Bool) (alike : G → G → Bool)
+      (links : Tabled (Link K G)) (ends : Tabled (Ends K G)) : Type 0 where
+    pub woven : IsWoven same alike links.rows ends.rows
+    pub fits : length links.rows + links.room ≤ length ends.rows + ends.room
 
   -- ---- what is written
 

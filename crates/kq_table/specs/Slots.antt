@@ -28,7 +28,8 @@ module _ {K T : Type 0} (same : K → K → Bool) (key_of : T → K) where
     pub places : (key : K) (slot : ℕ) (row : T) → StandsIn key slots slot row → get same index key ≡ Some (base + slot)
 
   -- What a table keeps: how many rows stand, and that up to `limit` rows can be attached without memory.
-  pub record IsKept {S : Type 0} (slots : List (Option T)) (slot_room base : ℕ) (index : HashMap K ℕ S) (count limit : ℕ) : Type 0 where
+  pub record IsKept {S : Type 0} (slots : List (Option T)) (slot_room base : ℕ)
+      (index : HashMap K ℕ S) (count limit : ℕ) : Type 0 where
     pub indexed : IsIndexed slots base index
     pub counted : length (standing slots) ≡ count
     pub within : count ≤ limit

@@ -34,7 +34,8 @@ impl<T: Keyed> Model for Table<T> {
 
     ghost view = { λ t. record { rows = standing t.slots.items; room = t.limit - length (standing t.slots.items) } };
 
-    ghost invariant = { λ t. IsKept T.Key.eq T.key_of t.slots.items (deque_capacity t.slots) t.base t.index t.count t.limit };
+    ghost invariant = { λ t.
+        IsKept T.Key.eq T.key_of t.slots.items (deque_capacity t.slots) t.base t.index t.count t.limit };
 }
 
 impl<T: Keyed> Table<T> {
@@ -181,7 +182,9 @@ impl<T: Keyed> Table<T> {
 
     /// Takes out the first row. It gives its room back.
     pub fn pop_front(&mut self) -> Option<T>
-        ensures rows { MatchOption result ((self.old.rows ≡ []) × (self.new.rows ≡ [])) (λ row. self.old.rows ≡ row ∷ self.new.rows) }
+        ensures rows { MatchOption result
+            ((self.old.rows ≡ []) × (self.new.rows ≡ []))
+            (λ row. self.old.rows ≡ row ∷ self.new.rows) }
         ensures room { MatchOption result (self.new.room ≡ self.old.room) (λ _. self.new.room ≡ self.old.room + 1) }
     {
         let Some(row) = self.first() else {

@@ -1,8 +1,8 @@
-ghost use Rattle.std.specs.Prelude.{◌≡◌, ◌<◌, ◌≤◌, ◌+◌, ◌++◌, ◌∷◌, ℕ, [], None, Some, OnOk, OnErr, MatchOption, length, slice_get, if◌then◌else◌};
+ghost use Rattle.std.specs.Prelude.{◌≡◌, ◌<◌, ◌≤◌, ◌+◌, ◌++◌, ◌∷◌, ℕ, [], None, Some, OnOk, OnErr, MatchOption, length, max, slice_get, if◌then◌else◌};
 ghost use Rattle.std.specs.Option.{option_map};
 ghost use Rattle.std.specs.Vec.{vec_len, vec_capacity};
 ghost use Rattle.kq_table.specs.Rows.{find_row, row_after, without_row, HaveOwnKeys};
-ghost use Rattle.kq_table.specs.Links.{keys_watching, joined, left, with_after, with_before};
+ghost use Rattle.kq_table.specs.Links.{ends_at, keys_watching, joined, left, with_after, with_before};
 
 use crate::watch::{Ends, Link, Watch};
 use crate::{Keyed, Table};
@@ -21,14 +21,14 @@ pub struct TargetIndex<K: Copy + Eq + Hash, G: Copy + Eq + Hash> {
 }
 
 impl<K: Copy + Eq + Hash, G: Copy + Eq + Hash> Model for TargetIndex<K, G> {
-    ghost use Rattle.std.specs.Prelude.{min, map};
-    ghost use Rattle.kq_table.specs.Links.{Watched, IsWoven, watch_of};
+    ghost use Rattle.std.specs.Prelude.{map};
+    ghost use Rattle.kq_table.specs.Links.{Watched, IsIndex, watch_of};
 
     ghost Value = { Watched K G };
 
-    ghost view = { λ i. record { watches = map watch_of i.links.rows; room = min i.links.room i.ends.room } };
+    ghost view = { λ i. record { watches = map watch_of i.links.rows; room = i.links.room } };
 
-    ghost invariant = { λ i. IsWoven K.eq G.eq i.links.rows i.ends.rows };
+    ghost invariant = { λ i. IsIndex K.eq G.eq i.links i.ends };
 }
 
 impl<K: Copy + Eq + Hash, G: Copy + Eq + Hash> TargetIndex<K, G> {
@@ -43,23 +43,26 @@ impl<K: Copy + Eq + Hash, G: Copy + Eq + Hash> TargetIndex<K, G> {
         }
     }
 
-    pub fn len(&self) -> usize
-        ensures { result ≡ length self.now.watches }
-    {
-        self.links.len()
-    }
-
-    /// Makes the room at least `more`; changes nothing else. It is the one call that takes memory.
+    /// Makes the room at least `more`. It is the one call that takes memory; after `Memory` nothing
+    /// has changed.
     pub fn reserve(&mut self, more: usize) -> Result<(), Memory>
         ensures watches { self.new.watches ≡ self.old.watches }
-        ensures room { OnOk result (more ≤ self.new.room) }
-        ensures kept { self.old.room ≤ self.new.room }
+        ensures room { OnOk result (self.new.room ≡ max self.old.room more) }
+        ensures err { OnErr result (self.new.room ≡ self.old.room) }
 
         // Memory comes only where the room was missing.
         ensures missing { OnErr result (self.old.room < more) }
     {
-        self.links.reserve(more)?;
-        self.ends.reserve(more)
+        if more <= self.links.room() {
+            return Ok(());
+        }
+        // Each further watch may be of a target of its own.
+        let shared = self.links.len() - self.ends.len();
+        let Some(targets) = shared.checked_add(more) else {
+            return Err(Memory);
+        };
+        self.ends.reserve(targets)?;
+        self.links.reserve(more)
     }
 
     /// The first key that watches a target.
@@ -91,7 +94,7 @@ impl<K: Copy + Eq + Hash, G: Copy + Eq + Hash> TargetIndex<K, G> {
         requires room { 0 < self.old.room }
         requires absent { find_row K.eq (λ w. w.key) watch.key self.old.watches ≡ None }
         ensures watches { self.new.watches ≡ self.old.watches ++ watch ∷ [] }
-        ensures room { self.old.room ≤ self.new.room + 1 }
+        ensures room { self.new.room + 1 ≡ self.old.room }
     {
         let before = put_last(&mut self.ends, watch.target, watch.key);
         set_after(&mut self.links, before, Some(watch.key));
@@ -103,16 +106,22 @@ impl<K: Copy + Eq + Hash, G: Copy + Eq + Hash> TargetIndex<K, G> {
         });
     }
 
-    /// Takes out the watch of a key, where there is one.
-    pub fn remove(&mut self, key: K)
+    /// Takes out the watch of a key, where there is one. It gives its room back.
+    pub fn remove(&mut self, key: K) -> Option<Watch<K, G>>
+        ensures removed { result ≡ find_row K.eq (λ w. w.key) key self.old.watches }
         ensures watches { self.new.watches ≡ without_row K.eq (λ w. w.key) key self.old.watches }
-        ensures room { self.old.room ≤ self.new.room }
+        ensures room { MatchOption result (self.new.room ≡ self.old.room) (λ _. self.new.room ≡ self.old.room + 1) }
     {
-        if let Some(link) = self.links.remove(key) {
-            set_after(&mut self.links, link.before, link.after);
-            set_before(&mut self.links, link.after, link.before);
-            leave(&mut self.ends, link.target, link.before, link.after);
-        }
+        let Some(link) = self.links.remove(key) else {
+            return None;
+        };
+        set_after(&mut self.links, link.before, link.after);
+        set_before(&mut self.links, link.after, link.before);
+        leave(&mut self.ends, link.target, link.before, link.after);
+        Some(Watch {
+            key: link.key,
+            target: link.target,
+        })
     }
 }
 
@@ -168,11 +177,15 @@ fn put_last<K: Copy, G: Copy + Eq + Hash>(
     target: G,
     key: K,
 ) -> Option<K>
-    requires { 0 < ends.old.room }
-    ensures last { result ≡ option_map (λ e. e.last) (find_row G.eq (λ e. e.target) target ends.old.rows) }
-    ensures ends { (other : G) → find_row G.eq (λ e. e.target) other ends.new.rows
-        ≡ (if G.eq target other then Some (joined target key (find_row G.eq (λ e. e.target) target ends.old.rows)) else find_row G.eq (λ e. e.target) other ends.old.rows) }
-    ensures room { ends.old.room ≤ ends.new.room + 1 }
+    requires room { 0 < ends.old.room }
+    requires own_keys { HaveOwnKeys G.eq (λ e. e.target) ends.old.rows }
+    ensures last { result ≡ option_map (λ e. e.last) (ends_at G.eq target ends.old.rows) }
+    ensures ends { (other : G) → ends_at G.eq other ends.new.rows
+        ≡ (if G.eq target other
+        then Some (joined target key (ends_at G.eq target ends.old.rows))
+        else ends_at G.eq other ends.old.rows) }
+    ensures own_keys { HaveOwnKeys G.eq (λ e. e.target) ends.new.rows }
+    ensures limit { length ends.new.rows + ends.new.room ≡ length ends.old.rows + ends.old.room }
 {
     match ends.find(target) {
         None => {
@@ -197,9 +210,13 @@ fn leave<K: Copy, G: Copy + Eq + Hash>(
     before: Option<K>,
     after: Option<K>,
 )
-    ensures ends { (other : G) → find_row G.eq (λ e. e.target) other ends.new.rows
-        ≡ (if G.eq target other then left before after (find_row G.eq (λ e. e.target) target ends.old.rows) else find_row G.eq (λ e. e.target) other ends.old.rows) }
-    ensures room { ends.old.room ≤ ends.new.room }
+    requires { HaveOwnKeys G.eq (λ e. e.target) ends.old.rows }
+    ensures ends { (other : G) → ends_at G.eq other ends.new.rows
+        ≡ (if G.eq target other
+        then left before after (ends_at G.eq target ends.old.rows)
+        else ends_at G.eq other ends.old.rows) }
+    ensures own_keys { HaveOwnKeys G.eq (λ e. e.target) ends.new.rows }
+    ensures limit { length ends.new.rows + ends.new.room ≡ length ends.old.rows + ends.old.room }
 {
     let Some(found) = ends.find(target) else {
         return;

@@ -1,7 +1,9 @@
-use Rattle.std.proofs.Common.{Some, None, List, cond, refl, sym, ap, ◌∙◌}
+use Rattle.std.proofs.Common.{◌≡◌, ◌+◌, List, Some, None, cond, length, refl, sym, ap, ◌∙◌, subst, arith}
+use Rattle.std.proofs.lemmas.Option.{MatchOption-at_some}
 use Rattle.kq_table.specs.declared.watch.Ends.{Ends}
-use Rattle.kq_table.specs.Rows.{find_row}
+use Rattle.kq_table.specs.Rows.{find_row, HaveOwnKeys}
 use Rattle.kq_table.specs.Links.{left}
+use Rattle.kq_table.proofs.KeepLaws.{HaveOwnKeys-with, HaveOwnKeys-without, length-with_row, length-without_row}
 use Rattle.kq_table.proofs.FoundLaws.{find_row-remove}
 use Rattle.kq_table.proofs.EndLaws.{ends-same, ends-modify}
 use Rattle.kq_table.proofs.target_index.leave.Goals as goal
@@ -53,3 +55,38 @@ returns-in-Some-Some-clause-ends g c = λ other.
     ∙ ap (λ o. cond (alike c.args.target other) o (find_row alike (λ (e : Ends g.row.K.Denot g.row.G.Denot). e.target) other rows)) (sym (
     ap (λ b. left b c.args.after at_target) c.in-Some-Some.is-0 ∙ ap (λ a. left (Some c.in-Some-Some.field-0-0) a at_target) c.in-Some-Some.is-1
     ∙ ap (left (Some c.in-Some-Some.field-0-0) (Some c.in-Some-Some.field-0-1)) (sym c.in-Some.ensures) ∙ c.in-Some.ensures))
+
+pub returns-in-None-None-clause-own_keys : goal.returns-in-None-None-clause-own_keys
+returns-in-None-None-clause-own_keys g c =
+    subst (λ (es : List (Ends g.row.K.Denot g.row.G.Denot)). HaveOwnKeys g.G.PartialEq.eq (λ (e : Ends g.row.K.Denot g.row.G.Denot). e.target) es) (sym c.remove.ensures.rows)
+    (HaveOwnKeys-without g.G.PartialEq.eq (λ (e : Ends g.row.K.Denot g.row.G.Denot). e.target) g.met.G.Eq.laws c.args.target c.args.ends.now.rows c.requires)
+
+pub returns-in-None-None-clause-limit : goal.returns-in-None-None-clause-limit
+returns-in-None-None-clause-limit g c =
+    let found_it = c.remove.ensures.removed ∙ sym c.in-Some.ensures in
+    let one = ap length c.remove.ensures.rows in
+    let fewer = length-without_row g.G.PartialEq.eq (λ (e : Ends g.row.K.Denot g.row.G.Denot). e.target) g.met.G.Eq.laws c.args.target c.args.ends.now.rows c.in-Some.found c.requires (sym c.in-Some.ensures) in
+    let room = MatchOption-at_some _ (λ _. c.remove.new.self.room ≡ c.args.ends.now.room + 1) c.in-Some.found found_it c.remove.ensures.room in
+    omega arith
+
+pub returns-in-None-Some-clause-own_keys : goal.returns-in-None-Some-clause-own_keys
+returns-in-None-Some-clause-own_keys g c =
+    subst (λ (es : List (Ends g.row.K.Denot g.row.G.Denot)). HaveOwnKeys g.G.PartialEq.eq (λ (e : Ends g.row.K.Denot g.row.G.Denot). e.target) es) (sym c.modify.ensures.rows)
+    (HaveOwnKeys-with g.G.PartialEq.eq (λ (e : Ends g.row.K.Denot g.row.G.Denot). e.target) g.met.G.Eq.laws (record c.in-Some.found { first = c.in-None-Some.first }) c.args.ends.now.rows c.requires)
+
+pub returns-in-None-Some-clause-limit : goal.returns-in-None-Some-clause-limit
+returns-in-None-Some-clause-limit g c =
+    let many = ap length c.modify.ensures.rows ∙ length-with_row g.G.PartialEq.eq (λ (e : Ends g.row.K.Denot g.row.G.Denot). e.target) g.met.G.Eq.laws (record c.in-Some.found { first = c.in-None-Some.first }) c.args.ends.now.rows in
+    let room = c.modify.ensures.room in
+    omega arith
+
+pub returns-in-Some-None-clause-own_keys : goal.returns-in-Some-None-clause-own_keys
+returns-in-Some-None-clause-own_keys g c =
+    subst (λ (es : List (Ends g.row.K.Denot g.row.G.Denot)). HaveOwnKeys g.G.PartialEq.eq (λ (e : Ends g.row.K.Denot g.row.G.Denot). e.target) es) (sym c.modify-in-Some-None.ensures.rows)
+    (HaveOwnKeys-with g.G.PartialEq.eq (λ (e : Ends g.row.K.Denot g.row.G.Denot). e.target) g.met.G.Eq.laws (record c.in-Some.found { last = c.in-Some-None.last }) c.args.ends.now.rows c.requires)
+
+pub returns-in-Some-None-clause-limit : goal.returns-in-Some-None-clause-limit
+returns-in-Some-None-clause-limit g c =
+    let many = ap length c.modify-in-Some-None.ensures.rows ∙ length-with_row g.G.PartialEq.eq (λ (e : Ends g.row.K.Denot g.row.G.Denot). e.target) g.met.G.Eq.laws (record c.in-Some.found { last = c.in-Some-None.last }) c.args.ends.now.rows in
+    let room = c.modify-in-Some-None.ensures.room in
+    omega arith

@@ -11,7 +11,7 @@ returns-in_default g c =
     let same = g.K.PartialEq.eq in
     let alike = g.G.PartialEq.eq in
     ap (option_map (λ (e : Ends g.row.K.Denot g.row.G.Denot). e.first)) c.in_default.ensures
-    ∙ first-watching same alike (find_row alike (λ (e : Ends g.row.K.Denot g.row.G.Denot). e.target) c.args.target c.self.inside.ends.rows) (of_target alike c.args.target c.self.inside.links.rows) (c.self.invariant.ended c.args.target)
+    ∙ first-watching same alike (find_row alike (λ (e : Ends g.row.K.Denot g.row.G.Denot). e.target) c.args.target c.self.inside.ends.rows) (of_target alike c.args.target c.self.inside.links.rows) (c.self.invariant.woven.ended c.args.target)
     ∙ ap (λ keys. slice_get keys 0) (sym (keys-of_target same alike c.args.target c.self.inside.links.rows))
     ∙ ap (λ (v : Watched g.row.K.Denot g.row.G.Denot). slice_get (keys_watching alike c.args.target v.watches) 0) c.self.view_is
 
@@ -20,6 +20,6 @@ returns g c =
     let same = g.K.PartialEq.eq in
     let alike = g.G.PartialEq.eq in
     ap (option_map (λ (e : Ends g.row.K.Denot g.row.G.Denot). e.first)) c.in-Some.ensures
-    ∙ first-watching same alike (find_row alike (λ (e : Ends g.row.K.Denot g.row.G.Denot). e.target) c.args.target c.self.inside.ends.rows) (of_target alike c.args.target c.self.inside.links.rows) (c.self.invariant.ended c.args.target)
+    ∙ first-watching same alike (find_row alike (λ (e : Ends g.row.K.Denot g.row.G.Denot). e.target) c.args.target c.self.inside.ends.rows) (of_target alike c.args.target c.self.inside.links.rows) (c.self.invariant.woven.ended c.args.target)
     ∙ ap (λ keys. slice_get keys 0) (sym (keys-of_target same alike c.args.target c.self.inside.links.rows))
     ∙ ap (λ (v : Watched g.row.K.Denot g.row.G.Denot). slice_get (keys_watching alike c.args.target v.watches) 0) c.self.view_is

@@ -13,7 +13,7 @@ loop-next-init g c =
     let links = of_target alike c.args.target all in
     let keys_are = sym (keys-of_target same alike c.args.target all) ∙ ap (λ (v : Watched g.row.K.Denot g.row.G.Denot). keys_watching alike c.args.target v.watches) c.self.view_is in
     record {
-      along = IsAlong-start same alike c.args.found.now.items c.first_watching-next.result links (c.first_watching-next.ensures ∙ ap (λ keys. slice_get keys 0) (sym keys_are)) (c.self.invariant.linked c.args.target);
+      along = IsAlong-start same alike c.args.found.now.items c.first_watching-next.result links (c.first_watching-next.ensures ∙ ap (λ keys. slice_get keys 0) (sym keys_are)) (c.self.invariant.woven.linked c.args.target);
       capacity = refl;
     }
 
@@ -41,7 +41,7 @@ loop-next-preserved g c =
     let links = of_target alike c.args.target all in
     let keys_are = sym (keys-of_target same alike c.args.target all) ∙ ap (λ (v : Watched g.row.K.Denot g.row.G.Denot). keys_watching alike c.args.target v.watches) c.self.view_is in
     let along = subst (λ (o : Option g.row.K.Denot). IsAlong same alike c.args.found.now.items c.loop-next.found.items o links) c.in-Some.is c.loop-next.invariant.along in
-    let step = IsAlong-step same alike g.met.K.Eq.laws all c.self.invariant.own_keys c.args.target c.args.found.now.items c.loop-next.found.items c.in-Some.key along in
+    let step = IsAlong-step same alike g.met.K.Eq.laws all c.self.invariant.woven.own_keys c.args.target c.args.found.now.items c.loop-next.found.items c.in-Some.key along in
     let next_is = MatchOption-at_some _ (λ (l : Link g.row.K.Denot g.row.G.Denot). c.after-next.result ≡ l.after) step.0 step.1 c.after-next.ensures in
     record {
       along = subst (λ (o : Option g.row.K.Denot). IsAlong same alike c.args.found.now.items c.push_reserved.new.self.items o links) (sym next_is)
