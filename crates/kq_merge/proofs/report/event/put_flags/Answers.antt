@@ -10,16 +10,19 @@ loop-flag-preserved c =
     elim c.if-contains.branch [
       | then-contains+in_ok-put_name w ↦
           rw (w.out-is, w.is_later-is)
-          (name_taken c.args.flags c.loop-flag.is_later items c.loop-flag.flag-index _ c.loop-flag.out.items w.put_name.new.out.items c.loop-flag-test.true
+          (name_taken c.args.flags c.loop-flag.is_later items c.loop-flag.flag-index _ c.loop-flag.out.items
+          w.put_name.new.out.items c.loop-flag-test.true
           (sym (c.contains.ensures tt) ∙ w.if-contains.true) w.in_ok-put_name.ensures ∙ c.loop-flag.invariant)
       | else-contains w ↦
           rw (w.out-is, w.is_later-is)
-          (ap (λ l. c.loop-flag.out.items ++ l) (name_left c.args.flags c.loop-flag.is_later items c.loop-flag.flag-index _ c.loop-flag-test.true
+          (ap (λ l. c.loop-flag.out.items ++ l) (name_left c.args.flags c.loop-flag.is_later items
+          c.loop-flag.flag-index _ c.loop-flag-test.true
           (sym (c.contains.ensures tt) ∙ w.if-contains.false)) ∙ c.loop-flag.invariant)
     ]
 
 pub returns : goal.returns
 returns c =
-    IfOk-weaker c.put-2.result _ _ (λ _ end. names_ended c.args.flags c.loop-flag.is_later c.flags-flag-items.result.now c.loop-flag.flag-index
+    IfOk-weaker c.put-2.result _ _ (λ _ end. names_ended c.args.flags c.loop-flag.is_later
+    c.flags-flag-items.result.now c.loop-flag.flag-index
     c.args.out.now.items c.put.new.out.items c.loop-flag.out.items c.put-2.new.out.items c.loop-flag-test.false
     (c.flags-flag-items.ensures tt) c.in_ok-put.ensures c.loop-flag.invariant end) c.put-2.ensures

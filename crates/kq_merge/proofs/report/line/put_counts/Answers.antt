@@ -7,5 +7,6 @@ pub returns : goal.returns
 returns c = on_ok_weaker c.put-4.result
     (λ end. as_text (last_line-is c.args.calls c.args.events c.args.records)
     (and_then c.in_ok-put.ensures (and_then c.in_ok-put_number.ensures (and_then c.in_ok-put-2.ensures
-    (and_then c.in_ok-put_number-2.ensures (and_then c.in_ok-put-3.ensures (and_then c.in_ok-put_number-3.ensures end)))))))
+    (and_then c.in_ok-put_number-2.ensures (and_then c.in_ok-put-3.ensures
+    (and_then c.in_ok-put_number-3.ensures end)))))))
     c.put-4.ensures

@@ -8,7 +8,8 @@ use Rattle.kq_merge.proofs.report.line.put_failed.Goals as goal
 
 pub returns : goal.returns
 returns c =
-    let number = subst (λ n. Adds c.put.new.out.items (decimal n) c.put_number.new.out.items) c.code.ensures c.in_ok-put_number.ensures in
+    let number = subst (λ n. Adds c.put.new.out.items (decimal n) c.put_number.new.out.items) c.code.ensures
+    c.in_ok-put_number.ensures in
     on_ok_weaker c.put-2.result
     (λ end. as_text (failed_line c.args.at c.args.error)
     (and_then c.in_ok-put_place.ensures (and_then c.in_ok-put.ensures (and_then number end))))
