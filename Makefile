@@ -8,6 +8,7 @@
 
 KQSIM := crates/kqsim/out/kqsim
 VALUE_COUNT := crates/value_count/out/value_count
+TRACE_CHECK := crates/trace_check/out/trace_check
 EXAMPLE ?= examples/doorbell.trace
 PREFIX ?= /usr/local
 
@@ -26,7 +27,9 @@ test:
 
 bench: all
 	cd crates/value_count && rt run < stdin
-	bench/run $(KQSIM) $(VALUE_COUNT)
+	cd crates/trace_check && rt run < stdin
+	bench/run $(KQSIM) $(VALUE_COUNT) $(TRACE_CHECK)
+	bench/kevents $(KQSIM)
 
 install: all
 	install -D -m 755 $(KQSIM) $(DESTDIR)$(PREFIX)/bin/kqsim

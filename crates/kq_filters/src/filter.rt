@@ -10,7 +10,8 @@ use kq_model::{Filter, View};
 /// filter's condition does not hold.
 #[tactic(auto, unfolding(kq_model::specs::Look::look, kq_model::specs::Look::look_by))]
 pub fn look(knote: &Knote, view: Option<View>) -> Option<Seen>
-    ensures { (views : world.Views) → view ≡ option_and_then views.view knote.now.target → result ≡ look views knote.now }
+    ensures { (views : world.Views) → view ≡ option_and_then views.view knote.now.target
+        → result ≡ look views knote.now }
 {
     match knote.key.filter {
         Filter::User => look_user(knote),

@@ -31,9 +31,11 @@ unfolding replaced
 replaced-active c k = cond_both (asks c.flags add) _ _ (λ (n : Knote). n.active ≡ k.active) (λ _. refl) (λ _. refl)
 
 -- only a TIMER that is added again is made inactive
-restarted-active : (f : Filter) (caller : Caller) (c : Change) (k : Knote) → is_timer f && asks c.flags add ≡ false → (restarted f caller c k).active ≡ k.active
+restarted-active : (f : Filter) (caller : Caller) (c : Change) (k : Knote) → is_timer f && asks c.flags add ≡ false
+    → (restarted f caller c k).active ≡ k.active
 unfolding restarted started is_timer
-restarted-active Timer caller c k same = ap (λ b. (cond b (record (started caller c k) { seen = tallying.empty; active = false }) k).active) same
+restarted-active Timer caller c k same =
+    ap (λ b. (cond b (record (started caller c k) { seen = tallying.empty; active = false }) k).active) same
 restarted-active Read caller c k same = refl
 restarted-active Write caller c k same = refl
 restarted-active Vnode caller c k same = refl
@@ -68,9 +70,12 @@ unfolding switched
 switched-active c k = refl
 
 -- a change makes no active knote inactive, but a TIMER that is added again
-pub modified-active : (caller : Caller) (c : Change) (k : Knote) → is_restart c ≡ false → (modified caller c k).active ≡ false → k.active ≡ false
+pub modified-active : (caller : Caller) (c : Change) (k : Knote) → is_restart c ≡ false
+    → (modified caller c k).active ≡ false → k.active ≡ false
 unfolding modified
 modified-active caller c k same idle =
     let r = restarted c.filter caller c (replaced c k) in
-    sym (replaced-active c k) ∙ sym (restarted-active c.filter caller c (replaced c k) same) ∙ sym (changed-active c.filter c r)
-    ∙ sym (switched-active c (changed c.filter c r)) ∙ attended-active caller.views (switched c (changed c.filter c r)) idle
+    sym (replaced-active c k) ∙ sym (restarted-active c.filter caller c (replaced c k) same)
+    ∙ sym (changed-active c.filter c r)
+    ∙ sym (switched-active c (changed c.filter c r)) ∙ attended-active caller.views
+    (switched c (changed c.filter c r)) idle

@@ -4,6 +4,7 @@ pub mod TableLaws
 pub mod KnoteSteps
 pub mod SoundLaws
 pub mod RegisterLaws
+pub mod TurnSound
 pub mod TurnLaws
 pub mod CallLaws
 pub mod TakenLaws

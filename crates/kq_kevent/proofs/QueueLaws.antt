@@ -21,14 +21,18 @@ or-false : (b : Bool) → b || false ≡ b
 or-false true = refl
 or-false false = refl
 
-pub has_key-push_other : (key k : Key) (q : List Key) → key_eq k key ≡ false → has_key key (q ++ k ∷ []) ≡ has_key key q
+pub has_key-push_other : (key k : Key) (q : List Key) → key_eq k key ≡ false
+    → has_key key (q ++ k ∷ []) ≡ has_key key q
 has_key-push_other key k q apart =
-    has_key-append key q (k ∷ []) ∙ ap (λ b. has_key key q || (b || false)) (key_eq-sym key k ∙ apart) ∙ or-false (has_key key q)
+    has_key-append key q (k ∷ []) ∙ ap (λ b. has_key key q || (b || false)) (key_eq-sym key k ∙ apart)
+    ∙ or-false (has_key key q)
 
-pub has_key-without_none : (key gone : Key) (q : List Key) → has_key key q ≡ false → has_key key (without_key gone q) ≡ false
+pub has_key-without_none : (key gone : Key) (q : List Key) → has_key key q ≡ false
+    → has_key key (without_key gone q) ≡ false
 has_key-without_none key gone q absent =
     by_test (λ b. key_eq gone key ≡ b → has_key key (without_key gone q) ≡ false) (key_eq gone key)
-    (λ _ same. subst (λ (other : Key). has_key other (without_key gone q) ≡ false) (same_key gone key same) (has_key-without_same gone q))
+    (λ _ same. subst (λ (other : Key). has_key other (without_key gone q) ≡ false) (same_key gone key same)
+    (has_key-without_same gone q))
     (λ _ apart. has_key-without_other key gone q apart ∙ absent) refl
 
 abbrev kept : Key → List Key → Bool → List Key
@@ -64,7 +68,8 @@ has_key-queued_same k q =
     by_test (λ b. has_key k q ≡ b → has_key k (put_if_absent k q b) ≡ true) (has_key k q)
     (λ _ here. here) (λ _ _. has_key-push_same k q) refl
 
-pub has_key-queued_other : (key k : Key) (q : List Key) → key_eq k key ≡ false → has_key key (queued k q) ≡ has_key key q
+pub has_key-queued_other : (key k : Key) (q : List Key) → key_eq k key ≡ false
+    → has_key key (queued k q) ≡ has_key key q
 has_key-queued_other key k q apart =
     by_test (λ b. has_key key (put_if_absent k q b) ≡ has_key key q) (has_key k q)
     (λ _. refl) (λ _. has_key-push_other key k q apart)
@@ -79,7 +84,8 @@ AreOnce-queued k q once =
 abbrev queue_by : Knote → List Key → Bool → Bool → List Key
 queue_by k q enabled active = cond enabled (cond active (queued k.key q) q) (without_key k.key q)
 
-pub has_key-queue_for_other : (key : Key) (k : Knote) (q : List Key) → key_eq k.key key ≡ false → has_key key (queue_for k q) ≡ has_key key q
+pub has_key-queue_for_other : (key : Key) (k : Knote) (q : List Key) → key_eq k.key key ≡ false
+    → has_key key (queue_for k q) ≡ has_key key q
 unfolding queue_for
 has_key-queue_for_other key k q apart =
     by_test (λ e. has_key key (queue_by k q e k.active) ≡ has_key key q) k.enabled
@@ -88,11 +94,13 @@ has_key-queue_for_other key k q apart =
     (λ _. has_key-without_other key k.key q apart)
 
 -- where a knote that is not active is not in the queue, the knote is in it when active and enabled
-pub has_key-queue_for_same : (k : Knote) (q : List Key) → (k.active ≡ false → has_key k.key q ≡ false) → has_key k.key (queue_for k q) ≡ k.active && k.enabled
+pub has_key-queue_for_same : (k : Knote) (q : List Key) → (k.active ≡ false → has_key k.key q ≡ false)
+    → has_key k.key (queue_for k q) ≡ k.active && k.enabled
 unfolding queue_for
 has_key-queue_for_same k q idle =
     by_test (λ e. has_key k.key (queue_by k q e k.active) ≡ k.active && e) k.enabled
-    (λ _. by_test (λ a. (a ≡ false → has_key k.key q ≡ false) → has_key k.key (queue_by k q true a) ≡ a && true) k.active
+    (λ _. by_test (λ a. (a ≡ false → has_key k.key q ≡ false) → has_key k.key (queue_by k q true a) ≡ a && true)
+    k.active
     (λ _ _. has_key-queued_same k.key q) (λ _ absent. absent refl) idle)
     (λ _. has_key-without_same k.key q ∙ sym (and-false k.active))
   where
@@ -122,7 +130,8 @@ queue_for-there k q enabled there =
     ap (λ e. queue_by k q e k.active) enabled ∙ by_test (λ a. queue_by k q true a ≡ q) k.active
     (λ _. ap (put_if_absent k.key q) there) (λ _. refl)
 
-pub queue_for-comes : (k : Knote) (q : List Key) → k.enabled ≡ true → k.active ≡ true → has_key k.key q ≡ false → queue_for k q ≡ q ++ k.key ∷ []
+pub queue_for-comes : (k : Knote) (q : List Key) → k.enabled ≡ true → k.active ≡ true → has_key k.key q ≡ false
+    → queue_for k q ≡ q ++ k.key ∷ []
 unfolding queue_for
 queue_for-comes k q enabled active absent =
     ap (λ e. queue_by k q e k.active) enabled ∙ ap (queue_by k q true) active ∙ ap (put_if_absent k.key q) absent

@@ -1,4 +1,4 @@
-ghost use Rattle.std.specs.Prelude.{◌≡◌, ◌≤◌, ◌+◌, length, max, min, IfOk, IsOk, OnErr};
+ghost use Rattle.std.specs.Prelude.{◌≡◌, ◌↔◌, ◌≤◌, ◌+◌, [], length, max, min, IsTrue, IfOk, IsOk, OnErr};
 ghost use Rattle.kq_model.specs.Call.{call};
 ghost use Rattle.kq_model.specs.Hearing.{listed};
 ghost use Rattle.kq_model.specs.Kqueue.{Kqueue};
@@ -19,6 +19,13 @@ fn answer(mut events: Vec<Kevent>) -> Reply
     Reply::Events(Series::from_vec(events))
 }
 
+/// Whether a call goes on to read pending events: where no entry was placed.
+fn reads_pending(placed: &[Kevent]) -> bool
+    ensures { IsTrue result ↔ (placed.now ≡ []) }
+{
+    placed.is_empty()
+}
+
 impl Kq {
     /// One kevent call, which waits for nothing: all changes in order, with an entry for each
     /// that fails or asks for a receipt; then, where no entry was placed and no change ended the
@@ -33,8 +40,8 @@ impl Kq {
             ≡ call (caller (V.sees views.now) self.old) room changes.now self.old.kq) }
 
         // The same in the words of the definitions, which keep all that was heard.
-        ensures model { IfOk result (λ reply. (m : Kqueue listed) → self.old.kq ≡ tallied m → IsTallied self.new.kq reply
-            (call (caller (V.sees views.now) self.old) room changes.now m)) }
+        ensures model { IfOk result (λ reply. (m : Kqueue listed) → self.old.kq ≡ tallied m
+            → IsTallied self.new.kq reply (call (caller (V.sees views.now) self.old) room changes.now m)) }
 
         // What the answer promises of the kqueue as the changes left it, and that a call whose
         // changes are all quiet is these changes with room 0 and then a poll.
@@ -45,7 +52,8 @@ impl Kq {
         ensures owner { self.new.owner ≡ self.old.owner }
         ensures version { self.new.version ≡ self.old.version }
         // Room for each change is made first; what was used of it is that of the knotes that came.
-        ensures limit { IfOk result (λ _. limit self.new ≡ length self.old.kq.knotes + max self.old.room (length changes.now)) }
+        ensures limit { IfOk result (λ _.
+            limit self.new ≡ length self.old.kq.knotes + max self.old.room (length changes.now)) }
         ensures room { self.old.room ≤ self.new.room + length changes.now }
 
         ensures err { OnErr result (self.new.kq ≡ self.old.kq) }
@@ -62,7 +70,7 @@ impl Kq {
             Ending::Ended(Some(error)) => Ok(Reply::Failed(error)),
             Ending::Ended(None) => Ok(answer(events)),
             Ending::Through => {
-                if events.is_empty() {
+                if reads_pending(&events) {
                     self.retrieve(room, &mut events, views);
                 }
                 Ok(answer(events))

@@ -68,7 +68,7 @@ impl Kq {
         // Memory comes only where the room was missing.
         ensures missing { OnErr result (self.old.room < changes) }
     {
-        if changes <= self.knotes.room() {
+        if changes <= self.room() {
             return Ok(());
         }
         let unqueued = self.knotes.len() - self.queue.len();

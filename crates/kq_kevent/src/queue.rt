@@ -82,7 +82,9 @@ impl Queue {
 
     /// Takes out the key at the front.
     pub fn take_front(&mut self) -> Option<Key>
-        ensures keys { MatchOption result ((self.old.keys ≡ []) × (self.new.keys ≡ [])) (λ key. self.old.keys ≡ key ∷ self.new.keys) }
+        ensures keys { MatchOption result
+            ((self.old.keys ≡ []) × (self.new.keys ≡ []))
+            (λ key. self.old.keys ≡ key ∷ self.new.keys) }
         ensures capacity { self.new.capacity ≡ self.old.capacity }
     {
         self.keys.pop_front()

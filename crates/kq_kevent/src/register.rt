@@ -63,7 +63,8 @@ impl Kq {
     pub fn register<V: Views>(&mut self, change: &Change, views: &V) -> u32
         requires { 0 < self.old.room }
         ensures kq { self.new.kq ≡ (register (caller (V.sees views.now) self.old) change.now self.old.kq).kq }
-        ensures error { result ≡ number_of (register (caller (V.sees views.now) self.old) change.now self.old.kq).error }
+        ensures error { result
+            ≡ number_of (register (caller (V.sees views.now) self.old) change.now self.old.kq).error }
         // What this comes to for a user: other knotes and their order stay, ADD makes no second one,
         // and a refused change changes nothing.
         ensures laws { IsRegistered change.now self.old.kq self.new.kq result }
@@ -146,7 +147,8 @@ impl Kq {
     fn modify<V: Views>(&mut self, present: Knote, change: &Change, views: &V)
         requires user { change.now.filter ≡ Filter.User }
         requires present { find_knote (key_of change.now) self.old.kq.knotes ≡ Some present }
-        ensures kq { self.new.kq ≡ with_modified change.now (modified (caller (V.sees views.now) self.old) change.now present) self.old.kq }
+        ensures kq { self.new.kq
+            ≡ with_modified change.now (modified (caller (V.sees views.now) self.old) change.now present) self.old.kq }
         ensures owner { self.new.owner ≡ self.old.owner }
         ensures version { self.new.version ≡ self.old.version }
         ensures room { self.new.room ≡ self.old.room }

@@ -75,7 +75,8 @@ impl Kq {
     pub(crate) fn retrieve<V: Views>(&mut self, room: usize, events: &mut Vec<Kevent>, views: &V)
         requires none { events.old.items ≡ [] }
         requires capacity { min room (length self.old.kq.queue) ≤ vec_capacity events.old }
-        ensures retrieved { retrieval (V.sees views.now) room self.old.kq ≡ record { kq = self.new.kq; events = events.new.items } }
+        ensures retrieved { retrieval (V.sees views.now) room self.old.kq
+            ≡ record { kq = self.new.kq; events = events.new.items } }
         ensures owner { self.new.owner ≡ self.old.owner }
         ensures version { self.new.version ≡ self.old.version }
         ensures room { self.old.room ≤ self.new.room }

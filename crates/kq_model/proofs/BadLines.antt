@@ -1,11 +1,11 @@
 -- Bad lines by example, and good ones next to them.
-use Rattle.std.specs.Prelude.{◌≡◌, ℕ, zero, suc, ◌^◌, true, List, [], ◌∷◌, ◌++◌, length, map, replicate, codes, nat_lt, Some, None, Ok, Err}
+use Rattle.std.specs.Prelude.{◌≡◌, ℕ, zero, suc, ◌^◌, true, List, [], ◌∷◌, ◌++◌, length, map, replicate, codes, nat_lt, Ok, Err}
 use Rattle.std.proofs.Common.{refl}
 use Rattle.std.proofs.Math.ListN.{length-replicate}
 use Rattle.kq_model.specs.declared.event.Event.TheVariants.{Proc}
 use Rattle.kq_model.specs.declared.line_fault.LineFault.TheVariants.{TooLong, Header, TooManyRecords, Json, Field, Range}
 use Rattle.kq_model.specs.Lines.{onto_first, pieces_of, without_empty_end, lines_among, lines_of}
-use Rattle.kq_model.specs.Reading.{Good, Bad, meaning, with_event, joined, read_lines, reading}
+use Rattle.kq_model.specs.Reading.{Good, Bad, version_on, record_on, with_event, joined, read_records, behind_header, read_lines, reading}
 use Rattle.kq_model.proofs.Builders.{kevent, second_line}
 use Rattle.kq_model.proofs.ReadingOpened.{reading_opened}
 
@@ -59,7 +59,7 @@ pub header_with_blanks : map reading (
     ∷ codes "{\"kqsim\":1}\r\n"
     ∷ codes "{\"kqsim\":2,\"kqsim\":1}"
     ∷ codes "{\"kqsim\":\"x\",\"\\u006bqsim\":1}" ∷ [])
-    ≡ replicate 4 (Good [])
+    ≡ replicate 4 (Good 1 [])
 unfolding reading_opened
 header_with_blanks = refl
 
@@ -170,7 +170,7 @@ pid_out_of_range = refl
 
 -- to 2^32 - 1
 pub largest_pid : second_line (codes "{\"op\":\"proc\",\"pid\":4294967295}")
-    ≡ Good (Proc 4294967295 ∷ [])
+    ≡ Good 1 (Proc 4294967295 ∷ [])
 unfolding reading_opened
 largest_pid = refl
 
@@ -180,7 +180,7 @@ pub repeated_member : map second_line (
     ∷ codes "{\"pid\":2,\"op\":\"kqueue\",\"op\":\"proc\",\"pid\":1}"
     ∷ codes "{\"op\":\"proc\",\"pid\":4294967296,\"\\u0070id\":1}"
     ∷ codes "\t{ \"pid\" : 1 , \"op\" : \"pr\\u006fc\" } \r" ∷ [])
-    ≡ replicate 4 (Good (Proc 1 ∷ []))
+    ≡ replicate 4 (Good 1 (Proc 1 ∷ []))
 unfolding reading_opened
 repeated_member = refl
 
@@ -208,7 +208,7 @@ range_of_a_call = refl
 
 -- a room that no call may have is read: it is the record that is impossible
 pub room_over_the_limit : second_line (codes "{\"op\":\"kevent\",\"pid\":1,\"fd\":9,\"changes\":[],\"room\":65537}")
-    ≡ Good (kevent [] 65537 ∷ [])
+    ≡ Good 1 (kevent [] 65537 ∷ [])
 unfolding reading_opened
 room_over_the_limit = refl
 
@@ -225,12 +225,16 @@ unfolding reading_opened
 header_before_the_rest = refl
 
 -- a line too long is that, whatever it holds and wherever it stands
-pub too_long : (line : ℕ) (bytes : List ℕ) → nat_lt (2 ^ 20) (length bytes) ≡ true → meaning line bytes ≡ Err TooLong
-unfolding meaning
+pub too_long_header : (bytes : List ℕ) → nat_lt (2 ^ 20) (length bytes) ≡ true → version_on bytes ≡ Err TooLong
+unfolding version_on
+too_long_header bytes long = rw long
+
+pub too_long : (line : ℕ) (bytes : List ℕ) → nat_lt (2 ^ 20) (length bytes) ≡ true → record_on line bytes ≡ Err TooLong
+unfolding record_on
 too_long line bytes long = rw long
 
 -- so it is behind the header
-header_is_read : meaning 1 (codes "{\"kqsim\":1}") ≡ Ok None
+header_is_read : version_on (codes "{\"kqsim\":1}") ≡ Ok 1
 unfolding reading_opened
 header_is_read = refl
 
@@ -240,13 +244,13 @@ blanks_are_one_piece zero = refl
 blanks_are_one_piece (suc n) = rw (blanks_are_one_piece n) refl
 
 pub line_over_the_limit : (n : ℕ) → nat_lt (2 ^ 20) (suc n) ≡ true → second_line (replicate (suc n) 32) ≡ Bad 2 TooLong
-unfolding pieces_of onto_first without_empty_end lines_among lines_of read_lines reading joined with_event
+unfolding pieces_of onto_first without_empty_end lines_among lines_of read_records behind_header read_lines reading joined with_event
 line_over_the_limit n long =
     let over : nat_lt (2 ^ 20) (length (replicate (suc n) 32)) ≡ true = rw (length-replicate {A = ℕ} n 32) long in
-    let refused : meaning 2 (replicate (suc n) 32) ≡ Err TooLong = too_long 2 (replicate (suc n) 32) over in
+    let refused : record_on 2 (replicate (suc n) 32) ≡ Err TooLong = too_long 2 (replicate (suc n) 32) over in
     rw (blanks_are_one_piece n, header_is_read, refused) refl
 
 -- the record on line 1,000,001 is the last that is read; what stands behind is not looked at
-pub records_over_the_limit : (meaning 1000001 (codes "{\"op\":\"proc\",\"pid\":1}") ≡ Ok (Some (Proc 1))) × (meaning 1000002 (codes "{") ≡ Err TooManyRecords)
+pub records_over_the_limit : (record_on 1000001 (codes "{\"op\":\"proc\",\"pid\":1}") ≡ Ok (Proc 1)) × (record_on 1000002 (codes "{") ≡ Err TooManyRecords)
 unfolding reading_opened
 records_over_the_limit = (refl, refl)

@@ -30,7 +30,7 @@ pub widest_spelled : spelling 1 widest ≡ text (
 unfolding system_opened
 widest_spelled = refl
 
-pub widest_reads_again : reading (spelling 1 widest) ≡ Good widest
+pub widest_reads_again : reading (spelling 1 widest) ≡ Good 1 widest
 unfolding system_opened reading_opened
 widest_reads_again = refl
 
@@ -38,11 +38,11 @@ widest_reads_again = refl
 abbrev pub all_filters : List Event
 all_filters = kevent (map (λ f. record (user 7 0 0) { filter = f }) filters) 4 ∷ []
 
-pub all_filters_read_again : reading (spelling 1 all_filters) ≡ Good all_filters
+pub all_filters_read_again : reading (spelling 1 all_filters) ≡ Good 1 all_filters
 unfolding system_opened reading_opened
 all_filters_read_again = refl
 
 -- bits of flags without a name are not spelled, so they do not come back
-pub unnamed_bits : reading (spelling 1 (kevent (user 7 (add + 2 ^ 8 + 2 ^ 13) 0 ∷ []) 4 ∷ [])) ≡ Good (kevent (user 7 add 0 ∷ []) 4 ∷ [])
+pub unnamed_bits : reading (spelling 1 (kevent (user 7 (add + 2 ^ 8 + 2 ^ 13) 0 ∷ []) 4 ∷ [])) ≡ Good 1 (kevent (user 7 add 0 ∷ []) 4 ∷ [])
 unfolding system_opened reading_opened
 unnamed_bits = refl

@@ -20,11 +20,11 @@ stored_text = text (
     ∷ codes "{\"op\":\"kevent\",\"pid\":1,\"fd\":9,\"changes\":[],\"room\":4}"
     ∷ codes "{\"op\":\"kevent\",\"pid\":1,\"fd\":9,\"changes\":[],\"room\":4}" ∷ [])
 
-pub stored_text_reads : reading stored_text ≡ Good stored_run
+pub stored_text_reads : reading stored_text ≡ Good 1 stored_run
 unfolding reading_opened
 stored_text_reads = refl
 
-pub header_alone_reads : reading (codes "{\"kqsim\":1}\n") ≡ Good []
+pub header_alone_reads : reading (codes "{\"kqsim\":1}\n") ≡ Good 1 []
 unfolding reading_opened
 header_alone_reads = refl
 
@@ -52,7 +52,7 @@ pub cut_in_the_header : cut_after 10 ≡ Bad 1 Header
 unfolding reading_opened
 cut_in_the_header = refl
 
-pub cut_after_the_header : map cut_after (11 ∷ 12 ∷ []) ≡ Good [] ∷ Good [] ∷ []
+pub cut_after_the_header : map cut_after (11 ∷ 12 ∷ []) ≡ Good 1 [] ∷ Good 1 [] ∷ []
 unfolding reading_opened
 cut_after_the_header = refl
 
@@ -61,6 +61,6 @@ pub cut_in_a_record : map cut_after (13 ∷ 14 ∷ 15 ∷ 16 ∷ 17 ∷ 18 ∷ 1
 unfolding reading_opened
 cut_in_a_record = refl
 
-pub cut_after_a_record : cut_after 33 ≡ Good (Proc 1 ∷ [])
+pub cut_after_a_record : cut_after 33 ≡ Good 1 (Proc 1 ∷ [])
 unfolding reading_opened
 cut_after_a_record = refl

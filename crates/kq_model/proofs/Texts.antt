@@ -14,7 +14,7 @@ pub failed_change_reads : reading (text (
     ∷ codes "{\"op\":\"kqueue\",\"pid\":1,\"fd\":9}"
     ∷ codes "{\"op\":\"kevent\",\"pid\":1,\"fd\":9,\"changes\":[{\"ident\":5,\"filter\":\"USER\",\"flags\":[\"DELETE\"]}],\"room\":1}"
     ∷ codes "{\"op\":\"kevent\",\"pid\":1,\"fd\":9,\"changes\":[{\"ident\":1,\"filter\":\"USER\",\"flags\":[\"ADD\"],\"fflags\":16777216},{\"ident\":5,\"filter\":\"USER\",\"flags\":[\"DELETE\"]}],\"room\":0}"
-    ∷ codes "{\"op\":\"kevent\",\"pid\":1,\"fd\":9,\"changes\":[],\"room\":1}" ∷ [])) ≡ Good failed_change
+    ∷ codes "{\"op\":\"kevent\",\"pid\":1,\"fd\":9,\"changes\":[],\"room\":1}" ∷ [])) ≡ Good 1 failed_change
 unfolding reading_opened
 failed_change_reads = refl
 
@@ -25,7 +25,7 @@ pub receipt_without_room_reads : reading (text (
     ∷ codes "{\"op\":\"kevent\",\"pid\":1,\"fd\":9,\"changes\":[{\"ident\":1,\"filter\":\"USER\",\"flags\":[\"ADD\"],\"fflags\":16777216}],\"room\":0}"
     ∷ codes "{\"op\":\"kevent\",\"pid\":1,\"fd\":9,\"changes\":[{\"ident\":2,\"filter\":\"USER\",\"flags\":[\"ADD\",\"RECEIPT\"]},{\"ident\":3,\"filter\":\"USER\",\"flags\":[\"ADD\",\"RECEIPT\"]},{\"ident\":4,\"filter\":\"USER\",\"flags\":[\"ADD\",\"RECEIPT\"]},{\"ident\":5,\"filter\":\"USER\",\"flags\":[\"ADD\"]}],\"room\":2}"
     ∷ codes "{\"op\":\"kevent\",\"pid\":1,\"fd\":9,\"changes\":[{\"ident\":4,\"filter\":\"USER\",\"flags\":[\"DELETE\"]},{\"ident\":5,\"filter\":\"USER\",\"flags\":[\"DELETE\"]}],\"room\":3}"
-    ∷ codes "{\"op\":\"kevent\",\"pid\":1,\"fd\":9,\"changes\":[],\"room\":3}" ∷ [])) ≡ Good receipt_without_room
+    ∷ codes "{\"op\":\"kevent\",\"pid\":1,\"fd\":9,\"changes\":[],\"room\":3}" ∷ [])) ≡ Good 1 receipt_without_room
 unfolding reading_opened
 receipt_without_room_reads = refl
 
@@ -35,7 +35,7 @@ pub user_failed_without_room_reads : reading (text (
     ∷ codes "{\"op\":\"kqueue\",\"pid\":1,\"fd\":9}"
     ∷ codes "{\"op\":\"kevent\",\"pid\":1,\"fd\":9,\"changes\":[{\"ident\":7,\"filter\":\"USER\",\"flags\":[]}],\"room\":1}"
     ∷ codes "{\"op\":\"kevent\",\"pid\":1,\"fd\":9,\"changes\":[{\"ident\":7,\"filter\":\"USER\",\"flags\":[\"ADD\"],\"fflags\":16777216},{\"ident\":3,\"filter\":\"AIO\",\"flags\":[\"ADD\"]}],\"room\":0}"
-    ∷ codes "{\"op\":\"kevent\",\"pid\":1,\"fd\":9,\"changes\":[],\"room\":1}" ∷ [])) ≡ Good user_failed_without_room
+    ∷ codes "{\"op\":\"kevent\",\"pid\":1,\"fd\":9,\"changes\":[],\"room\":1}" ∷ [])) ≡ Good 1 user_failed_without_room
 unfolding reading_opened
 user_failed_without_room_reads = refl
 
@@ -46,7 +46,7 @@ pub control_bits_reads : reading (text (
     ∷ codes "{\"op\":\"kevent\",\"pid\":1,\"fd\":9,\"changes\":[{\"ident\":1,\"filter\":\"USER\",\"flags\":[\"ADD\"],\"fflags\":12}],\"room\":0}"
     ∷ codes "{\"op\":\"kevent\",\"pid\":1,\"fd\":9,\"changes\":[{\"ident\":1,\"filter\":\"USER\",\"flags\":[],\"fflags\":2164260867}],\"room\":1}"
     ∷ codes "{\"op\":\"kevent\",\"pid\":1,\"fd\":9,\"changes\":[{\"ident\":1,\"filter\":\"USER\",\"flags\":[],\"fflags\":1073741829}],\"room\":1}"
-    ∷ codes "{\"op\":\"kevent\",\"pid\":1,\"fd\":9,\"changes\":[{\"ident\":1,\"filter\":\"USER\",\"flags\":[],\"fflags\":3221225481}],\"room\":1}" ∷ [])) ≡ Good control_bits
+    ∷ codes "{\"op\":\"kevent\",\"pid\":1,\"fd\":9,\"changes\":[{\"ident\":1,\"filter\":\"USER\",\"flags\":[],\"fflags\":3221225481}],\"room\":1}" ∷ [])) ≡ Good 1 control_bits
 unfolding reading_opened
 control_bits_reads = refl
 
@@ -55,7 +55,7 @@ pub udata_of_a_later_change_reads : reading (text (
     ∷ codes "{\"op\":\"proc\",\"pid\":1}"
     ∷ codes "{\"op\":\"kqueue\",\"pid\":1,\"fd\":9}"
     ∷ codes "{\"op\":\"kevent\",\"pid\":1,\"fd\":9,\"changes\":[{\"ident\":3,\"filter\":\"USER\",\"flags\":[\"ADD\"]}],\"room\":0}"
-    ∷ codes "{\"op\":\"kevent\",\"pid\":1,\"fd\":9,\"changes\":[{\"ident\":3,\"filter\":\"USER\",\"flags\":[],\"fflags\":16777216,\"udata\":8}],\"room\":1}" ∷ [])) ≡ Good udata_of_a_later_change
+    ∷ codes "{\"op\":\"kevent\",\"pid\":1,\"fd\":9,\"changes\":[{\"ident\":3,\"filter\":\"USER\",\"flags\":[],\"fflags\":16777216,\"udata\":8}],\"room\":1}" ∷ [])) ≡ Good 1 udata_of_a_later_change
 unfolding reading_opened
 udata_of_a_later_change_reads = refl
 
@@ -65,7 +65,7 @@ pub three_users_two_rooms_reads : reading (text (
     ∷ codes "{\"op\":\"kqueue\",\"pid\":1,\"fd\":9}"
     ∷ codes "{\"op\":\"kevent\",\"pid\":1,\"fd\":9,\"changes\":[{\"ident\":1,\"filter\":\"USER\",\"flags\":[\"ADD\"],\"fflags\":16777216},{\"ident\":2,\"filter\":\"USER\",\"flags\":[\"ADD\"],\"fflags\":16777216},{\"ident\":3,\"filter\":\"USER\",\"flags\":[\"ADD\"],\"fflags\":16777216}],\"room\":0}"
     ∷ codes "{\"op\":\"kevent\",\"pid\":1,\"fd\":9,\"changes\":[],\"room\":2}"
-    ∷ codes "{\"op\":\"kevent\",\"pid\":1,\"fd\":9,\"changes\":[],\"room\":2}" ∷ [])) ≡ Good three_users_two_rooms
+    ∷ codes "{\"op\":\"kevent\",\"pid\":1,\"fd\":9,\"changes\":[],\"room\":2}" ∷ [])) ≡ Good 1 three_users_two_rooms
 unfolding reading_opened
 three_users_two_rooms_reads = refl
 
@@ -74,7 +74,7 @@ pub oneshot_user_reads : reading (text (
     ∷ codes "{\"op\":\"proc\",\"pid\":1}"
     ∷ codes "{\"op\":\"kqueue\",\"pid\":1,\"fd\":9}"
     ∷ codes "{\"op\":\"kevent\",\"pid\":1,\"fd\":9,\"changes\":[{\"ident\":1,\"filter\":\"USER\",\"flags\":[\"ADD\",\"ONESHOT\"],\"fflags\":16777216}],\"room\":1}"
-    ∷ codes "{\"op\":\"kevent\",\"pid\":1,\"fd\":9,\"changes\":[{\"ident\":1,\"filter\":\"USER\",\"flags\":[\"DELETE\"]}],\"room\":1}" ∷ [])) ≡ Good oneshot_user
+    ∷ codes "{\"op\":\"kevent\",\"pid\":1,\"fd\":9,\"changes\":[{\"ident\":1,\"filter\":\"USER\",\"flags\":[\"DELETE\"]}],\"room\":1}" ∷ [])) ≡ Good 1 oneshot_user
 unfolding reading_opened
 oneshot_user_reads = refl
 
@@ -85,7 +85,7 @@ pub clear_and_enable_reads : reading (text (
     ∷ codes "{\"op\":\"kevent\",\"pid\":1,\"fd\":9,\"changes\":[{\"ident\":1,\"filter\":\"USER\",\"flags\":[\"ADD\",\"CLEAR\"],\"fflags\":16777221}],\"room\":1}"
     ∷ codes "{\"op\":\"kevent\",\"pid\":1,\"fd\":9,\"changes\":[],\"room\":1}"
     ∷ codes "{\"op\":\"kevent\",\"pid\":1,\"fd\":9,\"changes\":[{\"ident\":2,\"filter\":\"USER\",\"flags\":[\"ADD\",\"DISABLE\"],\"fflags\":16777216}],\"room\":1}"
-    ∷ codes "{\"op\":\"kevent\",\"pid\":1,\"fd\":9,\"changes\":[{\"ident\":2,\"filter\":\"USER\",\"flags\":[\"ENABLE\"]}],\"room\":1}" ∷ [])) ≡ Good clear_and_enable
+    ∷ codes "{\"op\":\"kevent\",\"pid\":1,\"fd\":9,\"changes\":[{\"ident\":2,\"filter\":\"USER\",\"flags\":[\"ENABLE\"]}],\"room\":1}" ∷ [])) ≡ Good 1 clear_and_enable
 unfolding reading_opened
 clear_and_enable_reads = refl
 
@@ -93,6 +93,6 @@ pub kqueue_of_no_process_reads : reading (text (
     codes "{\"kqsim\":1}"
     ∷ codes "{\"op\":\"proc\",\"pid\":1}"
     ∷ codes "{\"op\":\"kqueue\",\"pid\":1,\"fd\":9}"
-    ∷ codes "{\"op\":\"kqueue\",\"pid\":2,\"fd\":1}" ∷ [])) ≡ Good kqueue_of_no_process
+    ∷ codes "{\"op\":\"kqueue\",\"pid\":2,\"fd\":1}" ∷ [])) ≡ Good 1 kqueue_of_no_process
 unfolding reading_opened
 kqueue_of_no_process_reads = refl

@@ -1,6 +1,6 @@
--- Reading: what the bytes of a trace mean. Each line by itself has an event or a fault; where a line has
--- a fault, the answer is the least such line, else it is the list of events. The format is this project's
--- choice; a value is what serde_json reads.
+-- Reading: what the bytes of a trace mean. The first line by itself has a version or a fault, each further
+-- line an event or a fault; where a line has a fault, the answer is the least such line, else it is the
+-- version and the list of events. The format is this project's choice; a value is what serde_json reads.
 use Rattle.std.specs.Prelude.{ℕ, ◌+◌, ◌==◌, Bool, false, ◌&&◌, List, [], ◌∷◌, codes, length, nat_lt, Option, Some, None, option_map, option_and_then, Result, Ok, Err, if◌then◌else◌}
 use Rattle.std.specs.Str.{is_utf8}
 use Rattle.serde_json.specs.Data.{unsigned, Data, number}
@@ -74,46 +74,74 @@ unfoldable pub event_of : Option Data → Result Event LineFault
 event_of None = Err Json
 event_of (Some d) = event_by (option_and_then as_str (get (codes "op") d)) d
 
--- the version's number
-unfoldable pub is_one : Data → Bool
-is_one (number (unsigned n)) = n == 1
-is_one _ = false
+-- a version of the format that is read
+unfoldable pub is_version : ℕ → Bool
+is_version n = n == 1
 
-unfoldable pub is_header : Option Data → Bool
-is_header None = false
-is_header (Some d) = has_just (codes "kqsim" ∷ []) d && required is_one (get (codes "kqsim") d)
+unfoldable pub version_in : Data → Option ℕ
+version_in (number (unsigned n)) = if is_version n then Some n else None
+version_in _ = None
 
--- what a line gives: nothing where it is the header, else its event or its fault
-unfoldable pub event_on : Result Event LineFault → Result (Option Event) LineFault
-event_on (Ok e) = Ok (Some e)
-event_on (Err fault) = Err fault
+-- the version that the header names
+unfoldable pub header_version : Option Data → Option ℕ
+header_version None = None
+header_version (Some d) =
+    if has_just (codes "kqsim" ∷ []) d then option_and_then version_in (get (codes "kqsim") d) else None
 
-unfoldable pub meaning : ℕ → List ℕ → Result (Option Event) LineFault
-meaning line bytes =
+unfoldable pub header_of : Option ℕ → Result ℕ LineFault
+header_of (Some version) = Ok version
+header_of None = Err Header
+
+-- line 1 by itself: its version, or its fault
+unfoldable pub version_on : List ℕ → Result ℕ LineFault
+version_on bytes =
     if nat_lt most_line_bytes (length bytes) then Err TooLong
-    else if line == 1 then (if is_header (json_of bytes) then Ok None else Err Header)
+    else header_of (header_version (json_of bytes))
+
+-- a further line by itself: its event, or its fault
+unfoldable pub record_on : ℕ → List ℕ → Result Event LineFault
+record_on line bytes =
+    if nat_lt most_line_bytes (length bytes) then Err TooLong
     else if nat_lt (most_records + 1) line then Err TooManyRecords
-    else event_on (event_of (json_of bytes))
+    else event_of (json_of bytes)
+
+unfoldable pub fault_of : {A : Type 0} → Result A LineFault → Option LineFault
+fault_of (Ok x) = None
+fault_of (Err fault) = Some fault
+
+-- the fault that a line has by itself
+unfoldable pub fault_on : ℕ → List ℕ → Option LineFault
+fault_on line bytes = if line == 1 then fault_of (version_on bytes) else fault_of (record_on line bytes)
 
 -- ---- the whole
 
+-- the version and the events, or the least line that has a fault
 pub data Outcome : Type 0 where
-  Good : List Event → Outcome
+  Good : ℕ → List Event → Outcome
   Bad : ℕ → LineFault → Outcome
 
-unfoldable pub with_event : Option Event → Outcome → Outcome
-with_event None rest = rest
-with_event (Some e) (Good es) = Good (e ∷ es)
-with_event (Some e) (Bad line fault) = Bad line fault
+unfoldable pub with_event : Event → Outcome → Outcome
+with_event e (Good version es) = Good version (e ∷ es)
+with_event e (Bad line fault) = Bad line fault
 
-unfoldable pub joined : ℕ → Result (Option Event) LineFault → Outcome → Outcome
+unfoldable pub joined : ℕ → Result Event LineFault → Outcome → Outcome
 joined line (Err fault) rest = Bad line fault
-joined line (Ok event) rest = with_event event rest
+joined line (Ok e) rest = with_event e rest
 
-unfoldable pub read_lines : ℕ → List (List ℕ) → Outcome
-read_lines line [] = Good []
-read_lines line (bytes ∷ rest) = joined line (meaning line bytes) (read_lines (line + 1) rest)
+-- the lines of records, from this line on
+unfoldable pub read_records : ℕ → ℕ → List (List ℕ) → Outcome
+read_records version line [] = Good version []
+read_records version line (bytes ∷ rest) = joined line (record_on line bytes) (read_records version (line + 1) rest)
+
+-- what follows the header
+unfoldable pub behind_header : Result ℕ LineFault → List (List ℕ) → Outcome
+behind_header (Err fault) rest = Bad 1 fault
+behind_header (Ok version) rest = read_records version 2 rest
+
+unfoldable pub read_lines : List (List ℕ) → Outcome
+read_lines [] = Bad 1 Header
+read_lines (first ∷ rest) = behind_header (version_on first) rest
 
 -- what the bytes of a trace mean
 unfoldable pub reading : List ℕ → Outcome
-reading bytes = read_lines 1 (lines_of bytes)
+reading bytes = read_lines (lines_of bytes)

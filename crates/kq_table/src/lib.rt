@@ -4,6 +4,10 @@
 mod keyed;
 mod place;
 mod table;
+mod target_index;
+mod watch;
 
 pub use keyed::Keyed;
 pub use table::Table;
+pub use target_index::TargetIndex;
+pub use watch::Watch;

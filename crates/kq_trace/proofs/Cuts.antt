@@ -38,7 +38,7 @@ some_if true b pieces = ([], pieces, refl)
 some_if false b pieces = some_onto b pieces
 
 -- there is always a piece
-some_piece : (text : List ℕ) → (q : List ℕ) × (qs : List (List ℕ)) × (pieces_of text ≡ q ∷ qs)
+pub some_piece : (text : List ℕ) → (q : List ℕ) × (qs : List (List ℕ)) × (pieces_of text ≡ q ∷ qs)
 unfolding pieces_of
 some_piece [] = ([], [], refl)
 some_piece (b ∷ bs) = some_if (b == 10) b (pieces_of bs)

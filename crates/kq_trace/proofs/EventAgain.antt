@@ -11,7 +11,7 @@ use Rattle.kq_model.specs.declared.filter.Filter.TheVariants.{Read, Write, Vnode
 use Rattle.kq_model.specs.ChangeText.{are_changes, change_list, change_of, change_with, changes_of, extra_width, filter_in, is_change, is_change_list, prepended}
 use Rattle.kq_model.specs.Members.{has_just, i64_in, is_whole, member_count, optional, or_else, required, shaped, u32_in, u64_in, width}
 use Rattle.kq_model.specs.Names.{filter_among, filter_name, filter_named}
-use Rattle.kq_model.specs.Reading.{event_by, event_of, is_header, is_kevent, is_kqueue, is_one, is_proc, kevent_of, kevent_with, kqueue_of, kqueue_with, proc_of, u32_at}
+use Rattle.kq_model.specs.Reading.{event_by, event_of, header_version, is_kevent, is_kqueue, is_proc, is_version, kevent_of, kevent_with, kqueue_of, kqueue_with, proc_of, u32_at, version_in}
 use Rattle.kq_model.specs.Spelling.{change_data, header_data, integer, natural, record_data}
 use Rattle.kq_trace.specs.Again.{FitsChange, FitsChanges, FitsInteger, FitsRecord, HasNamedFlags, HaveNamedFlags, NamesItsFlags}
 use Rattle.kq_trace.proofs.FlagBits.{flags_again}
@@ -87,6 +87,6 @@ event_again (Kqueue pid fd) fits named = rw (whole_natural pid, whole_natural fd
 event_again (Kevent pid fd changes room) fits named =
     rw (whole_natural pid, whole_natural fd, are_changes_again changes named, whole_natural room, u32_again pid fits.0, u32_again fd fits.1, changes_again changes fits.2 named, u32_again room fits.3) refl
 
-pub header_again : is_header (Some (header_data 1)) ≡ true
-unfolding is_header has_just width member_count required is_one header_data natural
+pub header_again : header_version (Some (header_data 1)) ≡ Some 1
+unfolding header_version has_just width member_count version_in is_version header_data natural
 header_again = refl

@@ -7,7 +7,7 @@ use Rattle.std.specs.List.{list_all}
 use Rattle.serde_json.specs.Data.{unsigned, negative, float, Data, null, boolean, number, string, array, object, Members, no_members, member}
 use Rattle.serde_json.specs.Events.{members_len}
 use Rattle.serde_json.specs.Find.{as_number, as_object, as_u64, as_i64}
-use Rattle.kq_model.specs.Reading.{is_one}
+use Rattle.kq_model.specs.Reading.{is_version, version_in}
 use Rattle.kq_model.specs.Members.{has_just, has_member, is_whole, i64_in, u32_in, u64_in, width, member_count}
 
 pub found_u64 : (d : Data) → option_and_then as_u64 (as_number d) ≡ u64_in d
@@ -116,25 +116,28 @@ pub not_just : (names : List (Bor (List ℕ))) (d : Data) → false ≡ list_all
 unfolding has_just
 not_just names d all = rw (← all_at (λ name. name.now) (has_member d) names, ← all) refl
 
-one_or_not : Option ℕ → Bool
-one_or_not None = false
-one_or_not (Some n) = n == 1
+version_of : ℕ → Option ℕ
+version_of n = cond (n == 1) (Some n) None
 
-found_one : (d : Data) → one_or_not (option_and_then as_u64 (as_number d)) ≡ is_one d
-unfolding is_one one_or_not
-found_one null = refl
-found_one (boolean b) = refl
-found_one (number (unsigned n)) = refl
-found_one (number (negative z)) = refl
-found_one (number (float x)) = refl
-found_one (string s) = refl
-found_one (array ds) = refl
-found_one (object ms) = refl
+found_version : (d : Data) → option_and_then version_of (option_and_then as_u64 (as_number d)) ≡ version_in d
+unfolding version_in is_version version_of
+found_version null = refl
+found_version (boolean b) = refl
+found_version (number (unsigned n)) = refl
+found_version (number (negative z)) = refl
+found_version (number (float x)) = refl
+found_version (string s) = refl
+found_version (array ds) = refl
+found_version (object ms) = refl
 
-pub one_there : (d : Data) (n : ℕ) → Some n ≡ option_and_then as_u64 (as_number d) → (n == 1) ≡ is_one d
-unfolding one_or_not
-one_there d n found = ap one_or_not found ∙ found_one d
+pub version_there : (d : Data) (n : ℕ) → Some n ≡ option_and_then as_u64 (as_number d) → n ≡ 1 → Some 1 ≡ version_in d
+unfolding version_of
+version_there d n found one = ap (option_and_then version_of) (ap Some (sym one) ∙ found) ∙ found_version d
 
-pub none_there : (d : Data) → None ≡ option_and_then as_u64 (as_number d) → false ≡ is_one d
-unfolding one_or_not
-none_there d missing = ap one_or_not missing ∙ found_one d
+pub other_there : (d : Data) (n : ℕ) → Some n ≡ option_and_then as_u64 (as_number d) → (n == 1) ≡ false → None ≡ version_in d
+unfolding version_of
+other_there d n found other = ap (λ b. cond b (Some n) None) (sym other) ∙ ap (option_and_then version_of) found ∙ found_version d
+
+pub none_there : (d : Data) → None ≡ option_and_then as_u64 (as_number d) → None ≡ version_in d
+unfolding version_of
+none_there d missing = ap (option_and_then version_of) missing ∙ found_version d

@@ -1,14 +1,12 @@
 pub mod Found
 pub mod Cuts
 pub mod Walk
-pub mod Tables
-pub mod Whole
 pub mod TraceLines
 pub mod ChangeParts
 pub mod FlagBits
-pub mod Feeds
-pub mod Depths
+pub mod Visible
+pub mod ReadsBack
+pub mod LineTexts
 pub mod EventAgain
 pub mod ReadAgain
-pub mod JsonLines
 pub mod LeastFault

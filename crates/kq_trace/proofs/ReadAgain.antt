@@ -1,21 +1,26 @@
 -- Reading the canonical text gives its trace again.
-use Rattle.std.proofs.Common.{◌≡◌, ℕ, zero, suc, ◌+◌, ◌^◌, ◌<◌, ◌≤◌, ◌==◌, Bool, true, false, not, ◌&&◌, List, [], ◌∷◌, ◌++◌, length, take, get_or, Some, Ok, refl, ap, ◌∙◌, append_assoc, subst, add-one, arith}
+use Rattle.std.proofs.Common.{◌≡◌, ℕ, zero, suc, ◌+◌, ◌^◌, ◌<◌, ◌≤◌, ◌==◌, Bool, true, false, not, ◌&&◌, List, [], ◌∷◌, ◌++◌, length, take, get_or, Some, Ok, refl, sym, ap, ◌∙◌, append_assoc, subst, add-one, arith}
 use Rattle.std.proofs.lemmas.Bool.{le-ltb}
-use Rattle.std.proofs.lemmas.Bool.Decides.{nat_tests}
 use Rattle.std.proofs.lemmas.List.{take_all}
 use Rattle.std.specs.Fmt.{digits}
 use Rattle.serde_json.proofs.OnLiterals.{serde_json_on_literals}
 use Rattle.serde_json.specs.Written.{compact_text}
 use Rattle.kq_model.specs.declared.event.Event.{Event}
 use Rattle.kq_model.specs.Lines.{lines_among, lines_of, onto_first, pieces_of, without_empty_end}
-use Rattle.kq_model.specs.Reading.{Good, event_on, is_header, joined, json_of, meaning, read_lines, reading, with_event}
+use Rattle.kq_model.specs.Reading.{Good, behind_header, header_version, joined, json_of, read_lines, read_records, reading, record_on, with_event}
 use Rattle.kq_model.specs.Spelling.{header_data, line_text, natural, record_data, records_text, spelling}
-use Rattle.kq_trace.specs.Again.{ArePlain, AreWritten, CanBeReadAgain, IsPlain, IsWritten}
+use Rattle.kq_trace.specs.Again.{ArePlain, CanBeReadAgain, FitsRecord, IsPlain}
 use Rattle.kq_trace.specs.Rest.{lines_behind}
 use Rattle.kq_trace.proofs.Cuts.{keeps}
 use Rattle.kq_trace.proofs.EventAgain.{event_again, header_again}
-use Rattle.kq_trace.proofs.Feeds.{has_no_feed, header_feed, record_feed}
+use Rattle.kq_trace.proofs.ReadsBack.{header_reads_back, record_reads_back}
+use Rattle.kq_trace.proofs.Visible.{has_no_feed, header_visible, record_visible, visible_no_feed}
 use Rattle.kq_trace.proofs.TraceLines.{right_header}
+
+-- each number of the records is in the range of its type
+abbrev pub FitRecords : List Event → Type 0
+FitRecords [] = Unit {0}
+FitRecords (e ∷ es) = FitsRecord e × FitRecords es
 
 -- ---- lines
 
@@ -42,25 +47,22 @@ line_first line rest clear =
 
 -- ---- records
 
-later_line : (number : ℕ) → 1 < number → (number == 1) ≡ false
-later_line number later = grind (arith, nat_tests)
+record_means : (number : ℕ) (e : Event) → number ≤ 1000001 → FitsRecord e → IsPlain e
+    → record_on number (compact_text (record_data e)) ≡ Ok e
+unfolding record_on
+record_means number e early fits plain =
+    rw (le-ltb (2 ^ 20) (length (compact_text (record_data e))) plain.1, le-ltb 1000001 number early, record_reads_back e fits, event_again e fits plain.0) refl
 
-record_means : (number : ℕ) (e : Event) → 1 < number → number ≤ 1000001 → IsWritten e → IsPlain e
-    → meaning number (compact_text (record_data e)) ≡ Ok (Some e)
-unfolding meaning event_on
-record_means number e later early written plain =
-    rw (le-ltb (2 ^ 20) (length (compact_text (record_data e))) plain.1, later_line number later, le-ltb 1000001 number early, written.text_reads, event_again e written.fits plain.0) refl
-
-records_again : (number : ℕ) (events : List Event) → 1 < number → number + length events ≤ 1000002 → AreWritten events → ArePlain events
-    → read_lines number (lines_behind (records_text events)) ≡ Good events
-unfolding read_lines records_text joined with_event line_text lines_behind pieces_of without_empty_end
-records_again number [] later room written plain = refl
-records_again number (e ∷ es) later room written plain =
+records_again : (version number : ℕ) (events : List Event) → number + length events ≤ 1000002 → FitRecords events → ArePlain events
+    → read_records version number (lines_behind (records_text events)) ≡ Good version events
+unfolding read_records records_text joined with_event line_text lines_behind pieces_of without_empty_end
+records_again version number [] room fits plain = refl
+records_again version number (e ∷ es) room fits plain =
     let early : number ≤ 1000001 = omega arith in
     let room_behind : number + 1 + length es ≤ 1000002 = omega arith in
-    ap (read_lines number) (line_behind (compact_text (record_data e)) (records_text es) (record_feed e written.0.fits))
-    ∙ ap (λ m. joined number m (read_lines (number + 1) (lines_behind (records_text es)))) (record_means number e later early written.0 plain.0)
-    ∙ ap (with_event (Some e)) (records_again (number + 1) es (omega arith) room_behind written.1 plain.1)
+    ap (read_records version number) (line_behind (compact_text (record_data e)) (records_text es) (visible_no_feed (compact_text (record_data e)) (record_visible e fits.0)))
+    ∙ ap (λ m. joined number m (read_records version (number + 1) (lines_behind (records_text es)))) (record_means number e early fits.0 plain.0)
+    ∙ ap (with_event e) (records_again version (number + 1) es room_behind fits.1 plain.1)
 
 -- ---- the whole
 
@@ -68,29 +70,28 @@ header_is_short : length (compact_text (header_data 1)) ≤ 2 ^ 20
 unfolding header_data natural digits serde_json_on_literals
 header_is_short = omega arith
 
-pub read_again : (version : ℕ) (events : List Event) → version ≡ 1
-    → json_of (compact_text (header_data version)) ≡ Some (header_data version) → AreWritten events → CanBeReadAgain events
-    → reading (spelling version events) ≡ Good events
-unfolding reading read_lines spelling line_text joined with_event
-read_again version events one header written can =
-    let text_header : json_of (compact_text (header_data 1)) ≡ Some (header_data 1) = subst (λ v. json_of (compact_text (header_data v)) ≡ Some (header_data v)) one header in
+pub read_again : (version : ℕ) (events : List Event) → version ≡ 1 → FitRecords events → CanBeReadAgain events
+    → reading (spelling version events) ≡ Good version events
+unfolding reading read_lines behind_header spelling line_text
+read_again version events one fits can =
     ap (λ v. reading (spelling v events)) one
-    ∙ ap (read_lines 1) (line_first (compact_text (header_data 1)) (records_text events) header_feed)
-    ∙ ap (λ m. joined 1 m (read_lines 2 (lines_behind (records_text events))))
-    (right_header (compact_text (header_data 1)) header_is_short (ap is_header text_header ∙ header_again))
-    ∙ records_again 2 events (omega arith) (omega (arith, can.count)) written can.plain
+    ∙ ap read_lines (line_first (compact_text (header_data 1)) (records_text events) (visible_no_feed (compact_text (header_data 1)) (header_visible 1 (omega arith))))
+    ∙ ap (λ m. behind_header m (lines_behind (records_text events)))
+    (right_header (compact_text (header_data 1)) 1 header_is_short (sym (ap header_version (header_reads_back 1 (omega arith)) ∙ header_again)))
+    ∙ records_again 1 2 events (omega (arith, can.count)) fits can.plain
+    ∙ ap (λ v. Good v events) (sym one)
 
 -- ---- one event more
 
 more : (events : List Event) (i : ℕ) (event : Event) → i < length events → event ≡ get_or events i event
-    → AreWritten (take i events) → IsWritten event → AreWritten (take (suc i) events)
+    → FitRecords (take i events) → FitsRecord event → FitRecords (take (suc i) events)
 more [] i event lt is so_far new = absurd (omega arith)
-more (e ∷ es) zero event lt is so_far new = (subst IsWritten is new, tt)
+more (e ∷ es) zero event lt is so_far new = (subst FitsRecord is new, tt)
 more (e ∷ es) (suc i) event lt is so_far new = (so_far.0, more es i event (omega arith) is so_far.1 new)
 
-pub written_more : (events : List Event) (i : ℕ) (event : Event) → i < length events → event ≡ get_or events i event
-    → AreWritten (take i events) → IsWritten event → AreWritten (take (i + 1) events)
-written_more events i event lt is so_far new = rw (add-one i) (more events i event lt is so_far new)
+pub fits_more : (events : List Event) (i : ℕ) (event : Event) → i < length events → event ≡ get_or events i event
+    → FitRecords (take i events) → FitsRecord event → FitRecords (take (i + 1) events)
+fits_more events i event lt is so_far new = rw (add-one i) (more events i event lt is so_far new)
 
-pub written_all : (events : List Event) (i : ℕ) → length events ≤ i → AreWritten (take i events) → AreWritten events
-written_all events i end so_far = subst AreWritten (take_all i events end) so_far
+pub fits_all : (events : List Event) (i : ℕ) → length events ≤ i → FitRecords (take i events) → FitRecords events
+fits_all events i end so_far = subst FitRecords (take_all i events end) so_far

@@ -1,15 +1,13 @@
 -- What is said of reading the canonical text of a trace again.
-use Rattle.std.specs.Prelude.{◌≡◌, ◌^◌, ◌<◌, ◌≤◌, ℤ, pos, negsuc, List, [], ◌∷◌, length, Some}
+use Rattle.std.specs.Prelude.{◌≡◌, ◌^◌, ◌<◌, ◌≤◌, ℤ, pos, negsuc, List, [], ◌∷◌, length}
 use Rattle.std.specs.Int.RustNames.{bit_and}
 use Rattle.bitflags.specs.Sets.{known_bits}
-use Rattle.serde_json.specs.Data.{Data}
 use Rattle.serde_json.specs.Written.{compact_text}
 use Rattle.kq_model.specs.declared.change.Change.{Change}
 use Rattle.kq_model.specs.declared.event.Event.{Event}
 use Rattle.kq_model.specs.declared.event.Event.TheVariants.{Proc, Kqueue, Kevent}
 use Rattle.kq_model.specs.FlagNames.{flag_table}
 use Rattle.kq_model.specs.Limits.{most_line_bytes, most_records}
-use Rattle.kq_model.specs.Reading.{json_of}
 use Rattle.kq_model.specs.Spelling.{record_data}
 
 -- ---- what a trace has to keep to be read again
@@ -60,18 +58,3 @@ abbrev pub FitsRecord : Event → Type 0
 FitsRecord (Proc pid) = pid < 2 ^ 32
 FitsRecord (Kqueue pid fd) = (pid < 2 ^ 32) × (fd < 2 ^ 32)
 FitsRecord (Kevent pid fd changes room) = (pid < 2 ^ 32) × (fd < 2 ^ 32) × FitsChanges changes × (room < 2 ^ 32)
-
--- ---- what writing it shows of an event
-
--- the compact text of a value is read as the value
-abbrev pub ReadsBack : Data → Type 0
-ReadsBack d = json_of (compact_text d) ≡ Some d
-
--- its numbers are in range, and its text is read as its value
-pub record IsWritten (e : Event) : Type 0 where
-  pub fits : FitsRecord e
-  pub text_reads : ReadsBack (record_data e)
-
-abbrev pub AreWritten : List Event → Type 0
-AreWritten [] = Unit {0}
-AreWritten (e ∷ es) = IsWritten e × AreWritten es

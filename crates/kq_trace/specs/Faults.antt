@@ -1,8 +1,8 @@
 -- What a refusal of a text says.
-use Rattle.std.specs.Prelude.{◌≡◌, ℕ, ◌+◌, ◌<◌, List, slice_get, Some, IsOk, Err}
+use Rattle.std.specs.Prelude.{◌≡◌, ℕ, ◌+◌, ◌<◌, List, slice_get, Some, None}
 use Rattle.kq_model.specs.declared.line_fault.LineFault.{LineFault}
 use Rattle.kq_model.specs.Lines.{lines_of}
-use Rattle.kq_model.specs.Reading.{Bad as BadLine, meaning, reading}
+use Rattle.kq_model.specs.Reading.{Bad as BadLine, fault_on, reading}
 use Rattle.kq_trace.specs.declared.fault.TraceError.{TraceError}
 use Rattle.kq_trace.specs.declared.fault.TraceError.TheVariants.{Memory, Bad}
 
@@ -17,8 +17,8 @@ pub record IsFirstBad (first : ℕ) (lines : List (List ℕ)) (line : ℕ) (faul
   pub counted : line ≡ first + place
   pub text : List ℕ
   pub there : slice_get lines place ≡ Some text
-  pub faulty : meaning line text ≡ Err fault
-  pub earlier : (k : ℕ) (before : List ℕ) → k < place → slice_get lines k ≡ Some before → IsOk (meaning (first + k) before)
+  pub faulty : fault_on line text ≡ Some fault
+  pub earlier : (k : ℕ) (before : List ℕ) → k < place → slice_get lines k ≡ Some before → fault_on (first + k) before ≡ None
 
 abbrev pub IsLeastFault : List ℕ → TraceError → Type 0
 IsLeastFault bytes Memory = Unit {0}

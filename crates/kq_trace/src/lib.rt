@@ -5,14 +5,14 @@ mod change;
 mod changes;
 mod fault;
 mod header;
-mod json;
 mod line;
 mod member;
 mod read;
 mod record;
 mod spell;
+mod values;
 mod write;
 
 pub use fault::TraceError;
-pub use read::read_trace;
+pub use read::{read_trace, read_trace_by_values};
 pub use write::write_trace;

@@ -1,194 +1,129 @@
-//! The JSON values of a trace's lines, as its canonical text has them.
+//! The lines of a trace's canonical text, put together piece by piece.
 
-ghost use Rattle.std.specs.Prelude.{◌≡◌, ◌<◌, ◌^◌, IfOk, OnOk};
-ghost use Rattle.serde_json.specs.Data.{put, string};
-ghost use Rattle.serde_json.specs.View.{members_view, view};
-ghost use Rattle.kq_model.specs.Names.{filter_name};
-ghost use Rattle.kq_model.specs.Spelling.{change_data, flags_data, header_data, integer, natural, record_data};
-ghost use Rattle.kq_trace.specs.Again.{FitsChange, FitsChanges, FitsInteger, FitsRecord};
-ghost use Rattle.kq_trace.specs.Texts.{changes_data};
+ghost use Rattle.std.specs.Prelude.{◌++◌, codes, false, OnOk};
+ghost use Rattle.serde_json.specs.Written.{comma_if, compact_text};
+ghost use Rattle.kq_model.specs.Spelling.{change_data, header_data, line_text, record_data};
+ghost use Rattle.kq_text.specs.Adds.{Adds};
+ghost use Rattle.kq_trace.specs.Again.{FitsChange, FitsChanges, FitsRecord};
+ghost use Rattle.kq_trace.specs.Texts.{changes_text};
 
-use bitflags::Flags;
-use kq_model::{Change, EvFlags, Event, Filter, Memory};
-use serde_json::{Map, Value, json};
-use std::alloc::Global;
+use kq_model::{Change, Event, Memory};
+use kq_text::{put, put_flags, put_i64, put_u32, put_u64};
 
-/// The name of a filter.
-fn filter_name(filter: Filter) -> &'static str
-    ensures { result.now ≡ filter_name filter }
-{
-    match filter {
-        Filter::Read => "READ",
-        Filter::Write => "WRITE",
-        Filter::Vnode => "VNODE",
-        Filter::Proc => "PROC",
-        Filter::Signal => "SIGNAL",
-        Filter::Timer => "TIMER",
-        Filter::User => "USER",
-        Filter::Aio => "AIO",
-        Filter::Lio => "LIO",
-        Filter::Fs => "FS",
-        Filter::Procdesc => "PROCDESC",
-        Filter::Sendfile => "SENDFILE",
-        Filter::Empty => "EMPTY",
-    }
-}
-
-/// A name as a JSON string.
-fn name_data(alloc: Global, name: &str) -> Result<Value, Memory>
-    ensures { IfOk result (λ value. view value ≡ string name.now) }
-{
-    json!(in alloc; name).map_err(|_| Memory)
-}
-
-/// A number of 32 bits.
-#[tactic(auto, unfolding(kq_model::specs::Spelling::natural))]
-fn u32_data(number: u32) -> Value
-    ensures value { view result ≡ natural number }
-    ensures fits { number < 2 ^ 32 }
-{
-    Value::from(number)
-}
-
-/// A number of 64 bits.
-#[tactic(auto, unfolding(kq_model::specs::Spelling::natural))]
-fn u64_data(number: u64) -> Value
-    ensures value { view result ≡ natural number }
-    ensures fits { number < 2 ^ 64 }
-{
-    Value::from(number)
-}
-
-/// A number of 64 bits with a sign.
-#[tactic(auto, unfolding(kq_model::specs::Spelling::integer))]
-fn i64_data(number: i64) -> Value
-    ensures value { view result ≡ integer number }
-    ensures fits { FitsInteger number }
-{
-    Value::from(number)
-}
-
-/// Adds a member to those of an object.
-fn add(
-    alloc: Global,
-    members: &mut Map<String, Value>,
-    name: &str,
-    value: Value,
-) -> Result<(), Memory>
-    ensures { OnOk result (members_view members.new.entries
-        ≡ put name.now (view value) (members_view members.old.entries)) }
-{
-    serde_json::put(members, alloc, name, value).map_err(|_| Memory)
-}
-
-/// The names of the flags that are set, each once and in the order of their table.
-fn flags_data(alloc: Global, flags: EvFlags) -> Result<Value, Memory>
-    ensures { IfOk result (λ value. view value ≡ flags_data flags) }
-{
-    let table = EvFlags::flags();
-    let mut names = Vec::new(alloc);
-    for flag in table {
-        if flags.contains(flag.value) {
-            names
-                .push(name_data(alloc, flag.name)?)
-                .map_err(|_| Memory)?;
-        }
-    }
-    Ok(Value::Array(names))
-}
-
-/// A change with all its members.
-#[tactic(auto, unfolding(kq_model::specs::Spelling::change_data, kq_model::specs::Spelling::natural, kq_model::specs::Spelling::integer))]
-fn change_data(alloc: Global, change: &Change) -> Result<Value, Memory>
-    ensures value { IfOk result (λ value. view value ≡ change_data change.now) }
+/// Adds a change with all its members.
+fn put_change(out: &mut Vec<u8>, change: &Change) -> Result<(), Memory>
+    ensures text { OnOk result (Adds out.old.items (compact_text (change_data change.now)) out.new.items) }
     ensures fits { OnOk result (FitsChange change.now) }
 {
-    let flags = flags_data(alloc, change.flags)?;
-    let filter = name_data(alloc, filter_name(change.filter))?;
-    let mut members = Map::new(alloc);
-    add(alloc, &mut members, "data", i64_data(change.datum))?;
-    add(alloc, &mut members, "fflags", u32_data(change.fflags))?;
-    add(alloc, &mut members, "filter", filter)?;
-    add(alloc, &mut members, "flags", flags)?;
-    add(alloc, &mut members, "ident", u64_data(change.ident))?;
-    add(alloc, &mut members, "udata", u64_data(change.udata))?;
-    Ok(Value::Object(members))
+    put(out, "{\"data\":")?;
+    put_i64(out, change.datum)?;
+    put(out, ",\"fflags\":")?;
+    put_u32(out, change.fflags)?;
+    put(out, ",\"filter\":\"")?;
+    put(out, change.filter.name())?;
+    put(out, "\",\"flags\":")?;
+    put_flags(out, change.flags)?;
+    put(out, ",\"ident\":")?;
+    put_u64(out, change.ident)?;
+    put(out, ",\"udata\":")?;
+    put_u64(out, change.udata)?;
+    put(out, "}")
 }
 
-/// The line of the header.
-#[tactic(auto, unfolding(kq_model::specs::Spelling::header_data, kq_model::specs::Spelling::natural))]
-pub fn header_data(alloc: Global, version: u32) -> Result<Value, Memory>
-    ensures { IfOk result (λ value. view value ≡ header_data version) }
+/// Adds a change, behind a comma where one stands before.
+fn put_item(out: &mut Vec<u8>, change: &Change, is_later: bool) -> Result<(), Memory>
+    ensures text { OnOk result
+        (Adds out.old.items (comma_if is_later ++ compact_text (change_data change.now)) out.new.items) }
+    ensures fits { OnOk result (FitsChange change.now) }
 {
-    json!(in alloc; {"kqsim": version}).map_err(|_| Memory)
+    put(out, if is_later { "," } else { "" })?;
+    put_change(out, change)
 }
 
-#[tactic(auto, unfolding(kq_model::specs::Spelling::record_data, kq_model::specs::Spelling::natural))]
-fn proc_data(alloc: Global, pid: u32) -> Result<Value, Memory>
-    ensures value { IfOk result (λ value. view value ≡ record_data (Event.Proc pid)) }
-    ensures fits { FitsRecord (Event.Proc pid) }
-{
-    json!(in alloc; {"op": "proc", "pid": pid}).map_err(|_| Memory)
-}
-
-#[tactic(auto, unfolding(kq_model::specs::Spelling::record_data, kq_model::specs::Spelling::natural))]
-fn kqueue_data(alloc: Global, pid: u32, fd: u32) -> Result<Value, Memory>
-    ensures value { IfOk result (λ value. view value ≡ record_data (Event.Kqueue pid fd)) }
-    ensures fits { FitsRecord (Event.Kqueue pid fd) }
-{
-    json!(in alloc; {"fd": fd, "op": "kqueue", "pid": pid}).map_err(|_| Memory)
-}
-
-/// The list of changes.
-fn changes_data(alloc: Global, changes: &[Change]) -> Result<Value, Memory>
-    ensures value { IfOk result (λ value. view value ≡ changes_data changes.now) }
+/// Adds the changes of a list behind its bracket, and the bracket that closes it.
+fn put_changes(out: &mut Vec<u8>, changes: &[Change]) -> Result<(), Memory>
+    ensures text { OnOk result (Adds out.old.items (changes_text false changes.now) out.new.items) }
     ensures fits { OnOk result (FitsChanges changes.now) }
 {
-    let mut values = Vec::with_capacity(alloc, changes.len()).map_err(|_| Memory)?;
+    let mut is_later = false;
     for change in changes {
-        values
-            .push(change_data(alloc, change)?)
-            .map_err(|_| Memory)?;
+        put_item(out, change, is_later)?;
+        is_later = true;
     }
-    Ok(Value::Array(values))
+    put(out, "]")
 }
 
-#[tactic(auto, unfolding(kq_model::specs::Spelling::record_data, kq_model::specs::Spelling::natural, crate::specs::Texts::changes_data))]
-fn kevent_data(
-    alloc: Global,
+/// Adds the end of a record, and of its line.
+fn end_line(out: &mut Vec<u8>) -> Result<(), Memory>
+    ensures { OnOk result (Adds out.old.items (codes "}\n") out.new.items) }
+{
+    put(out, "}\n")
+}
+
+fn put_proc(out: &mut Vec<u8>, pid: u32) -> Result<(), Memory>
+    ensures text { OnOk result (Adds out.old.items (line_text (record_data (Event.Proc pid))) out.new.items) }
+    ensures fits { OnOk result (FitsRecord (Event.Proc pid)) }
+{
+    put(out, "{\"op\":\"proc\",\"pid\":")?;
+    put_u32(out, pid)?;
+    end_line(out)
+}
+
+fn put_kqueue(out: &mut Vec<u8>, pid: u32, fd: u32) -> Result<(), Memory>
+    ensures text { OnOk result (Adds out.old.items (line_text (record_data (Event.Kqueue pid fd))) out.new.items) }
+    ensures fits { OnOk result (FitsRecord (Event.Kqueue pid fd)) }
+{
+    put(out, "{\"fd\":")?;
+    put_u32(out, fd)?;
+    put(out, ",\"op\":\"kqueue\",\"pid\":")?;
+    put_u32(out, pid)?;
+    end_line(out)
+}
+
+fn put_kevent(
+    out: &mut Vec<u8>,
     pid: u32,
     fd: u32,
     changes: &[Change],
     room: u32,
-) -> Result<Value, Memory>
-    ensures value { IfOk result (λ value. view value
-        ≡ record_data (Event.Kevent pid fd changes.now room)) }
+) -> Result<(), Memory>
+    ensures text { OnOk result
+        (Adds out.old.items (line_text (record_data (Event.Kevent pid fd changes.now room))) out.new.items) }
     ensures fits { OnOk result (FitsRecord (Event.Kevent pid fd changes.now room)) }
 {
-    let changes = changes_data(alloc, changes)?;
-    let op = name_data(alloc, "kevent")?;
-    let mut members = Map::new(alloc);
-    add(alloc, &mut members, "changes", changes)?;
-    add(alloc, &mut members, "fd", u32_data(fd))?;
-    add(alloc, &mut members, "op", op)?;
-    add(alloc, &mut members, "pid", u32_data(pid))?;
-    add(alloc, &mut members, "room", u32_data(room))?;
-    Ok(Value::Object(members))
+    put(out, "{\"changes\":[")?;
+    put_changes(out, changes)?;
+    put(out, ",\"fd\":")?;
+    put_u32(out, fd)?;
+    put(out, ",\"op\":\"kevent\",\"pid\":")?;
+    put_u32(out, pid)?;
+    put(out, ",\"room\":")?;
+    put_u32(out, room)?;
+    end_line(out)
 }
 
-/// The line of a record.
-pub fn record_data(alloc: Global, event: &Event) -> Result<Value, Memory>
-    ensures value { IfOk result (λ value. view value ≡ record_data event.now) }
+/// Adds the line of a record.
+pub fn put_record(out: &mut Vec<u8>, event: &Event) -> Result<(), Memory>
+    ensures text { OnOk result (Adds out.old.items (line_text (record_data event.now)) out.new.items) }
     ensures fits { OnOk result (FitsRecord event.now) }
 {
     match event {
-        Event::Proc { pid } => proc_data(alloc, *pid),
-        Event::Kqueue { pid, fd } => kqueue_data(alloc, *pid, *fd),
+        Event::Proc { pid } => put_proc(out, *pid),
+        Event::Kqueue { pid, fd } => put_kqueue(out, *pid, *fd),
         Event::Kevent {
             pid,
             fd,
             changes,
             room,
-        } => kevent_data(alloc, *pid, *fd, changes.as_slice(), *room),
+        } => put_kevent(out, *pid, *fd, changes.as_slice(), *room),
     }
+}
+
+/// Adds the header's line.
+pub fn put_header(out: &mut Vec<u8>, version: u32) -> Result<(), Memory>
+    ensures { OnOk result (Adds out.old.items (line_text (header_data version)) out.new.items) }
+{
+    put(out, "{\"kqsim\":")?;
+    put_u32(out, version)?;
+    end_line(out)
 }

@@ -11,6 +11,6 @@ returns-clause-report g c =
     let run : c.in_ok-rows.rows.items ≡ rows trace.version trace.events = search rules in
     let written : IfOk c.map_err-2.result (λ text. text.items ≡ report c.as_slice.result.now c.len-records.result) = search rules in
     IfOk-weaker c.map_err-2.result _ _ (λ text is.
-    whole c.args.bytes.now text.items trace.events trace.version c.len-records.result c.as_slice.result.now c.in-Ok.ensures.good trace.version_one
+    whole c.args.bytes.now text.items trace.version trace.events c.len-records.result c.as_slice.result.now c.in-Ok.ensures.good
     (c.as_slice.ensures.value ∙ run) c.len-records.ensures is)
     written

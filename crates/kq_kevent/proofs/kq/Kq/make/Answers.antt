@@ -14,7 +14,8 @@ use Rattle.kq_kevent.proofs.kq.Kq.make.Goals as goal
 pub attach-requires-clause-absent : goal.attach-requires-clause-absent
 attach-requires-clause-absent g c =
     let by = caller (g.V.Views.sees c.args.views.now) c.args.self.now in
-    let is = made-by by c.args.change.now c.first-knote.result c.attend.new.knote (c.first-knote.ensures by) c.attend.ensures in
+    let is = made-by by c.args.change.now c.first-knote.result c.attend.new.knote
+    (c.first-knote.ensures by) c.attend.ensures in
     ap (λ (k : Knote). find_knote k.key c.self.inside.knotes.knotes) is
     ∙ ap (λ key. find_knote key c.self.inside.knotes.knotes) (made-key tallying by c.args.change.now)
     ∙ ap (λ (v : OwnedKqueue). find_knote (key_of c.args.change.now) v.kq.knotes) c.self.view_is ∙ c.requires.absent
@@ -22,25 +23,44 @@ attach-requires-clause-absent g c =
 pub place-requires : goal.place-requires
 place-requires g c = λ _.
     let kq : Kqueue = record { knotes = c.self.inside.knotes.knotes; queue = c.self.inside.queue.keys } in
-    omega (arith, length-queue kq c.self.invariant.sound, c.self.invariant.capacity, ap (λ (v : OwnedKqueue). v.room) c.self.view_is, c.requires.room)
+    omega (
+      arith,
+      length-queue kq c.self.invariant.sound,
+      c.self.invariant.capacity,
+      ap
+          (λ (v : OwnedKqueue). v.room) c.self.view_is,
+      c.requires.room,
+    )
 
 pub invariant_of-self : goal.invariant_of-self
 invariant_of-self g c =
     let by = caller (g.V.Views.sees c.args.views.now) c.args.self.now in
     let kq : Kqueue = record { knotes = c.self.inside.knotes.knotes; queue = c.self.inside.queue.keys } in
     let k = c.attend.new.knote in
-    let is = made-by by c.args.change.now c.first-knote.result c.attend.new.knote (c.first-knote.ensures by) c.attend.ensures in
-    let absent = ap (λ (k : Knote). find_knote k.key kq.knotes) is ∙ ap (λ key. find_knote key kq.knotes) (made-key tallying by c.args.change.now)
+    let is = made-by by c.args.change.now c.first-knote.result c.attend.new.knote
+    (c.first-knote.ensures by) c.attend.ensures in
+    let absent = ap (λ (k : Knote). find_knote k.key kq.knotes) is ∙ ap (λ key. find_knote key kq.knotes)
+    (made-key tallying by c.args.change.now)
     ∙ ap (λ (v : OwnedKqueue). find_knote (key_of c.args.change.now) v.kq.knotes) c.self.view_is ∙ c.requires.absent in
     record {
-      sound = IsSound-at c.attach.new.self.knotes c.place.new.self.keys (with_made k kq) c.attach.ensures.knotes c.place.ensures.keys (IsSound-made kq k c.self.invariant.sound absent);
-      capacity = omega (arith, ap (length {A = Knote}) c.attach.ensures.knotes, length_push kq.knotes k, c.place.ensures.capacity, c.attach.ensures.room, c.self.invariant.capacity);
+      sound = IsSound-at c.attach.new.self.knotes c.place.new.self.keys (with_made k kq) c.attach.ensures.knotes
+          c.place.ensures.keys (IsSound-made kq k c.self.invariant.sound absent);
+      capacity = omega (
+        arith,
+        ap (length {A = Knote}) c.attach.ensures.knotes,
+        length_push kq.knotes k,
+        c.place.ensures.capacity,
+        c.attach.ensures.room,
+        c.self.invariant.capacity,
+      );
     }
 
 pub returns-clause-kq : goal.returns-clause-kq
 returns-clause-kq g c =
     let by = caller (g.V.Views.sees c.args.views.now) c.args.self.now in
     let kq : Kqueue = record { knotes = c.self.inside.knotes.knotes; queue = c.self.inside.queue.keys } in
-    same_kqueue c.attach.new.self.knotes c.place.new.self.keys (with_made c.attend.new.knote kq) c.attach.ensures.knotes c.place.ensures.keys
-    ∙ ap (λ k. with_made k kq) (made-by by c.args.change.now c.first-knote.result c.attend.new.knote (c.first-knote.ensures by) c.attend.ensures)
+    same_kqueue c.attach.new.self.knotes c.place.new.self.keys
+    (with_made c.attend.new.knote kq) c.attach.ensures.knotes c.place.ensures.keys
+    ∙ ap (λ k. with_made k kq) (made-by by c.args.change.now c.first-knote.result c.attend.new.knote
+    (c.first-knote.ensures by) c.attend.ensures)
     ∙ ap (λ (v : OwnedKqueue). with_made (made by c.args.change.now) v.kq) c.self.view_is

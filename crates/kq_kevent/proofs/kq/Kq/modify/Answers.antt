@@ -19,9 +19,17 @@ place-requires g c = λ absent.
     let kq : Kqueue = record { knotes = c.self.inside.knotes.knotes; queue = c.self.inside.queue.keys } in
     let change = c.args.change.now in
     let found = ap (λ (v : OwnedKqueue). find_knote (key_of change) v.kq.knotes) c.self.view_is ∙ c.requires.present in
-    let is = modified-by by change c.args.present c.replace.new.self c.control.new.self c.switch.new.self c.attend.new.knote c.requires.user c.replace.ensures c.control.ensures c.switch.ensures c.attend.ensures in
-    let same : c.attend.new.knote.key ≡ key_of change = ap (λ (k : Knote). k.key) is ∙ modified-key tallying by change c.args.present ∙ sym (find_knote-key (key_of change) kq.knotes c.args.present found) in
-    omega (arith, length-queue_besides kq c.self.invariant.sound c.attend.new.knote.key c.args.present (ap (λ key. find_knote key kq.knotes) same ∙ found) absent, c.self.invariant.capacity)
+    let is = modified-by by change c.args.present c.replace.new.self c.control.new.self c.switch.new.self
+    c.attend.new.knote c.requires.user c.replace.ensures c.control.ensures c.switch.ensures c.attend.ensures in
+    let same : c.attend.new.knote.key ≡ key_of change = ap (λ (k : Knote). k.key) is
+    ∙ modified-key tallying by change c.args.present
+    ∙ sym (find_knote-key (key_of change) kq.knotes c.args.present found) in
+    omega (
+      arith,
+      length-queue_besides kq c.self.invariant.sound c.attend.new.knote.key c.args.present
+          (ap (λ key. find_knote key kq.knotes) same ∙ found) absent,
+      c.self.invariant.capacity,
+    )
 
 pub invariant_of-self : goal.invariant_of-self
 invariant_of-self g c =
@@ -30,13 +38,26 @@ invariant_of-self g c =
     let change = c.args.change.now in
     let k = c.attend.new.knote in
     let found = ap (λ (v : OwnedKqueue). find_knote (key_of change) v.kq.knotes) c.self.view_is ∙ c.requires.present in
-    let is = modified-by by change c.args.present c.replace.new.self c.control.new.self c.switch.new.self c.attend.new.knote c.requires.user c.replace.ensures c.control.ensures c.switch.ensures c.attend.ensures in
-    let same : k.key ≡ key_of change = ap (λ (k : Knote). k.key) is ∙ modified-key tallying by change c.args.present ∙ sym (find_knote-key (key_of change) kq.knotes c.args.present found) in
+    let is = modified-by by change c.args.present c.replace.new.self c.control.new.self c.switch.new.self
+    c.attend.new.knote c.requires.user c.replace.ensures c.control.ensures c.switch.ensures c.attend.ensures in
+    let same : k.key ≡ key_of change = ap (λ (k : Knote). k.key) is ∙ modified-key tallying by change c.args.present
+    ∙ sym (find_knote-key (key_of change) kq.knotes c.args.present found) in
     record {
-      sound = IsSound-at c.modify.new.self.knotes c.place.new.self.keys (with_modified change k kq) c.modify.ensures.knotes (c.place.ensures.keys ∙ modified-queue change k kq c.requires.user)
-          (IsSound-modified kq change k c.args.present c.self.invariant.sound same (ap (λ key. find_knote key kq.knotes) same ∙ found)
-          (λ stays idle. modified-active by change c.args.present stays (ap (λ (k : Knote). k.active) (sym is) ∙ idle)));
-      capacity = omega (arith, ap (length {A = Knote}) c.modify.ensures.knotes, length-with_knote k kq.knotes, c.modify.ensures.room, c.place.ensures.capacity, c.self.invariant.capacity);
+      sound = IsSound-at c.modify.new.self.knotes c.place.new.self.keys
+          (with_modified change k kq) c.modify.ensures.knotes
+          (c.place.ensures.keys ∙ modified-queue change k kq c.requires.user)
+          (IsSound-modified kq change k c.args.present c.self.invariant.sound same
+          (ap (λ key. find_knote key kq.knotes) same ∙ found)
+          (λ stays idle. modified-active by change c.args.present stays (ap (λ (k : Knote). k.active) (sym is)
+          ∙ idle)));
+      capacity = omega (
+        arith,
+        ap (length {A = Knote}) c.modify.ensures.knotes,
+        length-with_knote k kq.knotes,
+        c.modify.ensures.room,
+        c.place.ensures.capacity,
+        c.self.invariant.capacity,
+      );
     }
 
 pub returns-clause-kq : goal.returns-clause-kq
@@ -45,7 +66,9 @@ returns-clause-kq g c =
     let kq : Kqueue = record { knotes = c.self.inside.knotes.knotes; queue = c.self.inside.queue.keys } in
     let change = c.args.change.now in
     let k = c.attend.new.knote in
-    let is = modified-by by change c.args.present c.replace.new.self c.control.new.self c.switch.new.self c.attend.new.knote c.requires.user c.replace.ensures c.control.ensures c.switch.ensures c.attend.ensures in
-    same_kqueue c.modify.new.self.knotes c.place.new.self.keys (with_modified change k kq) c.modify.ensures.knotes (c.place.ensures.keys ∙ modified-queue change k kq c.requires.user)
+    let is = modified-by by change c.args.present c.replace.new.self c.control.new.self c.switch.new.self
+    c.attend.new.knote c.requires.user c.replace.ensures c.control.ensures c.switch.ensures c.attend.ensures in
+    same_kqueue c.modify.new.self.knotes c.place.new.self.keys (with_modified change k kq) c.modify.ensures.knotes
+    (c.place.ensures.keys ∙ modified-queue change k kq c.requires.user)
     ∙ ap (λ k. with_modified change k kq) is
     ∙ ap (λ (v : OwnedKqueue). with_modified change (modified by change c.args.present) v.kq) c.self.view_is

@@ -7,6 +7,7 @@ use Rattle.kq_kevent.proofs.kq.Kq.new.Goals as goal
 
 pub invariant_of-result : goal.invariant_of-result
 invariant_of-result c = record {
-  sound = IsSound-at c.new.result.knotes c.new-2.result.keys empty_kqueue c.new.ensures.knotes c.new-2.ensures IsSound-empty;
+  sound = IsSound-at c.new.result.knotes c.new-2.result.keys empty_kqueue c.new.ensures.knotes c.new-2.ensures
+      IsSound-empty;
   capacity = omega (arith, ap (length {A = Knote}) c.new.ensures.knotes, c.new.ensures.room);
 }

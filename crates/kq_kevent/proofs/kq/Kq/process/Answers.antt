@@ -26,9 +26,12 @@ returns-then-len-room-clause-processed g c =
     let views = g.V.Views.sees c.args.views.now in
     let first = caller views c.args.self.now in
     let change = get_or c.args.changes.now c.loop-change.change-index no_change in
-    let same = registered_by (caller views c.loop-change.self) first change c.loop-change.self.kq (same_caller views c.loop-change.self c.args.self.now c.loop-change.invariant.owner c.loop-change.invariant.version) in
+    let same = registered_by (caller views c.loop-change.self) first change c.loop-change.self.kq
+    (same_caller views c.loop-change.self c.args.self.now c.loop-change.invariant.owner
+    c.loop-change.invariant.version) in
     c.loop-change.invariant.so_far
-    ∙ process-ends first c.args.room c.args.changes.now c.loop-change.change-index no_change c.loop-change.placed.items c.loop-change.self.kq c.apply-error.new.self.kq c.apply-error.result
+    ∙ process-ends first c.args.room c.args.changes.now c.loop-change.change-index no_change
+    c.loop-change.placed.items c.loop-change.self.kq c.apply-error.new.self.kq c.apply-error.result
     (omega arith)
     (c.apply-error.ensures.kq ∙ ap (λ (r : Registered). r.kq) same)
     (c.apply-error.ensures.error ∙ ap (λ (r : Registered). r.error) same)
@@ -39,7 +42,12 @@ pub returns-then-len-room-clause-queue : goal.returns-then-len-room-clause-queue
 returns-then-len-room-clause-queue g c =
     let views = g.V.Views.sees c.args.views.now in
     let change = get_or c.args.changes.now c.loop-change.change-index no_change in
-    omega (arith, length-register (caller views c.loop-change.self) change c.loop-change.self.kq, ap (λ (q : Kqueue). length q.queue) c.apply-error.ensures.kq)
+    omega (
+      arith,
+      length-register (caller views c.loop-change.self) change c.loop-change.self.kq,
+      ap
+          (λ (q : Kqueue). length q.queue) c.apply-error.ensures.kq,
+    )
 
 pub loop-change-preserved : goal.loop-change-preserved
 loop-change-preserved g c =
@@ -50,18 +58,25 @@ loop-change-preserved g c =
     let before = c.loop-change.placed.items in
     let next = c.apply-error.new.self.kq in
     let start : Processed = process first c.args.room c.args.changes.now [] c.args.self.now.kq in
-    let same = registered_by (caller views c.loop-change.self) first change c.loop-change.self.kq (same_caller views c.loop-change.self c.args.self.now c.loop-change.invariant.owner c.loop-change.invariant.version) in
+    let same = registered_by (caller views c.loop-change.self) first change c.loop-change.self.kq
+    (same_caller views c.loop-change.self c.args.self.now c.loop-change.invariant.owner
+    c.loop-change.invariant.version) in
     let grows = length-register (caller views c.loop-change.self) change c.loop-change.self.kq in
     let same_queue = ap (λ (q : Kqueue). length q.queue) c.apply-error.ensures.kq in
     elim c.if-is_answered.branch [
       | then-is_answered+else-len-room w ↦
-          let pushed : c.if-is_answered.placed.items ≡ before ++ entry_of change c.apply-error.result ∷ [] = ap (λ (v : Vec Kevent Global). v.items) w.placed-is ∙ w.push_reserved.ensures.items ∙ ap (λ e. before ++ e ∷ []) w.entry_of.ensures in
-          let longer : length c.if-is_answered.placed.items ≡ length before + 1 = ap length pushed ∙ length_push before (entry_of change c.apply-error.result) in
+          let pushed : c.if-is_answered.placed.items ≡ before ++ entry_of change c.apply-error.result ∷ [] = ap
+          (λ (v : Vec Kevent Global). v.items) w.placed-is ∙ w.push_reserved.ensures.items
+          ∙ ap (λ e. before ++ e ∷ []) w.entry_of.ensures in
+          let longer : length c.if-is_answered.placed.items ≡ length before + 1 = ap length pushed
+          ∙ length_push before (entry_of change c.apply-error.result) in
           record {
             so_far =
-                subst (λ (es : List Kevent). start ≡ process first c.args.room (drop (i + 1) c.args.changes.now) es next) (sym pushed)
+                subst (λ (es : List Kevent). start ≡ process first c.args.room
+                (drop (i + 1) c.args.changes.now) es next) (sym pushed)
                 (c.loop-change.invariant.so_far
-                ∙ process-places first c.args.room c.args.changes.now i no_change before c.loop-change.self.kq next c.apply-error.result
+                ∙ process-places first c.args.room c.args.changes.now i no_change before c.loop-change.self.kq next
+                c.apply-error.result
                 (omega arith)
                 (c.apply-error.ensures.kq ∙ ap (λ (r : Registered). r.kq) same)
                 (c.apply-error.ensures.error ∙ ap (λ (r : Registered). r.error) same)
@@ -70,7 +85,8 @@ loop-change-preserved g c =
             reserved = omega arith;
             in_room = omega (arith, c.loop-change.placed.ok.0);
             no_more = omega arith;
-            capacity = ap vec_capacity w.placed-is ∙ w.push_reserved.ensures.capacity ∙ c.loop-change.invariant.capacity;
+            capacity = ap vec_capacity w.placed-is ∙ w.push_reserved.ensures.capacity
+                ∙ c.loop-change.invariant.capacity;
             queue = omega arith;
             owner = c.apply-error.ensures.owner ∙ c.loop-change.invariant.owner;
             version = c.apply-error.ensures.version ∙ c.loop-change.invariant.version;
@@ -82,9 +98,11 @@ loop-change-preserved g c =
           let as_long : length c.if-is_answered.placed.items ≡ length before = ap length kept in
           record {
             so_far =
-                subst (λ (es : List Kevent). start ≡ process first c.args.room (drop (i + 1) c.args.changes.now) es next) (sym kept)
+                subst (λ (es : List Kevent). start ≡ process first c.args.room
+                (drop (i + 1) c.args.changes.now) es next) (sym kept)
                 (c.loop-change.invariant.so_far
-                ∙ process-passes first c.args.room c.args.changes.now i no_change before c.loop-change.self.kq next c.apply-error.result
+                ∙ process-passes first c.args.room c.args.changes.now i no_change before c.loop-change.self.kq next
+                c.apply-error.result
                 (omega arith)
                 (c.apply-error.ensures.kq ∙ ap (λ (r : Registered). r.kq) same)
                 (c.apply-error.ensures.error ∙ ap (λ (r : Registered). r.error) same)
@@ -105,4 +123,5 @@ pub returns-clause-processed : goal.returns-clause-processed
 returns-clause-processed g c =
     let views = g.V.Views.sees c.args.views.now in
     c.loop-change.invariant.so_far
-    ∙ process-through (caller views c.args.self.now) c.args.room c.args.changes.now c.loop-change.change-index c.loop-change.placed.items c.loop-change.self.kq (omega arith)
+    ∙ process-through (caller views c.args.self.now) c.args.room c.args.changes.now c.loop-change.change-index
+    c.loop-change.placed.items c.loop-change.self.kq (omega arith)

@@ -7,7 +7,8 @@ use Rattle.kq_kevent.proofs.kq.Kq.process.Given as goal
 abbrev pub invariant-loop-change : goal.invariant-loop-change
 invariant-loop-change g l = record {
   so_far : process (caller (g.V.Views.sees l.views) l.initial.self) l.room l.changes [] l.initial.self.kq
-      ≡ process (caller (g.V.Views.sees l.views) l.initial.self) l.room (drop l.change-index l.changes) l.placed.items l.self.kq;
+      ≡ process (caller (g.V.Views.sees l.views) l.initial.self) l.room (drop l.change-index l.changes) l.placed.items
+      l.self.kq;
   reserved : length l.changes - l.change-index ≤ l.self.room;
   in_room : length l.placed.items ≤ l.room;
   no_more : length l.placed.items ≤ l.change-index;

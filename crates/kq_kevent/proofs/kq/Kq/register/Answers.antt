@@ -16,7 +16,8 @@ returns-clause-laws g c =
     let change = c.args.change.now in
     let error = c.number_of.ensures ∙ ap number_of c.apply.ensures.error in
     subst (λ (after : Kqueue). IsRegistered change kq after c.number_of.result) (sym c.apply.ensures.kq)
-    (subst (λ n. IsRegistered change kq (register by change kq).kq n) (sym error) (register-registered tallying by change kq))
+    (subst (λ n. IsRegistered change kq (register by change kq).kq n) (sym error)
+    (register-registered tallying by change kq))
 
 pub returns-clause-model : goal.returns-clause-model
 returns-clause-model g c = λ m same.

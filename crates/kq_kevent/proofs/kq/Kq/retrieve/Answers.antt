@@ -14,7 +14,8 @@ loop-turn-init g c =
     let views = g.V.Views.sees c.args.views.now in
     let none = ap (length {A = Kevent}) c.requires.none in
     record {
-      so_far = loop_start views c.args.room (length c.args.self.now.kq.queue) c.args.self.now.kq c.args.events.now.items c.requires.none refl;
+      so_far = loop_start views c.args.room (length c.args.self.now.kq.queue) c.args.self.now.kq
+          c.args.events.now.items c.requires.none refl;
       left = omega arith;
       in_room = omega arith;
       no_more = omega arith;
@@ -28,7 +29,9 @@ loop-turn-init g c =
 pub returns-then-len-room-clause-retrieved : goal.returns-then-len-room-clause-retrieved
 returns-then-len-room-clause-retrieved g c =
     let views = g.V.Views.sees c.args.views.now in
-    loop_full views (retrieval views c.args.room c.args.self.now.kq) c.loop-turn.events.items (length c.args.self.now.kq.queue - c.loop-turn._turn) (c.args.room - length c.loop-turn.events.items) c.loop-turn.self.kq c.loop-turn.invariant.so_far (omega (arith, c.loop-turn.events.ok.0))
+    loop_full views (retrieval views c.args.room c.args.self.now.kq) c.loop-turn.events.items
+    (length c.args.self.now.kq.queue - c.loop-turn._turn) (c.args.room - length c.loop-turn.events.items)
+    c.loop-turn.self.kq c.loop-turn.invariant.so_far (omega (arith, c.loop-turn.events.ok.0))
 
 pub turn-requires : goal.turn-requires
 turn-requires g c =
@@ -43,18 +46,27 @@ loop-turn-preserved g c =
     let kq = c.loop-turn.self.kq in
     let next = c.turn.new.self.kq in
     let n = length c.args.self.now.kq.queue - (c.loop-turn._turn + 1) in
-    let is : IsTurn views kq next c.turn.result = record { leaves = c.turn.ensures.kq; gives = c.turn.ensures.event } in
+    let is : IsTurn views kq next c.turn.result = record { leaves = c.turn.ensures.kq; gives = c.turn.ensures.event }
+    in
     let shorter = turn-shortens views kq next c.turn.result kq.queue refl is in
     let r : Retrieved = retrieval views c.args.room c.args.self.now.kq in
     elim c.match-turn.branch [
       | in-Some w ↦
-          let pushed : c.match-turn.events.items ≡ before ++ w.in-Some.event ∷ [] = ap (λ (v : Vec Kevent Global). v.items) w.events-is ∙ w.push_reserved.ensures.items in
-          let longer : length c.match-turn.events.items ≡ length before + 1 = ap length pushed ∙ length_push before w.in-Some.event in
-          let turn : IsTurn views kq next (Some w.in-Some.event) = record { leaves = c.turn.ensures.kq; gives = w.in-Some.ensures.event } in
+          let pushed : c.match-turn.events.items ≡ before ++ w.in-Some.event ∷ [] = ap
+          (λ (v : Vec Kevent Global). v.items) w.events-is ∙ w.push_reserved.ensures.items in
+          let longer : length c.match-turn.events.items ≡ length before + 1 = ap length pushed
+          ∙ length_push before w.in-Some.event in
+          let turn : IsTurn views kq next (Some w.in-Some.event) = record
+          { leaves = c.turn.ensures.kq; gives = w.in-Some.ensures.event } in
           record {
-            so_far = subst (λ (es : List Kevent). r ≡ preceded es (going views n (c.args.room - length c.match-turn.events.items) next)) (sym pushed)
-                (loop_delivers views r before (length c.args.self.now.kq.queue - c.loop-turn._turn) (c.args.room - length before) n (c.args.room - length c.match-turn.events.items) kq next w.in-Some.event
-                c.loop-turn.invariant.so_far (omega arith) (omega (arith, c.loop-turn.events.ok.0)) (omega arith) turn);
+            so_far = subst
+                (λ (es : List Kevent). r ≡ preceded es
+                (going views n (c.args.room - length c.match-turn.events.items) next)) (sym pushed)
+                (loop_delivers views r before (length c.args.self.now.kq.queue - c.loop-turn._turn)
+                (c.args.room - length before) n (c.args.room - length c.match-turn.events.items) kq next
+                w.in-Some.event
+                c.loop-turn.invariant.so_far (omega arith) (omega (arith, c.loop-turn.events.ok.0))
+                (omega arith) turn);
             left = omega arith;
             in_room = omega (arith, c.loop-turn.events.ok.0);
             no_more = omega arith;
@@ -68,12 +80,18 @@ loop-turn-preserved g c =
           let kept : c.match-turn.events.items ≡ before = ap (λ (v : Vec Kevent Global). v.items) w.events-is in
           let as_long : length c.match-turn.events.items ≡ length before = ap length kept in
           let j = c.args.room - length before - 1 in
-          let turn : IsTurn views kq next None = record { leaves = c.turn.ensures.kq; gives = w.in_default.ensures.event } in
+          let turn : IsTurn views kq next None = record
+          { leaves = c.turn.ensures.kq; gives = w.in_default.ensures.event } in
           record {
-            so_far = subst (λ (es : List Kevent). r ≡ preceded es (going views n (c.args.room - length c.match-turn.events.items) next)) (sym kept)
-                (loop_idle views r before (length c.args.self.now.kq.queue - c.loop-turn._turn) (c.args.room - length before) n j kq next
+            so_far = subst
+                (λ (es : List Kevent). r ≡ preceded es
+                (going views n (c.args.room - length c.match-turn.events.items) next)) (sym kept)
+                (loop_idle views r before (length c.args.self.now.kq.queue - c.loop-turn._turn)
+                (c.args.room - length before) n j kq next
                 c.loop-turn.invariant.so_far (omega arith) (omega (arith, c.loop-turn.events.ok.0)) (omega arith) turn
-                ∙ ap (λ m. preceded before (going views n m next)) (let e : suc j ≡ c.args.room - length c.match-turn.events.items = omega (arith, c.loop-turn.events.ok.0) in e));
+                ∙ ap (λ m. preceded before (going views n m next))
+                (let e : suc j ≡ c.args.room - length c.match-turn.events.items = omega
+                (arith, c.loop-turn.events.ok.0) in e));
             left = omega arith;
             in_room = omega arith;
             no_more = omega arith;
@@ -89,4 +107,6 @@ pub returns-clause-retrieved : goal.returns-clause-retrieved
 returns-clause-retrieved g c =
     let views = g.V.Views.sees c.args.views.now in
     let turns = ap (λ (v : OwnedKqueue). length v.kq.queue) c.self.view_is in
-    loop_done views (retrieval views c.args.room c.args.self.now.kq) c.loop-turn.events.items (length c.args.self.now.kq.queue - c.loop-turn._turn) (c.args.room - length c.loop-turn.events.items) c.loop-turn.self.kq c.loop-turn.invariant.so_far (omega arith)
+    loop_done views (retrieval views c.args.room c.args.self.now.kq) c.loop-turn.events.items
+    (length c.args.self.now.kq.queue - c.loop-turn._turn) (c.args.room - length c.loop-turn.events.items)
+    c.loop-turn.self.kq c.loop-turn.invariant.so_far (omega arith)

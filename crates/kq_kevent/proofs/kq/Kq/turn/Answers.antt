@@ -9,7 +9,8 @@ use Rattle.kq_kevent.specs.Owned.{OwnedKqueue}
 use Rattle.kq_kevent.proofs.CountLaws.{length-with_knote}
 use Rattle.kq_kevent.proofs.RegisterLaws.{same_kqueue, IsSound-at}
 use Rattle.kq_kevent.proofs.SoundLaws.{length-queue}
-use Rattle.kq_kevent.proofs.TurnLaws.{kqueue_of, IsTurn, IsTurn-idle, IsTurn-delivered, IsSound-with_idle, IsSound-with_delivered, front_present}
+use Rattle.kq_kevent.proofs.TurnLaws.{kqueue_of, IsTurn, IsTurn-idle, IsTurn-delivered}
+use Rattle.kq_kevent.proofs.TurnSound.{IsSound-with_idle, IsSound-with_delivered, front_present}
 use Rattle.kq_kevent.proofs.kq.Kq.turn.Goals as goal
 
 pub unreachable-requires-in_default-find : goal.unreachable-requires-in_default-find
@@ -24,22 +25,39 @@ invariant_of-self g c =
     let rest = c.take_front.new.self.keys in
     let k = c.in-Some-find.knote in
     let sound = subst (λ (q : List Key). IsSound (kqueue_of ks q)) c.in-Some.ensures.keys c.self.invariant.sound in
-    let knotes = c.modify.ensures.knotes ∙ ap (λ (n : Knote). with_knote (record n { active = false }) ks) c.knote.view_is in
+    let knotes = c.modify.ensures.knotes ∙ ap (λ (n : Knote). with_knote (record n { active = false }) ks)
+    c.knote.view_is in
     record {
-      sound = IsSound-at c.modify.new.self.knotes rest (with_idle k (kqueue_of ks rest)) knotes refl (IsSound-with_idle ks c.in-Some.key rest k sound (sym c.in-Some-find.ensures));
-      capacity = omega (arith, ap (length {A = Knote}) knotes, length-with_knote (record k { active = false }) ks, c.modify.ensures.room, c.in-Some.ensures.capacity, c.self.invariant.capacity);
+      sound = IsSound-at c.modify.new.self.knotes rest (with_idle k (kqueue_of ks rest)) knotes refl
+          (IsSound-with_idle ks c.in-Some.key rest k sound (sym c.in-Some-find.ensures));
+      capacity = omega (
+        arith,
+        ap (length {A = Knote}) knotes,
+        length-with_knote
+            (record k { active = false }) ks,
+        c.modify.ensures.room,
+        c.in-Some.ensures.capacity,
+        c.self.invariant.capacity,
+      );
     }
 
 pub settle-requires-clause-absent : goal.settle-requires-clause-absent
 settle-requires-clause-absent g c =
     let ks = c.self.inside.knotes.knotes in
     let sound = subst (λ (q : List Key). IsSound (kqueue_of ks q)) c.in-Some.ensures.keys c.self.invariant.sound in
-    ap (λ key. has_key key c.take_front.new.self.keys) (sym (find_knote-key c.in-Some.key ks c.in-Some-find.knote (sym c.in-Some-find.ensures))) ∙ sound.once.0
+    ap (λ key. has_key key c.take_front.new.self.keys)
+    (sym (find_knote-key c.in-Some.key ks c.in-Some-find.knote (sym c.in-Some-find.ensures))) ∙ sound.once.0
 
 pub settle-requires-clause-capacity : goal.settle-requires-clause-capacity
 settle-requires-clause-capacity g c =
     let kq = kqueue_of c.self.inside.knotes.knotes c.self.inside.queue.keys in
-    omega (arith, length-queue kq c.self.invariant.sound, ap (length {A = Key}) c.in-Some.ensures.keys, c.in-Some.ensures.capacity, c.self.invariant.capacity)
+    omega (
+      arith,
+      length-queue kq c.self.invariant.sound,
+      ap (length {A = Key}) c.in-Some.ensures.keys,
+      c.in-Some.ensures.capacity,
+      c.self.invariant.capacity,
+    )
 
 pub invariant_of-self-in-Some-look_in : goal.invariant_of-self-in-Some-look_in
 invariant_of-self-in-Some-look_in g c =
@@ -48,8 +66,16 @@ invariant_of-self-in-Some-look_in g c =
     let k = c.in-Some-find.knote in
     let sound = subst (λ (q : List Key). IsSound (kqueue_of ks q)) c.in-Some.ensures.keys c.self.invariant.sound in
     record {
-      sound = IsSound-at c.settle.new.knotes.knotes c.settle.new.queue.keys (with_delivered k (kqueue_of ks rest)) c.settle.ensures.knotes c.settle.ensures.keys (IsSound-with_delivered ks c.in-Some.key rest k sound (sym c.in-Some-find.ensures));
-      capacity = omega (arith, c.settle.ensures.limit, c.settle.ensures.capacity, c.in-Some.ensures.capacity, c.self.invariant.capacity);
+      sound = IsSound-at c.settle.new.knotes.knotes c.settle.new.queue.keys
+          (with_delivered k (kqueue_of ks rest)) c.settle.ensures.knotes c.settle.ensures.keys
+          (IsSound-with_delivered ks c.in-Some.key rest k sound (sym c.in-Some-find.ensures));
+      capacity = omega (
+        arith,
+        c.settle.ensures.limit,
+        c.settle.ensures.capacity,
+        c.in-Some.ensures.capacity,
+        c.self.invariant.capacity,
+      );
     }
 
 pub returns-in-None-clause-kq : goal.returns-in-None-clause-kq
@@ -58,9 +84,11 @@ returns-in-None-clause-kq g c =
     let ks = c.self.inside.knotes.knotes in
     let rest = c.take_front.new.self.keys in
     let k = c.in-Some-find.knote in
-    let knotes = c.modify.ensures.knotes ∙ ap (λ (n : Knote). with_knote (record n { active = false }) ks) c.knote.view_is in
+    let knotes = c.modify.ensures.knotes ∙ ap (λ (n : Knote). with_knote (record n { active = false }) ks)
+    c.knote.view_is in
     (subst (λ (v : OwnedKqueue). IsTurn views v.kq (kqueue_of c.modify.new.self.knotes rest) None) c.self.view_is
-    (IsTurn-idle views (kqueue_of ks c.self.inside.queue.keys) (kqueue_of c.modify.new.self.knotes rest) c.in-Some.key rest k c.in-Some.ensures.keys (sym c.in-Some-find.ensures) (sym c.in-None.ensures)
+    (IsTurn-idle views (kqueue_of ks c.self.inside.queue.keys) (kqueue_of c.modify.new.self.knotes rest) c.in-Some.key
+    rest k c.in-Some.ensures.keys (sym c.in-Some-find.ensures) (sym c.in-None.ensures)
     (same_kqueue c.modify.new.self.knotes rest (with_idle k (kqueue_of ks rest)) knotes refl))).leaves
 
 pub returns-in-None-clause-event : goal.returns-in-None-clause-event
@@ -70,7 +98,8 @@ returns-in-None-clause-event g c =
     let rest = c.take_front.new.self.keys in
     let k = c.in-Some-find.knote in
     (subst (λ (v : OwnedKqueue). IsTurn views v.kq (with_idle k (kqueue_of ks rest)) None) c.self.view_is
-    (IsTurn-idle views (kqueue_of ks c.self.inside.queue.keys) (with_idle k (kqueue_of ks rest)) c.in-Some.key rest k c.in-Some.ensures.keys (sym c.in-Some-find.ensures) (sym c.in-None.ensures) refl)).gives
+    (IsTurn-idle views (kqueue_of ks c.self.inside.queue.keys) (with_idle k (kqueue_of ks rest)) c.in-Some.key rest k
+    c.in-Some.ensures.keys (sym c.in-Some-find.ensures) (sym c.in-None.ensures) refl)).gives
 
 pub returns-in-Some-look_in-clause-kq : goal.returns-in-Some-look_in-clause-kq
 returns-in-Some-look_in-clause-kq g c =
@@ -80,8 +109,10 @@ returns-in-Some-look_in-clause-kq g c =
     let k = c.in-Some-find.knote in
     let next = kqueue_of c.settle.new.knotes.knotes c.settle.new.queue.keys in
     (subst (λ (v : OwnedKqueue). IsTurn views v.kq next (Some c.event_of.result)) c.self.view_is
-    (IsTurn-delivered views (kqueue_of ks c.self.inside.queue.keys) next c.in-Some.key rest k c.in-Some-look_in.seen c.event_of.result c.in-Some.ensures.keys (sym c.in-Some-find.ensures) (sym c.in-Some-look_in.ensures)
-    (same_kqueue c.settle.new.knotes.knotes c.settle.new.queue.keys (with_delivered k (kqueue_of ks rest)) c.settle.ensures.knotes c.settle.ensures.keys) c.event_of.ensures)).leaves
+    (IsTurn-delivered views (kqueue_of ks c.self.inside.queue.keys) next c.in-Some.key rest k c.in-Some-look_in.seen
+    c.event_of.result c.in-Some.ensures.keys (sym c.in-Some-find.ensures) (sym c.in-Some-look_in.ensures)
+    (same_kqueue c.settle.new.knotes.knotes c.settle.new.queue.keys
+    (with_delivered k (kqueue_of ks rest)) c.settle.ensures.knotes c.settle.ensures.keys) c.event_of.ensures)).leaves
 
 pub returns-in-Some-look_in-clause-event : goal.returns-in-Some-look_in-clause-event
 returns-in-Some-look_in-clause-event g c =
@@ -91,5 +122,6 @@ returns-in-Some-look_in-clause-event g c =
     let k = c.in-Some-find.knote in
     let next = with_delivered k (kqueue_of ks rest) in
     (subst (λ (v : OwnedKqueue). IsTurn views v.kq next (Some c.event_of.result)) c.self.view_is
-    (IsTurn-delivered views (kqueue_of ks c.self.inside.queue.keys) next c.in-Some.key rest k c.in-Some-look_in.seen c.event_of.result c.in-Some.ensures.keys (sym c.in-Some-find.ensures) (sym c.in-Some-look_in.ensures)
+    (IsTurn-delivered views (kqueue_of ks c.self.inside.queue.keys) next c.in-Some.key rest k c.in-Some-look_in.seen
+    c.event_of.result c.in-Some.ensures.keys (sym c.in-Some-find.ensures) (sym c.in-Some-look_in.ensures)
     refl c.event_of.ensures)).gives

@@ -10,17 +10,22 @@ use Rattle.kq_kevent.proofs.queue.Queue.take_out.Goals as goal
 
 pub invariant_of-self : goal.invariant_of-self
 invariant_of-self c =
-    let rows = taken_out _ c.args.key c.self.inside.keys.rows c.remove.new.self.rows c.remove.result c.remove.ensures.removed c.remove.ensures.rows (λ a b. search rules) in
+    let rows = taken_out _ c.args.key c.self.inside.keys.rows c.remove.new.self.rows c.remove.result
+    c.remove.ensures.removed c.remove.ensures.rows (λ a b. search rules) in
     subst AreOnce (sym rows) (AreOnce-without c.args.key c.self.inside.keys.rows c.self.invariant)
 
 pub returns-clause-keys : goal.returns-clause-keys
 returns-clause-keys c =
-    taken_out _ c.args.key c.self.inside.keys.rows c.remove.new.self.rows c.remove.result c.remove.ensures.removed c.remove.ensures.rows (λ a b. search rules)
+    taken_out _ c.args.key c.self.inside.keys.rows c.remove.new.self.rows c.remove.result c.remove.ensures.removed
+    c.remove.ensures.rows (λ a b. search rules)
     ∙ ap (λ (v : Keys). without_key c.args.key v.keys) c.self.view_is
 
 pub returns-clause-capacity : goal.returns-clause-capacity
 returns-clause-capacity c =
-    let rows = taken_out _ c.args.key c.self.inside.keys.rows c.remove.new.self.rows c.remove.result c.remove.ensures.removed c.remove.ensures.rows (λ a b. search rules) in
-    let found = ap is_some c.remove.ensures.removed ∙ find_row-has _ (λ a b. search rules) c.args.key c.self.inside.keys.rows in
-    let kept = limit-without_key c.args.key c.self.inside.keys.rows c.remove.result c.self.inside.keys.room c.remove.new.self.room c.self.invariant found c.remove.ensures.room in
+    let rows = taken_out _ c.args.key c.self.inside.keys.rows c.remove.new.self.rows c.remove.result
+    c.remove.ensures.removed c.remove.ensures.rows (λ a b. search rules) in
+    let found = ap is_some c.remove.ensures.removed
+    ∙ find_row-has _ (λ a b. search rules) c.args.key c.self.inside.keys.rows in
+    let kept = limit-without_key c.args.key c.self.inside.keys.rows c.remove.result c.self.inside.keys.room
+    c.remove.new.self.room c.self.invariant found c.remove.ensures.room in
     omega (arith, kept, ap (length {A = Key}) rows, ap (λ (v : Keys). v.capacity) c.self.view_is)

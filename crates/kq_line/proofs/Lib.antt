@@ -1,0 +1,13 @@
+pub mod Letters
+pub mod Digits
+pub mod Spelled
+pub mod Written
+pub mod Scalar
+pub mod Owed
+pub mod Lists
+pub mod Pieces
+pub mod Parts
+pub mod LookUps
+pub mod FlagRows
+pub mod KnownChange
+pub mod RecordKinds

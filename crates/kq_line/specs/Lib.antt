@@ -1,0 +1,5 @@
+pub mod Names
+pub mod Spells
+pub mod Values
+pub mod Shows
+pub mod Typed

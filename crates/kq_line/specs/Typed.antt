@@ -1,0 +1,53 @@
+-- What a typed look-up says of a member, in the words in which the reading of a record asks for it.
+use Rattle.std.specs.Prelude.{◌≡◌, ℕ, ℤ, pos, true, List, Some, codes, option_and_then}
+use Rattle.std.specs.Option.{is_some}
+use Rattle.serde_json.specs.Data.{Members, string}
+use Rattle.serde_json.specs.Find.{get_member}
+use Rattle.kq_model.specs.declared.change.Change.{Change}
+use Rattle.kq_model.specs.declared.filter.Filter.{Filter}
+use Rattle.kq_model.specs.ChangeText.{change_list, filter_in, flags_in, is_change_list}
+use Rattle.kq_model.specs.Members.{i64_in, is_whole, optional, or_else, required, u32_in, u64_in}
+
+pub record IsU32 (ms : Members) (name : List ℕ) (n : ℕ) : Type 0 where
+  pub there : is_some (get_member name ms) ≡ true
+  pub whole : required is_whole (get_member name ms) ≡ true
+  pub value : option_and_then u32_in (get_member name ms) ≡ Some n
+
+pub record IsU64 (ms : Members) (name : List ℕ) (n : ℕ) : Type 0 where
+  pub there : is_some (get_member name ms) ≡ true
+  pub whole : required is_whole (get_member name ms) ≡ true
+  pub value : option_and_then u64_in (get_member name ms) ≡ Some n
+
+-- where the member is missing, 0
+pub record IsU32OrZero (ms : Members) (name : List ℕ) (n : ℕ) : Type 0 where
+  pub whole : optional is_whole (get_member name ms) ≡ true
+  pub value : or_else 0 u32_in (get_member name ms) ≡ Some n
+
+pub record IsU64OrZero (ms : Members) (name : List ℕ) (n : ℕ) : Type 0 where
+  pub whole : optional is_whole (get_member name ms) ≡ true
+  pub value : or_else 0 u64_in (get_member name ms) ≡ Some n
+
+pub record IsI64OrZero (ms : Members) (name : List ℕ) (z : ℤ) : Type 0 where
+  pub whole : optional is_whole (get_member name ms) ≡ true
+  pub value : or_else (pos 0) i64_in (get_member name ms) ≡ Some z
+
+pub record IsFilter (ms : Members) (name : List ℕ) (filter : Filter) : Type 0 where
+  pub there : is_some (get_member name ms) ≡ true
+  pub value : option_and_then filter_in (get_member name ms) ≡ Some filter
+
+pub record AreFlags (ms : Members) (name : List ℕ) (bits : ℕ) : Type 0 where
+  pub there : is_some (get_member name ms) ≡ true
+  pub value : option_and_then flags_in (get_member name ms) ≡ Some bits
+
+pub record AreChanges (ms : Members) (name : List ℕ) (changes : List Change) : Type 0 where
+  pub there : is_some (get_member name ms) ≡ true
+  pub listed : required is_change_list (get_member name ms) ≡ true
+  pub value : option_and_then change_list (get_member name ms) ≡ Some changes
+
+-- the member is this text
+abbrev pub IsText : Members → List ℕ → List ℕ → Type 0
+IsText ms name text = get_member name ms ≡ Some (string text)
+
+-- the record is of this kind
+abbrev pub IsKind : Members → List ℕ → Type 0
+IsKind ms kind = IsText ms (codes "op") kind

@@ -1,0 +1,158 @@
+-- The compact text of a header or a record is read as its value.
+use Rattle.std.proofs.Common.{◌≡◌, ℕ, suc, ◌^◌, ◌<◌, ◌≤◌, max, ℤ, pos, negsuc, List, [], ◌∷◌, map, decimal, Some, option_and_then, option_map, IsUtf8, refl, sym, ap, ◌∙◌, append-nil, arith}
+use Rattle.std.proofs.lemmas.Str.{is_utf8-from_IsUtf8}
+use Rattle.json.specs.Json.{Json, if_last}
+use Rattle.json.specs.Json as json
+use Rattle.json.specs.Lex.{tokens}
+use Rattle.json.specs.Print.{IsNumber}
+use Rattle.json.specs.Tree.{HasNumbers, ItemsHaveNumbers, depth, items_depth, json_tokens}
+use Rattle.json.proofs.Printed.Decimals.{IsNumber-decimal, IsNumber-signed_decimal}
+use Rattle.json.proofs.Printed.Tokens.{tokens-print}
+use Rattle.json.proofs.Printed.Trees.{ArePrintable-json_tokens, value-json_tokens}
+use Rattle.serde_json.specs.Data.{Data, negative, string, unsigned}
+use Rattle.serde_json.specs.Find.{of_integer}
+use Rattle.serde_json.specs.Read.{number_of, of_items, of_json, read}
+use Rattle.serde_json.specs.View.{items_of}
+use Rattle.serde_json.specs.Written.{compact_text, items_outline, number_text, outline}
+use Rattle.serde_json.proofs.Numbers.{number_of-decimal, number_of-negative}
+use Rattle.serde_json.proofs.Texts.{print-outline}
+use Rattle.kq_model.specs.declared.change.Change.{Change}
+use Rattle.kq_model.specs.declared.event.Event.{Event}
+use Rattle.kq_model.specs.declared.event.Event.TheVariants.{Proc, Kqueue, Kevent}
+use Rattle.kq_model.specs.Names.{names_of}
+use Rattle.kq_model.specs.Reading.{json_of}
+use Rattle.kq_model.specs.Spelling.{change_data, flags_data, header_data, integer, natural, record_data}
+use Rattle.kq_trace.specs.Again.{FitsChange, FitsChanges, FitsInteger, FitsRecord}
+use Rattle.kq_trace.proofs.Visible.{header_visible, record_visible, visible_utf8}
+
+abbrev pub ReadsBack : Data → Type 0
+ReadsBack d = json_of (compact_text d) ≡ Some d
+
+-- ---- a value that its tokens give back
+
+json_of_read : (line : List ℕ) (d : Data) → IsUtf8 line → read line ≡ Some d → json_of line ≡ Some d
+unfolding json_of
+json_of_read line d text reads = rw (is_utf8-from_IsUtf8 line text) reads
+
+value_read : (d : Data) → HasNumbers (outline d) → depth (outline d) ≤ 127 → of_json (outline d) ≡ Some d → read (compact_text d) ≡ Some d
+value_read d numbers shallow means =
+    let lexed : tokens (compact_text d) ≡ json_tokens (outline d) =
+    ap tokens (sym (print-outline d)) ∙ tokens-print (json_tokens (outline d)) (ArePrintable-json_tokens (outline d) numbers) in
+    ap (λ ts. option_and_then of_json (option_and_then (λ p. if_last p.0 p.1) (json.value 127 ts))) (lexed ∙ sym (append-nil (json_tokens (outline d))))
+    ∙ ap (λ o. option_and_then of_json (option_and_then (λ p. if_last p.0 p.1) o)) (value-json_tokens (outline d) 127 [] shallow) ∙ means
+
+-- ---- numbers
+
+natural_is : (n : ℕ) → n < 2 ^ 64 → IsNumber (number_text (unsigned n))
+natural_is n fits = IsNumber-decimal n fits
+
+integer_is : (z : ℤ) → FitsInteger z → IsNumber (number_text (of_integer z))
+integer_is (pos n) fits = IsNumber-decimal n (omega arith)
+integer_is (negsuc n) fits = IsNumber-signed_decimal (negsuc n) fits
+
+natural_read : (n : ℕ) → n < 2 ^ 64 → of_json (outline (natural n)) ≡ Some (natural n)
+unfolding natural
+natural_read n fits = rw (number_of-decimal n fits) refl
+
+integer_read : (z : ℤ) → FitsInteger z → of_json (outline (integer z)) ≡ Some (integer z)
+unfolding integer
+integer_read (pos n) fits = let small : n < 2 ^ 64 = omega arith in rw (number_of-decimal n small) refl
+integer_read (negsuc n) fits = rw (number_of-negative n fits) refl
+
+small : (n : ℕ) → n < 2 ^ 32 → n < 2 ^ 64
+small n fits = omega arith
+
+-- ---- names
+
+names_read : (names : List (List ℕ)) → of_items (items_outline (items_of (map string names))) ≡ Some (items_of (map string names))
+names_read [] = refl
+names_read (name ∷ names) = rw (names_read names) refl
+
+names_numbers : (names : List (List ℕ)) → ItemsHaveNumbers (items_outline (items_of (map string names)))
+names_numbers [] = tt
+names_numbers (name ∷ names) = (tt, names_numbers names)
+
+names_depth : (names : List (List ℕ)) → items_depth (items_outline (items_of (map string names))) ≡ 0
+names_depth [] = refl
+names_depth (name ∷ names) = rw (names_depth names) refl
+
+-- ---- changes
+
+change_read : (c : Change) → FitsChange c → of_json (outline (change_data c)) ≡ Some (change_data c)
+unfolding change_data flags_data
+change_read c fits =
+    rw (integer_read c.datum fits.datum, natural_read c.fflags (small c.fflags fits.fflags), names_read (names_of c.flags), natural_read c.ident fits.ident, natural_read c.udata fits.udata) refl
+
+change_numbers : (c : Change) → FitsChange c → HasNumbers (outline (change_data c))
+unfolding change_data flags_data integer natural
+change_numbers c fits = (
+  integer_is c.datum fits.datum,
+  (natural_is c.fflags (small c.fflags fits.fflags), (tt, (names_numbers (names_of c.flags), (natural_is c.ident fits.ident, (natural_is c.udata fits.udata, tt))))),
+)
+
+change_depth : (c : Change) → depth (outline (change_data c)) ≡ 2
+unfolding change_data flags_data natural integer
+change_depth c = rw (names_depth (names_of c.flags)) refl
+
+changes_read : (cs : List Change) → FitsChanges cs → of_items (items_outline (items_of (map change_data cs))) ≡ Some (items_of (map change_data cs))
+changes_read [] fits = refl
+changes_read (c ∷ cs) fits = rw (change_read c fits.0, changes_read cs fits.1) refl
+
+changes_numbers : (cs : List Change) → FitsChanges cs → ItemsHaveNumbers (items_outline (items_of (map change_data cs)))
+changes_numbers [] fits = tt
+changes_numbers (c ∷ cs) fits = (change_numbers c fits.0, changes_numbers cs fits.1)
+
+changes_depth : (cs : List Change) → items_depth (items_outline (items_of (map change_data cs))) ≤ 2
+changes_depth [] = omega arith
+changes_depth (c ∷ cs) = omega (arith, change_depth c, changes_depth cs)
+
+-- ---- records
+
+record_read : (e : Event) → FitsRecord e → of_json (outline (record_data e)) ≡ Some (record_data e)
+unfolding record_data
+record_read (Proc pid) fits = rw (natural_read pid (small pid fits)) refl
+record_read (Kqueue pid fd) fits = rw (natural_read fd (small fd fits.1), natural_read pid (small pid fits.0)) refl
+record_read (Kevent pid fd changes room) fits =
+    rw (changes_read changes fits.2, natural_read fd (small fd fits.1), natural_read pid (small pid fits.0), natural_read room (small room fits.3)) refl
+
+record_numbers : (e : Event) → FitsRecord e → HasNumbers (outline (record_data e))
+unfolding record_data natural
+record_numbers (Proc pid) fits = (tt, (natural_is pid (small pid fits), tt))
+record_numbers (Kqueue pid fd) fits = (natural_is fd (small fd fits.1), (tt, (natural_is pid (small pid fits.0), tt)))
+record_numbers (Kevent pid fd changes room) fits = (
+  changes_numbers changes fits.2,
+  (natural_is fd (small fd fits.1), (tt, (natural_is pid (small pid fits.0), (natural_is room (small room fits.3), tt)))),
+)
+
+kevent_depth : (n : ℕ) → n ≤ 2 → suc (max (suc n) 0) ≤ 127
+kevent_depth n few = omega arith
+
+record_depth : (e : Event) → depth (outline (record_data e)) ≤ 127
+unfolding record_data natural
+record_depth (Proc pid) = omega arith
+record_depth (Kqueue pid fd) = omega arith
+record_depth (Kevent pid fd changes room) = kevent_depth _ (changes_depth changes)
+
+pub record_reads_back : (e : Event) → FitsRecord e → ReadsBack (record_data e)
+record_reads_back e fits =
+    json_of_read (compact_text (record_data e)) (record_data e) (visible_utf8 _ (record_visible e fits))
+    (value_read (record_data e) (record_numbers e fits) (record_depth e) (record_read e fits))
+
+-- ---- the header
+
+header_read : (version : ℕ) → version < 2 ^ 64 → of_json (outline (header_data version)) ≡ Some (header_data version)
+unfolding header_data
+header_read version fits = rw (natural_read version fits) refl
+
+header_numbers : (version : ℕ) → version < 2 ^ 64 → HasNumbers (outline (header_data version))
+unfolding header_data natural
+header_numbers version fits = (natural_is version fits, tt)
+
+header_depth : (version : ℕ) → depth (outline (header_data version)) ≤ 127
+unfolding header_data natural
+header_depth version = omega arith
+
+pub header_reads_back : (version : ℕ) → version < 2 ^ 64 → ReadsBack (header_data version)
+header_reads_back version fits =
+    json_of_read (compact_text (header_data version)) (header_data version) (visible_utf8 _ (header_visible version fits))
+    (value_read (header_data version) (header_numbers version fits) (header_depth version) (header_read version fits))
