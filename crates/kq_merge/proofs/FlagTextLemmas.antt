@@ -83,5 +83,7 @@ unfolding names_text
 names_ended flags later items i first before out new past table begin kept end =
     let none : drop i items ≡ [] = drop_of_length-le items past in
     let closed : names_text flags later (rows_of (drop i items)) ≡ 93 ∷ [] = rw none refl in
-    record { is = end.is ∙ ap (λ l. out ++ l) (sym closed) ∙ kept
-    ∙ rw (begin.is, table, flags_text) (simp append_assoc) }
+    record {
+      is = end.is ∙ ap (λ l. out ++ l) (sym closed) ∙ kept
+          ∙ rw (begin.is, table, flags_text) (simp append_assoc);
+    }

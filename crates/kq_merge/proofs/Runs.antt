@@ -32,9 +32,10 @@ lead_more (r ∷ rs) left others row moved earliest lead = (
 
 pub lead_all : (rows left : List Row) → left ≡ [] → Lead rows left → NeverFall rows
 lead_all [] left none lead = tt
-lead_all (row ∷ rest) left none lead =
-    (subst (All (λ later. row.at ≤ later.at)) (ap (λ l. rest ++ l) none ∙ append-nil rest) lead.0,
-    lead_all rest left none lead.1)
+lead_all (row ∷ rest) left none lead = (
+  subst (All (λ later. row.at ≤ later.at)) (ap (λ l. rest ++ l) none ∙ append-nil rest) lead.0,
+  lead_all rest left none lead.1,
+)
 
 -- ---- the next row of two lists
 
@@ -68,7 +69,7 @@ first_gives first second rest (Some row) falls others goes is =
     let mine : NeverFall (row ∷ rest) = subst NeverFall is falls in
     record {
       taken = subst (λ l. IsPermutation (l ++ second) (row ∷ (rest ++ second))) (sym is)
-      (IsPermutation-refl (row ∷ (rest ++ second)));
+          (IsPermutation-refl (row ∷ (rest ++ second)));
       earliest = All-append (λ later. row.at ≤ later.at) rest second mine.0
           (all_from row rest second (ap (λ l. goes_first l second) (sym is) ∙ goes) others);
     }
@@ -81,7 +82,7 @@ second_gives first second rest (Some row) falls others goes is =
     let mine : NeverFall (row ∷ rest) = subst NeverFall is others in
     record {
       taken = subst (λ l. IsPermutation (first ++ l) (row ∷ (first ++ rest))) (sym is)
-      (IsPermutation-middle first row rest);
+          (IsPermutation-middle first row rest);
       earliest = All-append (λ later. row.at ≤ later.at) first rest
           (all_after row rest first (ap (λ l. goes_first first l) (sym is) ∙ goes) falls) mine.0;
     }

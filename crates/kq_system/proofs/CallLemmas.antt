@@ -137,9 +137,11 @@ pub called_some : (m : Moment) (c : Call) → IsQuiet m → m.call ≡ Some c
     → lookup (nat_eq c.kqueue) es ≡ Some v → w.number ≡ v.number → w.kq.owner ≡ v.kq.owner
     → w.kq.kq ≡ (called_at v.kq.owner m c v.kq.kq).kq → r ≡ (called_at v.kq.owner m c v.kq.kq).reply
     → IsCalled m c (map live_of es) (map live_of (set_value (nat_eq c.kqueue) es w)) r
-called_some m c quiet call es v w r distinct found number owner kq is =
-    (some_called m c quiet call es v w distinct found number owner kq
-    ∙ sym (lived_each m (map live_of es) quiet), some_answers m c es v r found is)
+called_some m c quiet call es v w r distinct found number owner kq is = (
+  some_called m c quiet call es v w distinct found number owner kq
+      ∙ sym (lived_each m (map live_of es) quiet),
+  some_answers m c es v r found is,
+)
 
 -- ---- what a write in its place keeps
 

@@ -45,16 +45,21 @@ started_world : (place pid : ℕ) (w : World) → record w { processes = with_pr
     ≡ carried_out place (record idle { started = Some (start_of pid) }) w
 unfolding carried_out without_process with_disposition with_kqueue with_descriptors all_done clock_after
 started_world place pid w =
-    ap (λ (table : List Descriptor). record w { processes = with_process
-    (Some (start_of pid)) w.processes; table = table }) (sym (none_closed w.table))
+    ap (λ (table : List Descriptor). record w {
+      processes = with_process
+          (Some (start_of pid)) w.processes;
+      table = table;
+    }) (sym (none_closed w.table))
 
 opened_world : (place pid number : ℕ) (w : World) → record w
     { table = with_kqueue place (Some (record { pid = pid; number = number })) w.table }
     ≡ carried_out place (record idle { born = Some (record { pid = pid; number = number }) }) w
 unfolding carried_out with_process without_process with_disposition with_descriptors all_done clock_after
 opened_world place pid number w =
-    ap (λ (table : List Descriptor). record w { table = with_kqueue place
-    (Some (record { pid = pid; number = number })) table }) (sym (none_closed w.table))
+    ap (λ (table : List Descriptor). record w {
+      table = with_kqueue place
+          (Some (record { pid = pid; number = number })) table;
+    }) (sym (none_closed w.table))
 
 called_world : (place : ℕ) (c : Call) (w : World) → w ≡ carried_out place (call_plan c) w
 unfolding carried_out with_process without_process with_disposition with_kqueue with_descriptors all_done clock_after
@@ -102,7 +107,7 @@ started place pid e old world is new =
     let p : Plan = record idle { started = Some (start_of pid) } in
     by_plan place e (Possible p) old (record old { world = world }) reply.Done is (
       ap₂ (λ (w : World) (ls : List Live). record old { world = w; live = ls })
-      (new ∙ started_world place pid old.world)
+          (new ∙ started_world place pid old.world)
           (sym (lived_none (moment_of old.version place p old.world) old.live
           (record { closed = refl; hints = refl; clock = refl }) refl) ∙ sym (append-nil _)),
       refl,
@@ -110,8 +115,10 @@ started place pid e old world is new =
 
 pub opened : (place pid number : ℕ) (e : Event) (old : System) (world : World) (live : List Live)
     → plan place e old.world ≡ Possible (record idle { born = Some (record { pid = pid; number = number }) })
-    → world ≡ record old.world { table = with_kqueue place (Some (record { pid = pid; number = number }))
-    old.world.table }
+    → world ≡ record old.world {
+      table = with_kqueue place (Some (record { pid = pid; number = number }))
+          old.world.table;
+    }
     → live ≡ old.live ++ record { place = place; owner = pid; number = number; kq = empty_kqueue } ∷ []
     → IsStep place e old (record old { world = world; live = live }) reply.Done
 unfolding step_by born reply_to moment_of
@@ -120,7 +127,7 @@ opened place pid number e old world live is new grown =
     let one : List Live = record { place = place; owner = pid; number = number; kq = empty_kqueue } ∷ [] in
     by_plan place e (Possible p) old (record old { world = world; live = live }) reply.Done is (
       ap₂ (λ (w : World) (ls : List Live). record old { world = w; live = ls })
-      (new ∙ opened_world place pid number old.world)
+          (new ∙ opened_world place pid number old.world)
           (grown ∙ ap (λ ls. ls ++ one) (sym (lived_none (moment_of old.version place p old.world) old.live
           (record { closed = refl; hints = refl; clock = refl }) refl))),
       refl,
@@ -134,7 +141,7 @@ unfolding step_by born reply_to
 called place e c old live r is does =
     by_plan place e (Possible (call_plan c)) old (record old { live = live }) r is (
       ap₂ (λ (w : World) (ls : List Live). record old { world = w; live = ls }) (called_world place c old.world)
-      (does.0 ∙ sym (append-nil _)),
+          (does.0 ∙ sym (append-nil _)),
       does.1,
     )
 

@@ -65,8 +65,12 @@ live_of e = record { place = e.0; owner = e.1.kq.owner; number = e.1.number; kq 
 
 -- what is seen of the code's system with these tables
 abbrev pub state_of : ℕ → WorldState → List (ℕ × NumberedKqueue) → ℕ → SystemState
-state_of version world live applied = record { version = version; world = world; live = map live_of live;
-    applied = applied }
+state_of version world live applied = record {
+  version = version;
+  world = world;
+  live = map live_of live;
+  applied = applied;
+}
 
 -- ---- what calls promise
 

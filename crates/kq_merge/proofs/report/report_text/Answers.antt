@@ -9,10 +9,15 @@ loop-row-preserved c =
     let row = c.row-item.result in
     let some = c.loop-row-test.true in (
       row_taken rows i row c.loop-row.out.items c.put_reply.new.out.items some c.row-item.is c.in_ok-put_reply.ensures
-      ∙ c.loop-row.invariant.0,
+          ∙ c.loop-row.invariant.0,
       omega (arith, c.calls_in-calls.ensures.value, calls_taken rows i row some c.row-item.is, c.loop-row.invariant.1),
-      omega (arith, c.events_in.ensures, c.from-events.ensures, events_taken rows i row some c.row-item.is,
-      c.loop-row.invariant.2),
+      omega (
+        arith,
+        c.events_in.ensures,
+        c.from-events.ensures,
+        events_taken rows i row some c.row-item.is,
+        c.loop-row.invariant.2,
+      ),
       search rules,
       search rules,
     )

@@ -7,8 +7,11 @@ use Rattle.kq_merge.proofs.run.join.Goals as goal
 pub loop-row-smaller : goal.loop-row-smaller
 loop-row-smaller c =
     let left = c.take_earliest.new.first ++ c.take_earliest.new.second in
-    omega (arith, length_permutation (c.loop-row.first ++ c.loop-row.second)
-    (c.in-Some.row ∷ left) c.in-Some.ensures.taken)
+    omega (
+      arith,
+      length_permutation (c.loop-row.first ++ c.loop-row.second)
+          (c.in-Some.row ∷ left) c.in-Some.ensures.taken,
+    )
 
 pub loop-row-preserved : goal.loop-row-preserved
 loop-row-preserved c =

@@ -41,11 +41,11 @@ returns-in_default-named c =
     let old = state_of c.self.inside.version c.self.inside.world c.self.inside.live.entries c.self.inside.applied in
     record {
       reply = λ place. subst (λ (s : SystemState). IsStep place e (system_of s) (system_of s)
-      (reply.Impossible WrongKind)) c.self.view_is
-        (impossible place e (system_of old) WrongKind
+          (reply.Impossible WrongKind)) c.self.view_is
+          (impossible place e (system_of old) WrongKind
           (kevent_on place c.args.pid c.args.number c.args.room c.args.changes.now (world_of old.world) c.in-Some.named
-            (sym c.is_live.ensures ∙ c.if-not-is_live.false) (sym c.in-Some.ensures)
-            ∙ wrong_kind c.args.changes.now c.args.room c.in-Some.named c.in_default-named.not-Kqueue));
+          (sym c.is_live.ensures ∙ c.if-not-is_live.false) (sym c.in-Some.ensures)
+          ∙ wrong_kind c.args.changes.now c.args.room c.in-Some.named c.in_default-named.not-Kqueue));
       applied = refl;
       impossible = λ place none. search rules;
       memory = search rules;
@@ -93,8 +93,11 @@ returns-clause-reply c = λ place.
     IfOk-weaker c.call_on.result _ _ (λ r does.
     subst (λ (v : ℕ). IsStep place e now (record { version = v; world = world_of new.world; live = new.live }) r)
     (sym c.call_on.ensures.version)
-    (subst (λ (w : WorldState). IsStep place e now (record { version = now.version; world = world_of w;
-    live = new.live }) r) (sym c.call_on.ensures.world)
+    (subst (λ (w : WorldState). IsStep place e now (record {
+      version = now.version;
+      world = world_of w;
+      live = new.live;
+    }) r) (sym c.call_on.ensures.world)
     (called place e call now new.live r plan_now does)))
     (c.call_on.ensures.reply place)
 

@@ -43,8 +43,12 @@ returns-clause-memory c =
     let found : lookup (nat_eq c.args.kqueue) es ≡ Some v = sym c.in-Some.ensures.value
     ∙ ap Some (sym c.live.view_is) in
     on_err_weaker c.call.result (λ same.
-    ap (λ (ls : List Live). let s : SystemState = record { version = c.self.inside.version;
-    world = c.self.inside.world; live = ls; applied = c.self.inside.applied } in s)
+    ap (λ (ls : List Live). let s : SystemState = record {
+      version = c.self.inside.version;
+      world = c.self.inside.world;
+      live = ls;
+      applied = c.self.inside.applied;
+    } in s)
     (ap (map live_of) writes.0 ∙ kept c.args.kqueue es v w found refl c.call.ensures.owner same)
     ∙ c.self.view_is)
     c.call.ensures.err
@@ -69,5 +73,5 @@ invariant_of-self c =
       of_version = version_kept c.self.inside.version c.args.kqueue es v w found c.call.ensures.version kept.of_version;
       born = subst (AreUpTo c.self.inside.applied) (sym (keys_kept c.args.kqueue es w)) kept.born;
       all_live = named_kept c.args.kqueue es v w found refl c.call.ensures.owner c.self.inside.world.table
-      kept.all_live;
+          kept.all_live;
     })

@@ -56,8 +56,12 @@ returns-clause-reply c =
     (not_born c.self.inside.applied c.args.place es later c.self.invariant.born) in
     let grown = grown_by c.reserve.new.self.entries c.insert.new.self.entries es c.args.place v
     (c.in-Ok.ensures.entries ∙ insert_entry-new nat_eq c.reserve.new.self c.args.place v absent) reserved in
-    let one : live_of (c.args.place, v) ≡ record { place = c.args.place; owner = c.args.pid; number = c.args.number;
-    kq = empty_kqueue } =
+    let one : live_of (c.args.place, v) ≡ record {
+      place = c.args.place;
+      owner = c.args.pid;
+      number = c.args.number;
+      kq = empty_kqueue;
+    } =
     same_live c.args.place c.new-kq.result.owner c.args.pid c.args.number c.args.number c.new-kq.result.kq
     empty_kqueue c.new-kq.ensures.owner refl c.new-kq.ensures.kq in
     let live = ap (map live_of) grown ∙ map-append live_of es ((c.args.place, v) ∷ [])
@@ -86,8 +90,12 @@ invariant_of-self-in-Ok c =
     (not_born c.self.inside.applied c.args.place es later c.self.invariant.born) in
     let grown = grown_by c.reserve.new.self.entries c.insert.new.self.entries es c.args.place v
     (c.in-Ok.ensures.entries ∙ insert_entry-new nat_eq c.reserve.new.self c.args.place v absent) reserved in
-    let one : live_of (c.args.place, v) ≡ record { place = c.args.place; owner = c.args.pid; number = c.args.number;
-    kq = empty_kqueue } =
+    let one : live_of (c.args.place, v) ≡ record {
+      place = c.args.place;
+      owner = c.args.pid;
+      number = c.args.number;
+      kq = empty_kqueue;
+    } =
     same_live c.args.place c.new-kq.result.owner c.args.pid c.args.number c.args.number c.new-kq.result.kq
     empty_kqueue c.new-kq.ensures.owner refl c.new-kq.ensures.kq in
     let live = ap (map live_of) grown ∙ map-append live_of es ((c.args.place, v) ∷ [])
@@ -101,11 +109,11 @@ invariant_of-self-in-Ok c =
     record {
       version_one = c.self.invariant.version_one;
       of_version = subst (AreOfVersion version) (sym grown)
-        (version_push version es (c.args.place, v) c.self.invariant.of_version
-        (c.new-kq.ensures.version ∙ sym c.self.invariant.version_one));
+          (version_push version es (c.args.place, v) c.self.invariant.of_version
+          (c.new-kq.ensures.version ∙ sym c.self.invariant.version_one));
       born = subst (AreUpTo c.args.place) (sym (ap keys_of grown
-      ∙ map-append (λ (n : ℕ × NumberedKqueue). n.0) es ((c.args.place, v) ∷ [])))
-        (up_to_push c.args.place c.args.place (keys_of es) (le_refl c.args.place)
+          ∙ map-append (λ (n : ℕ × NumberedKqueue). n.0) es ((c.args.place, v) ∷ [])))
+          (up_to_push c.args.place c.args.place (keys_of es) (le_refl c.args.place)
           (up_to_more c.self.inside.applied c.args.place (keys_of es) (omega (arith, later)) c.self.invariant.born));
       all_live = stays_live c.args.place e (system_of old) (system_of now) reply.Done steps c.self.invariant.all_live;
     }
@@ -114,8 +122,10 @@ pub returns-in_err-map_err-clause-impossible : goal.returns-in_err-map_err-claus
 returns-in_err-map_err-clause-impossible c = λ none.
     let e : Event = Kqueue c.args.pid c.args.number in
     let w = world_of c.self.inside.world in
-    absurd (not_impossible c.args.place e w (record idle { born = Some
-    (record { pid = c.args.pid; number = c.args.number }) })
+    absurd (not_impossible c.args.place e w (record idle {
+      born = Some
+          (record { pid = c.args.pid; number = c.args.number });
+    })
     (kqueue_opens c.args.place c.args.pid c.args.number w (sym c.is_live.ensures ∙ c.if-not-is_live.false)
     (ap is_some (sym c.named.ensures) ∙ sym c.is_some.ensures ∙ c.if-is_some.false))
     (subst (λ (s : SystemState). IsImpossible c.args.place e (world_of s.world)) (sym c.self.view_is) none))
@@ -124,8 +134,10 @@ pub returns-in_err-open-clause-impossible : goal.returns-in_err-open-clause-impo
 returns-in_err-open-clause-impossible c = λ none.
     let e : Event = Kqueue c.args.pid c.args.number in
     let w = world_of c.self.inside.world in
-    absurd (not_impossible c.args.place e w (record idle { born = Some
-    (record { pid = c.args.pid; number = c.args.number }) })
+    absurd (not_impossible c.args.place e w (record idle {
+      born = Some
+          (record { pid = c.args.pid; number = c.args.number });
+    })
     (kqueue_opens c.args.place c.args.pid c.args.number w (sym c.is_live.ensures ∙ c.if-not-is_live.false)
     (ap is_some (sym c.named.ensures) ∙ sym c.is_some.ensures ∙ c.if-is_some.false))
     (subst (λ (s : SystemState). IsImpossible c.args.place e (world_of s.world)) (sym c.self.view_is) none))
