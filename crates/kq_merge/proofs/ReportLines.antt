@@ -17,7 +17,7 @@ use Rattle.kq_model.specs.Errno.{error_number}
 use Rattle.kq_model.specs.Spelling.{flags_data, integer, line_text, natural}
 use Rattle.kq_model.specs.Report.{call_count, calls_in, event_count, events_data, events_in, kevent_data, last_line, reply_line, report, row_data, row_lines}
 use Rattle.kq_model.specs.declared.row.Row.{Row}
-use Rattle.kq_merge.specs.Adds.{Adds}
+use Rattle.kq_text.specs.Adds.{Adds}
 use Rattle.kq_merge.specs.EventsText.{events_text}
 
 pub number_text-of_integer : (z : ℤ) → number_text (of_integer z) ≡ signed_decimal z

@@ -1,7 +1,7 @@
 use Rattle.std.proofs.Common.{subst}
 use Rattle.std.proofs.lemmas.Result.{on_ok_weaker}
-use Rattle.kq_merge.specs.Adds.{Adds}
-use Rattle.kq_merge.proofs.Appends.{and_then, as_text}
+use Rattle.kq_text.specs.Adds.{Adds}
+use Rattle.kq_text.proofs.Appends.{and_then, as_text}
 use Rattle.kq_merge.proofs.ReportLines.{impossible_line}
 use Rattle.kq_merge.proofs.report.line.put_impossible.Goals as goal
 
