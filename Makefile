@@ -29,6 +29,7 @@ bench: all
 	cd crates/value_count && rt run < stdin
 	cd crates/trace_check && rt run < stdin
 	bench/run $(KQSIM) $(VALUE_COUNT) $(TRACE_CHECK)
+	bench/kevents $(KQSIM)
 
 install: all
 	install -D -m 755 $(KQSIM) $(DESTDIR)$(PREFIX)/bin/kqsim

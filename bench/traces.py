@@ -42,3 +42,16 @@ def write(path, kind, kevents, records):
             else:
                 file.write(triggers[ident])
                 ident = (ident + 1) % kevents
+
+
+def turnover(path, kevents, records):
+    """Writes a trace in which the oldest of so many kevents is deleted and a new one added, record by record."""
+    with open(path, "w", encoding="ascii") as file:
+        file.write('{"kqsim":1}\n{"op":"proc","pid":1}\n{"op":"kqueue","pid":1,"fd":9}\n')
+        written = 2
+        for start in range(0, kevents, CHANGES):
+            idents = range(start, min(start + CHANGES, kevents))
+            file.write(call([change(it, ["ADD"], 0) for it in idents], 0))
+            written += 1
+        for oldest in range(records - written):
+            file.write(call([change(oldest, ["DELETE"], 0), change(oldest + kevents, ["ADD"], 0)], 0))

@@ -1,8 +1,10 @@
 pub mod QueueLaws
 pub mod CountLaws
+pub mod TableLaws
 pub mod KnoteSteps
 pub mod SoundLaws
 pub mod RegisterLaws
+pub mod TurnSound
 pub mod TurnLaws
 pub mod CallLaws
 pub mod TakenLaws

@@ -1,4 +1,2 @@
 pub mod Ending
-pub mod Held
-pub mod Steps
-pub mod Turn
+pub mod Owned

@@ -1,41 +1,79 @@
-ghost use Rattle.std.specs.Prelude.{◌≡◌, IfOk, OnErr};
+ghost use Rattle.std.specs.Prelude.{◌≡◌, ◌↔◌, ◌≤◌, ◌+◌, [], length, max, min, IsTrue, IfOk, IsOk, OnErr};
 ghost use Rattle.kq_model.specs.Call.{call};
+ghost use Rattle.kq_model.specs.Hearing.{listed};
+ghost use Rattle.kq_model.specs.Kqueue.{Kqueue};
+ghost use Rattle.kq_model.specs.Recast.{tallied, IsTallied};
 ghost use Rattle.kq_model.specs.CallLaws.{IsAnswer, kqueue_after_changes, IsChangesThenPoll};
-ghost use Rattle.kq_model.specs.Views.{Views};
+ghost use Rattle.kq_kevent.specs.Owned.{caller, limit};
 
 use crate::Kq;
 use crate::process::Ending;
-use kq_model::{Change, Memory, Reply, Series};
+use kq_filters::Views;
+use kq_model::{Change, Kevent, Memory, Reply, Series};
+
+/// The answer that has these events, and keeps no memory besides.
+fn answer(mut events: Vec<Kevent>) -> Reply
+    ensures { result ≡ Reply.Events events.items }
+{
+    events.shrink_to_fit();
+    Reply::Events(Series::from_vec(events))
+}
+
+/// Whether a call goes on to read pending events: where no entry was placed.
+fn reads_pending(placed: &[Kevent]) -> bool
+    ensures { IsTrue result ↔ (placed.now ≡ []) }
+{
+    placed.is_empty()
+}
 
 impl Kq {
     /// One kevent call, which waits for nothing: all changes in order, with an entry for each
     /// that fails or asks for a receipt; then, where no entry was placed and no change ended the
     /// call, at most `room` pending events. After `Memory` the kqueue is as it was.
-    pub fn call(&mut self, changes: &[Change], room: u32) -> Result<Reply, Memory>
-        ensures called { IfOk result (λ reply. (views : Views) →
-            record { kq = self.new.kq; reply = reply } ≡ call views self.old.owner room changes.now self.old.kq) }
+    pub fn call<V: Views>(
+        &mut self,
+        changes: &[Change],
+        room: u32,
+        views: &V,
+    ) -> Result<Reply, Memory>
+        ensures called { IfOk result (λ reply. record { kq = self.new.kq; reply = reply }
+            ≡ call (caller (V.sees views.now) self.old) room changes.now self.old.kq) }
+
+        // The same in the words of the definitions, which keep all that was heard.
+        ensures model { IfOk result (λ reply. (m : Kqueue listed) → self.old.kq ≡ tallied m
+            → IsTallied self.new.kq reply (call (caller (V.sees views.now) self.old) room changes.now m)) }
 
         // What the answer promises of the kqueue as the changes left it, and that a call whose
         // changes are all quiet is these changes with room 0 and then a poll.
-        ensures answer { IfOk result (λ reply. (views : Views) →
-            IsAnswer views room (kqueue_after_changes views self.old.owner room changes.now self.old.kq) self.new.kq reply) }
-        ensures poll { (views : Views) → IsChangesThenPoll views self.old.owner room changes.now self.old.kq }
+        ensures answer { IfOk result (IsAnswer (V.sees views.now) room
+            (kqueue_after_changes (caller (V.sees views.now) self.old) room changes.now self.old.kq) self.new.kq) }
+        ensures poll { IsChangesThenPoll (caller (V.sees views.now) self.old) room changes.now self.old.kq }
+
+        ensures owner { self.new.owner ≡ self.old.owner }
+        ensures version { self.new.version ≡ self.old.version }
+        // Room for each change is made first; what was used of it is that of the knotes that came.
+        ensures limit { IfOk result (λ _.
+            limit self.new ≡ length self.old.kq.knotes + max self.old.room (length changes.now)) }
+        ensures room { self.old.room ≤ self.new.room + length changes.now }
 
         ensures err { OnErr result (self.new.kq ≡ self.old.kq) }
-        ensures owner { self.new.owner ≡ self.old.owner }
+
+        // Memory comes only where knotes or events need a place that was not reserved.
+        ensures ok { length changes.now ≤ self.old.room
+            → min room (length self.old.kq.queue + length changes.now) ≡ 0 → IsOk result }
     {
         self.reserve(changes.len())?;
         let room = room as usize;
         let most = room.min(self.queue.len().saturating_add(changes.len()));
         let mut events = Vec::with_capacity(self.queue.allocator(), most).map_err(|_| Memory)?;
-        match self.process(changes, room, &mut events) {
+        match self.process(changes, room, &mut events, views) {
             Ending::Ended(Some(error)) => Ok(Reply::Failed(error)),
-            Ending::Ended(None) => Ok(Reply::Events(Series::from_vec(events))),
+            Ending::Ended(None) => Ok(answer(events)),
             Ending::Through => {
-                if events.is_empty() {
-                    self.retrieve(room, &mut events);
+                if reads_pending(&events) {
+                    self.retrieve(room, &mut events, views);
                 }
-                Ok(Reply::Events(Series::from_vec(events)))
+                Ok(answer(events))
             }
         }
     }

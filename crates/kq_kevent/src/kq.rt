@@ -1,4 +1,4 @@
-ghost use Rattle.std.specs.Prelude.{◌≡◌, ◌<◌, ◌≤◌, OnOk, OnErr};
+ghost use Rattle.std.specs.Prelude.{◌≡◌, ◌<◌, OnOk, OnErr, max};
 ghost use Rattle.kq_model.specs.Kqueue.{empty_kqueue};
 
 use crate::queue::Queue;
@@ -12,51 +12,68 @@ use std::marker::Model;
 #[derive(Drop)]
 pub struct Kq {
     pub(crate) owner: u32,
+    version: u32,
     pub(crate) knotes: Knotes,
     pub(crate) queue: Queue,
 }
 
 impl Model for Kq {
-    ghost use Rattle.std.specs.Prelude.{◌-◌, min, length};
-    ghost use Rattle.kq_kevent.specs.Held.{Held, IsKept};
+    ghost use Rattle.kq_kevent.specs.Owned.{OwnedKqueue, IsLawful};
 
-    ghost Value = { Held };
+    ghost Value = { OwnedKqueue };
 
     ghost view = { λ k. record {
       kq = record { knotes = k.knotes.knotes; queue = k.queue.keys };
       owner = k.owner;
-      room = min k.knotes.room (k.queue.capacity - length k.knotes.knotes);
+      version = k.version;
+      room = k.knotes.room;
     } };
 
-    ghost invariant = { λ k. IsKept k.knotes.knotes k.queue };
+    ghost invariant = { λ k. IsLawful k.knotes k.queue };
 }
 
 impl Kq {
-    /// An empty kqueue of the process with the pid `owner`.
+    /// An empty kqueue of the process with the pid `owner`, by the rules of version 1 of the trace
+    /// format.
     pub fn new(alloc: Global, owner: u32) -> Self
         ensures kq { result.kq ≡ empty_kqueue }
         ensures owner { result.owner ≡ owner }
+        ensures version { result.version ≡ 1 }
+        ensures room { result.room ≡ 0 }
     {
         Kq {
             owner,
+            version: 1,
             knotes: Knotes::new(alloc),
             queue: Queue::new(alloc),
         }
     }
 
+    /// How many further knotes can be registered without memory.
+    pub fn room(&self) -> usize
+        ensures { result ≡ self.now.room }
+    {
+        self.knotes.room()
+    }
+
     /// Makes the room at least `changes`, for so many knotes and for their keys in the queue;
-    /// changes nothing else.
+    /// changes nothing else. After `Memory` nothing has changed.
     pub fn reserve(&mut self, changes: usize) -> Result<(), Memory>
         ensures kq { self.new.kq ≡ self.old.kq }
         ensures owner { self.new.owner ≡ self.old.owner }
-        ensures room { OnOk result (changes ≤ self.new.room) }
-        ensures kept { self.old.room ≤ self.new.room }
+        ensures version { self.new.version ≡ self.old.version }
+        ensures room { OnOk result (self.new.room ≡ max self.old.room changes) }
+        ensures err { OnErr result (self.new.room ≡ self.old.room) }
 
         // Memory comes only where the room was missing.
-        ensures err { OnErr result (self.old.room < changes) }
+        ensures missing { OnErr result (self.old.room < changes) }
     {
-        self.knotes.reserve(changes)?;
-        let waiting = self.queue.len();
-        self.queue.reserve(self.knotes.len() - waiting + changes)
+        if changes <= self.room() {
+            return Ok(());
+        }
+        let unqueued = self.knotes.len() - self.queue.len();
+        let more = unqueued.checked_add(changes).ok_or(Memory)?;
+        self.queue.reserve(more)?;
+        self.knotes.reserve(changes)
     }
 }

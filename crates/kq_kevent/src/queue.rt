@@ -1,24 +1,28 @@
-ghost use Rattle.std.specs.Prelude.{◌≡◌, ◌<◌, ◌≤◌, ◌+◌, ◌++◌, ◌∷◌, [], not, length, OnOk, OnErr, MatchOption};
-ghost use Rattle.kq_model.specs.Knote.{key_eq, without_key};
+ghost use Rattle.std.specs.Prelude.{◌≡◌, ◌<◌, ◌≤◌, ◌+◌, ◌++◌, ◌∷◌, [], false, length, OnOk, OnErr, MatchOption};
+ghost use Rattle.kq_model.specs.Knote.{has_key, without_key};
 
 use kq_model::{Key, Memory};
+use kq_table::Table;
 use std::alloc::Global;
-use std::collections::VecDeque;
 use std::marker::Model;
 
 /// The keys of the knotes that are to be returned, the next one first (Lemon 2001, section 4.2).
+/// Each call but `reserve` takes constant time on average, and no memory.
 #[derive(Drop)]
 pub struct Queue {
-    keys: VecDeque<Key>,
+    keys: Table<Key>,
 }
 
 impl Model for Queue {
-    ghost use Rattle.std.specs.VecDeque.{deque_capacity};
-    ghost use Rattle.kq_kevent.specs.Held.{Keys};
+    ghost use Rattle.std.specs.Prelude.{◌+◌, length};
+    ghost use Rattle.kq_model.specs.Kqueue.{AreOnce};
+    ghost use Rattle.kq_kevent.specs.Owned.{Keys};
 
     ghost Value = { Keys };
 
-    ghost view = { λ q. record { keys = q.keys.items; capacity = deque_capacity q.keys } };
+    ghost view = { λ q. record { keys = q.keys.rows; capacity = length q.keys.rows + q.keys.room } };
+
+    ghost invariant = { λ q. AreOnce q.keys.rows };
 }
 
 impl Queue {
@@ -26,12 +30,12 @@ impl Queue {
         ensures { result.keys ≡ [] }
     {
         Queue {
-            keys: VecDeque::new(alloc),
+            keys: Table::new(alloc),
         }
     }
 
     pub fn allocator(&self) -> Global {
-        *self.keys.allocator()
+        self.keys.allocator()
     }
 
     pub fn len(&self) -> usize
@@ -40,44 +44,49 @@ impl Queue {
         self.keys.len()
     }
 
+    /// Whether a key is in the queue.
+    pub fn has(&self, key: Key) -> bool
+        ensures { result ≡ has_key key self.now.keys }
+    {
+        self.keys.contains(key)
+    }
+
     /// Makes room for so many keys behind those that it has.
     pub fn reserve(&mut self, more: usize) -> Result<(), Memory>
         ensures keys { self.new.keys ≡ self.old.keys }
         ensures capacity { OnOk result (length self.old.keys + more ≤ self.new.capacity) }
         ensures kept { self.old.capacity ≤ self.new.capacity }
-        ensures err { OnErr result (self.old.capacity < length self.old.keys + more) }
+        ensures err { OnErr result (self.new.capacity ≡ self.old.capacity) }
+        ensures missing { OnErr result (self.old.capacity < length self.old.keys + more) }
     {
-        self.keys.reserve(more).map_err(|_| Memory)
+        self.keys.reserve(more)
     }
 
     /// The one place that puts a key into the queue: at the back.
     pub fn put_in(&mut self, key: Key)
-        requires { length self.old.keys < self.old.capacity }
+        requires absent { has_key key self.old.keys ≡ false }
+        requires capacity { length self.old.keys < self.old.capacity }
         ensures keys { self.new.keys ≡ self.old.keys ++ key ∷ [] }
         ensures capacity { self.new.capacity ≡ self.old.capacity }
     {
-        self.keys.push_back_reserved(key);
+        self.keys.attach(key);
     }
 
-    /// The one place that takes a key out of the middle of the queue.
+    /// The one place that takes a key out of the middle of the queue, where it is there.
     pub fn take_out(&mut self, key: Key)
         ensures keys { self.new.keys ≡ without_key key self.old.keys }
         ensures capacity { self.new.capacity ≡ self.old.capacity }
     {
-        self.keys.retain(|other| is_not(&key, other));
+        self.keys.remove(key);
     }
 
     /// Takes out the key at the front.
     pub fn take_front(&mut self) -> Option<Key>
-        ensures keys { MatchOption result ((self.old.keys ≡ []) × (self.new.keys ≡ [])) (λ key. self.old.keys ≡ key ∷ self.new.keys) }
+        ensures keys { MatchOption result
+            ((self.old.keys ≡ []) × (self.new.keys ≡ []))
+            (λ key. self.old.keys ≡ key ∷ self.new.keys) }
         ensures capacity { self.new.capacity ≡ self.old.capacity }
     {
         self.keys.pop_front()
     }
-}
-
-fn is_not(key: &Key, other: &Key) -> bool
-    ensures { result ≡ not (key_eq key.now other.now) }
-{
-    *key != *other
 }

@@ -1,19 +1,23 @@
-ghost use Rattle.std.specs.Prelude.{◌≡◌, ◌<◌, ◌≤◌, ◌+◌, ◌++◌, ◌∷◌, [], ℕ, None, Some, false, length, OnSome};
+ghost use Rattle.std.specs.Prelude.{◌≡◌, ◌<◌, ◌≤◌, ◌+◌, [], None, Some, false, length, OnSome};
 ghost use Rattle.kq_model.specs.Bits.{asks};
 ghost use Rattle.kq_model.specs.Call.{number_of};
+ghost use Rattle.kq_model.specs.ChangedKnote.{key_of, made, modified};
+ghost use Rattle.kq_model.specs.Hearing.{listed};
 ghost use Rattle.kq_model.specs.Knote.{find_knote, has_key};
-ghost use Rattle.kq_model.specs.Registration.{register, queue_for, key_of, made, modified};
-ghost use Rattle.kq_model.specs.Views.{Views};
+ghost use Rattle.kq_model.specs.Kqueue.{Kqueue};
+ghost use Rattle.kq_model.specs.Recast.{tallied};
+ghost use Rattle.kq_model.specs.Refusals.{is_malformed};
+ghost use Rattle.kq_model.specs.Registration.{register, queue_for, with_made, with_removed, with_modified};
+ghost use Rattle.kq_model.specs.RegistrationLaws.{IsRegistered};
 ghost use Rattle.kq_model.specs.declared.filter.Filter.{Filter};
-ghost use Rattle.kq_kevent.specs.Steps.{is_malformed, with_made, with_removed, with_modified};
-ghost use Rattle.std.specs.Option.{ForSome};
-ghost use Rattle.kq_knote.specs.Reserved.{IsPlaceOf};
+ghost use Rattle.kq_kevent.specs.Owned.{caller, limit, IsTalliedRegistration};
 
 use crate::Kq;
 use crate::look::attend;
 use crate::process::number_of;
 use crate::queue::Queue;
 use bitflags::Flags;
+use kq_filters::Views;
 use kq_knote::Knote;
 use kq_model::{Change, Errno, EvFlags, Filter, Key};
 
@@ -37,68 +41,74 @@ fn is_malformed(change: &Change) -> bool
 }
 
 impl Queue {
-    /// Keeps the key of a knote, which waited before or not, where it now belongs: out of the
-    /// queue when disabled, at the back when it has come to wait.
+    /// Keeps the key of a knote where it now belongs: out of the queue when disabled, and when it
+    /// is to be returned at the back, unless it waits already.
     #[tactic(auto, unfolding(kq_model::specs::Registration::queue_for))]
-    pub fn place(&mut self, knote: &Knote, waited: bool)
-        requires waited { has_key knote.now.key self.old.keys ≡ waited }
-        requires capacity { waited ≡ false → length self.old.keys < self.old.capacity }
+    pub fn place(&mut self, knote: &Knote)
+        requires { has_key knote.now.key self.old.keys ≡ false → length self.old.keys < self.old.capacity }
         ensures keys { self.new.keys ≡ queue_for knote.now self.old.keys }
         ensures capacity { self.new.capacity ≡ self.old.capacity }
     {
-        if knote.enabled {
-            if knote.active && !waited {
-                self.put_in(knote.key);
-            }
-        } else if waited {
+        if !knote.enabled {
             self.take_out(knote.key);
+        } else if knote.active && !self.has(knote.key) {
+            self.put_in(knote.key);
         }
     }
 }
 
 impl Kq {
     /// Registers one change of a change list: 0, or the number of the error with which it is
-    /// refused. It takes no memory. A refused change leaves the kqueue as it was.
-    pub fn register(&mut self, change: &Change) -> u32
+    /// refused (kqueue(2), ERRORS). It takes no memory.
+    pub fn register<V: Views>(&mut self, change: &Change, views: &V) -> u32
         requires { 0 < self.old.room }
-        ensures kq { (views : Views) → self.new.kq ≡ (register views self.old.owner change.now self.old.kq).kq }
-        ensures error { (views : Views) → result ≡ number_of (register views self.old.owner change.now self.old.kq).error }
-        ensures refused { 0 < result → self.new.kq ≡ self.old.kq }
+        ensures kq { self.new.kq ≡ (register (caller (V.sees views.now) self.old) change.now self.old.kq).kq }
+        ensures error { result
+            ≡ number_of (register (caller (V.sees views.now) self.old) change.now self.old.kq).error }
+        // What this comes to for a user: other knotes and their order stay, ADD makes no second one,
+        // and a refused change changes nothing.
+        ensures laws { IsRegistered change.now self.old.kq self.new.kq result }
+
+        // The same in the words of the definitions, which keep all that was heard.
+        ensures model { (m : Kqueue listed) → self.old.kq ≡ tallied m → IsTalliedRegistration self.new.kq result
+            (register (caller (V.sees views.now) self.old) change.now m) }
+
         ensures owner { self.new.owner ≡ self.old.owner }
+        ensures version { self.new.version ≡ self.old.version }
         ensures room { self.old.room ≤ self.new.room + 1 }
+        ensures limit { limit self.new ≡ limit self.old }
     {
-        number_of(self.apply(change))
+        number_of(self.apply(change, views))
     }
 
     /// Registers one change, and gives the error with which it is refused. The refusals stand in
     /// their order: a filter that is not simulated, ENABLE with DISABLE, nothing there and no ADD.
-    pub(crate) fn apply(&mut self, change: &Change) -> Option<Errno>
+    pub(crate) fn apply<V: Views>(&mut self, change: &Change, views: &V) -> Option<Errno>
         requires { 0 < self.old.room }
-        ensures kq { (views : Views) → self.new.kq ≡ (register views self.old.owner change.now self.old.kq).kq }
-        ensures error { (views : Views) → result ≡ (register views self.old.owner change.now self.old.kq).error }
+        ensures kq { self.new.kq ≡ (register (caller (V.sees views.now) self.old) change.now self.old.kq).kq }
+        ensures error { result ≡ (register (caller (V.sees views.now) self.old) change.now self.old.kq).error }
         ensures refused { OnSome result (self.new.kq ≡ self.old.kq) }
         ensures owner { self.new.owner ≡ self.old.owner }
+        ensures version { self.new.version ≡ self.old.version }
         ensures room { self.old.room ≤ self.new.room + 1 }
+        ensures limit { limit self.new ≡ limit self.old }
     {
         if is_malformed(change) {
             return Some(Errno::EINVAL);
         }
-        let key = Key {
-            ident: change.ident,
-            filter: change.filter,
-        };
+        let key = change.key();
         match self.knotes.find(key) {
             None => {
                 if !asks(change.flags, EvFlags::ADD) {
                     return Some(Errno::ENOENT);
                 }
-                self.make(change);
+                self.make(change, views);
             }
-            Some(place) => {
+            Some(knote) => {
                 if asks(change.flags, EvFlags::DELETE) {
-                    self.unmake(place, key);
+                    self.unmake(key);
                 } else {
-                    self.modify(place, change);
+                    self.modify(knote, change, views);
                 }
             }
         }
@@ -106,47 +116,49 @@ impl Kq {
     }
 
     /// Makes the knote of a change.
-    fn make(&mut self, change: &Change)
+    fn make<V: Views>(&mut self, change: &Change, views: &V)
         requires room { 0 < self.old.room }
         requires user { change.now.filter ≡ Filter.User }
         requires absent { find_knote (key_of change.now) self.old.kq.knotes ≡ None }
-        ensures kq { (views : Views) → self.new.kq ≡ with_made (made views self.old.owner change.now) self.old.kq }
+        ensures kq { self.new.kq ≡ with_made (made (caller (V.sees views.now) self.old) change.now) self.old.kq }
         ensures owner { self.new.owner ≡ self.old.owner }
-        ensures room { self.old.room ≤ self.new.room + 1 }
+        ensures version { self.new.version ≡ self.old.version }
+        ensures room { self.new.room + 1 ≡ self.old.room }
     {
         let mut knote = Knote::first(change);
-        attend(&mut knote);
+        attend(views, &mut knote);
         self.knotes.attach(knote);
-        self.queue.place(&knote, false);
+        self.queue.place(&knote);
     }
 
-    /// Takes out the knote of a key, which stands at this place.
-    fn unmake(&mut self, place: usize, key: Key)
-        requires { IsPlaceOf key self.old.kq.knotes place }
+    /// Takes out the knote of a key.
+    fn unmake(&mut self, key: Key)
         ensures kq { self.new.kq ≡ with_removed key self.old.kq }
         ensures owner { self.new.owner ≡ self.old.owner }
+        ensures version { self.new.version ≡ self.old.version }
         ensures room { self.old.room ≤ self.new.room }
+        ensures limit { limit self.new ≡ limit self.old }
     {
-        let knote = self.knotes.remove_at(place, key);
-        if knote.is_waiting() {
-            self.queue.take_out(key);
-        }
+        self.knotes.remove(key);
+        self.queue.take_out(key);
     }
 
-    /// Lets a change modify the knote of its key, which stands at this place.
-    fn modify(&mut self, place: usize, change: &Change)
-        requires { IsPlaceOf (key_of change.now) self.old.kq.knotes place }
-        ensures kq { (views : Views) → ForSome (find_knote (key_of change.now) self.old.kq.knotes) (λ k. self.new.kq ≡ with_modified (modified views change.now k) self.old.kq) }
+    /// Lets a change modify the knote of its key.
+    fn modify<V: Views>(&mut self, present: Knote, change: &Change, views: &V)
+        requires user { change.now.filter ≡ Filter.User }
+        requires present { find_knote (key_of change.now) self.old.kq.knotes ≡ Some present }
+        ensures kq { self.new.kq
+            ≡ with_modified change.now (modified (caller (V.sees views.now) self.old) change.now present) self.old.kq }
         ensures owner { self.new.owner ≡ self.old.owner }
-        ensures room { self.old.room ≤ self.new.room }
+        ensures version { self.new.version ≡ self.old.version }
+        ensures room { self.new.room ≡ self.old.room }
     {
-        let mut knote = *self.knotes.at(place);
-        let waited = knote.is_waiting();
+        let mut knote = present;
         knote.replace(change);
         knote.control(change);
         knote.switch(change);
-        attend(&mut knote);
-        self.knotes.put_at(place, knote);
-        self.queue.place(&knote, waited);
+        attend(views, &mut knote);
+        self.knotes.modify(knote);
+        self.queue.place(&knote);
     }
 }

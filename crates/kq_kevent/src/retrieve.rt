@@ -1,33 +1,37 @@
-ghost use Rattle.std.specs.Prelude.{◌≡◌, ◌<◌, ◌≤◌, [], length, min, vec_len};
+ghost use Rattle.std.specs.Prelude.{◌≡◌, ◌+◌, ◌<◌, ◌≤◌, ◌∷◌, List, [], false, length, min};
 ghost use Rattle.std.specs.Vec.{vec_capacity};
-ghost use Rattle.kq_model.specs.Retrieval.{knotes_after, back_after, retrieval};
-ghost use Rattle.kq_model.specs.Views.{Views};
-ghost use Rattle.kq_knote.specs.Reserved.{IsPlaceOf};
-ghost use Rattle.kq_kevent.specs.Turn.{turned};
+ghost use Rattle.kq_model.specs.Knote.{has_key};
+ghost use Rattle.kq_model.specs.Kqueue.{HaveOwnKeys};
+ghost use Rattle.kq_model.specs.Retrieval.{knotes_after, back_after, turned, retrieval};
+ghost use Rattle.kq_model.specs.declared.key.Key.{Key};
+ghost use Rattle.kq_kevent.specs.Owned.{limit};
 
 use crate::Kq;
-use crate::look::{event_of, look};
+use crate::look::{event_of, look_in};
 use crate::queue::Queue;
+use kq_filters::Views;
 use kq_knote::{Knote, Knotes};
 use kq_model::Kevent;
 
 /// What becomes of a knote, and of its key, once it was delivered: with ONESHOT it is deleted;
 /// else with CLEAR or DISPATCH it rests; else its key goes to the back.
 #[tactic(auto, unfolding(kq_model::specs::Retrieval::knotes_after, kq_model::specs::Retrieval::back_after, kq_model::specs::Retrieval::stays))]
-fn settle(knotes: &mut Knotes, queue: &mut Queue, place: usize, delivered: &Knote)
-    requires place { IsPlaceOf delivered.now.key knotes.old.knotes place }
+fn settle(knotes: &mut Knotes, queue: &mut Queue, delivered: &Knote)
+    requires own_keys { HaveOwnKeys knotes.old.knotes }
+    requires absent { has_key delivered.now.key queue.old.keys ≡ false }
     requires capacity { length queue.old.keys < queue.old.capacity }
     ensures knotes { knotes.new.knotes ≡ knotes_after delivered.now knotes.old.knotes }
     ensures keys { queue.new.keys ≡ back_after delivered.now queue.old.keys }
     ensures room { knotes.old.room ≤ knotes.new.room }
+    ensures limit { length knotes.new.knotes + knotes.new.room ≡ length knotes.old.knotes + knotes.old.room }
     ensures capacity { queue.new.capacity ≡ queue.old.capacity }
 {
     if delivered.oneshot {
-        knotes.remove_at(place, delivered.key);
+        knotes.remove(delivered.key);
     } else if delivered.clear || delivered.dispatch {
         let mut rested = *delivered;
         rested.rest();
-        knotes.put_at(place, rested);
+        knotes.modify(rested);
     } else {
         queue.put_in(delivered.key);
     }
@@ -36,26 +40,31 @@ fn settle(knotes: &mut Knotes, queue: &mut Queue, place: usize, delivered: &Knot
 impl Kq {
     /// Takes the key at the front out of the queue and looks at its knote: an event is delivered
     /// where the condition still holds, else the knote becomes inactive.
-    fn turn(&mut self) -> Option<Kevent>
-        ensures kq { (views : Views) → self.new.kq ≡ (turned views self.old.kq).kq }
-        ensures event { (views : Views) → result ≡ (turned views self.old.kq).event }
+    fn turn<V: Views>(&mut self, views: &V) -> Option<Kevent>
+        requires { 0 < length self.old.kq.queue }
+        ensures kq { (key : Key) (rest : List Key) → self.old.kq.queue ≡ key ∷ rest
+            → self.new.kq ≡ (turned (V.sees views.now) key (record self.old.kq { queue = rest })).kq }
+        ensures event { (key : Key) (rest : List Key) → self.old.kq.queue ≡ key ∷ rest
+            → result ≡ (turned (V.sees views.now) key (record self.old.kq { queue = rest })).event }
         ensures owner { self.new.owner ≡ self.old.owner }
+        ensures version { self.new.version ≡ self.old.version }
+        ensures room { self.old.room ≤ self.new.room }
+        ensures limit { limit self.new ≡ limit self.old }
     {
         let Some(key) = self.queue.take_front() else {
-            return None;
+            unreachable!();
         };
-        let Some(place) = self.knotes.find(key) else {
-            return None;
+        let Some(mut knote) = self.knotes.find(key) else {
+            unreachable!();
         };
-        let mut knote = *self.knotes.at(place);
-        match look(&knote) {
+        match look_in(views, &knote) {
             None => {
                 knote.active = false;
-                self.knotes.put_at(place, knote);
+                self.knotes.modify(knote);
                 None
             }
             Some(seen) => {
-                settle(&mut self.knotes, &mut self.queue, place, &knote);
+                settle(&mut self.knotes, &mut self.queue, &knote);
                 Some(event_of(&knote, seen))
             }
         }
@@ -63,17 +72,21 @@ impl Kq {
 
     /// Takes at most `room` events out of the kqueue. The queue as it stands is gone through once
     /// from the front; what goes to the back meanwhile is not met again.
-    pub(crate) fn retrieve(&mut self, room: usize, events: &mut Vec<Kevent>)
+    pub(crate) fn retrieve<V: Views>(&mut self, room: usize, events: &mut Vec<Kevent>, views: &V)
         requires none { events.old.items ≡ [] }
         requires capacity { min room (length self.old.kq.queue) ≤ vec_capacity events.old }
-        ensures retrieved { (views : Views) → retrieval views room self.old.kq ≡ record { kq = self.new.kq; events = events.new.items } }
+        ensures retrieved { retrieval (V.sees views.now) room self.old.kq
+            ≡ record { kq = self.new.kq; events = events.new.items } }
         ensures owner { self.new.owner ≡ self.old.owner }
+        ensures version { self.new.version ≡ self.old.version }
+        ensures room { self.old.room ≤ self.new.room }
+        ensures limit { limit self.new ≡ limit self.old }
     {
         for _turn in 0..self.queue.len() {
             if events.len() == room {
                 return;
             }
-            if let Some(event) = self.turn() {
+            if let Some(event) = self.turn(views) {
                 events.push_reserved(event);
             }
         }

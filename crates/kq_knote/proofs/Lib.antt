@@ -1,4 +1,1 @@
-pub mod ListLaws
-pub mod KeyLaws
-pub mod KnoteLaws
-pub mod PlaceLaws
+pub mod RowLaws

@@ -1,26 +1,18 @@
 ghost use Rattle.std.specs.Prelude.{◌≡◌, ℕ, ◌/◌};
 ghost use Rattle.kq_model.specs.Bits.{asks};
-ghost use Rattle.kq_model.specs.Registration.{fresh, begun, replaced, changed, switched, controlled, key_of};
+ghost use Rattle.kq_model.specs.Caller.{Caller};
+ghost use Rattle.kq_model.specs.ChangedKnote.{fresh, begun, replaced, changed, switched, controlled, key_of};
 ghost use Rattle.kq_model.specs.Retrieval.{rested};
-ghost use Rattle.kq_model.specs.Views.{Views};
 ghost use Rattle.kq_model.specs.declared.filter.Filter.{Filter};
 
-use crate::Knote;
+use crate::{Knote, Tally};
 use bitflags::Flags;
-use kq_model::{Change, EvFlags, Filter, Key};
-
-/// NOTE_TRIGGER: the user event happens now.
-const TRIGGER: u32 = 0x0100_0000;
-
-/// The bits of fflags that are the user's own.
-const OWN_BITS: u32 = 0x00ff_ffff;
-
-/// How far the two control bits stand from the end.
-const CONTROL: u32 = 0x4000_0000;
+use kq_model::notes::{NOTE_FFAND, NOTE_FFLAGSMASK, NOTE_TRIGGER};
+use kq_model::{Change, EvFlags, Filter, Target};
 
 /// The user's bits after a change, by its control: NOTE_FFNOP 0 leaves them, NOTE_FFAND 1,
 /// NOTE_FFOR 2 and NOTE_FFCOPY 3 do as named.
-#[tactic(auto, unfolding(kq_model::specs::Registration::controlled))]
+#[tactic(auto, unfolding(kq_model::specs::ChangedKnote::controlled))]
 fn controlled(how: u32, bits: u32, given: u32) -> u32
     ensures { result ≡ controlled how bits given }
 {
@@ -36,17 +28,15 @@ impl Knote {
     /// The knote that a first ADD makes, before it is looked at: with the change's actions, and
     /// enabled unless the change says DISABLE. Of a user event it stores the low 24 bits,
     /// whatever the control bits.
-    #[tactic(auto, unfolding(kq_model::specs::Registration::begun, kq_model::specs::Registration::fresh, kq_model::specs::Look::target_of))]
+    #[tactic(auto, unfolding(kq_model::specs::ChangedKnote::begun, kq_model::specs::ChangedKnote::fresh, kq_model::specs::ChangedKnote::always_clears, kq_model::specs::Targets::target_of))]
     pub fn first(change: &Change) -> Knote
         requires { change.now.filter ≡ Filter.User }
-        ensures { (views : Views) (owner : ℕ) → result ≡ begun change.now.filter change.now (fresh views owner change.now) }
+        ensures { (caller : Caller) → result ≡ begun change.now.filter caller change.now (fresh caller change.now) }
     {
         let flags = change.flags;
         Knote {
-            key: Key {
-                ident: change.ident,
-                filter: change.filter,
-            },
+            key: change.key(),
+            target: Some(Target::Own),
             fflags: change.fflags,
             datum: change.datum,
             udata: change.udata,
@@ -55,14 +45,17 @@ impl Knote {
             dispatch: flags.contains(EvFlags::DISPATCH),
             enabled: !flags.contains(EvFlags::DISABLE),
             active: false,
-            bits: change.fflags & OWN_BITS,
-            triggered: change.fflags & TRIGGER == TRIGGER,
+            tally: Tally::empty(),
+            start: 0,
+            period: 0,
+            bits: change.fflags & NOTE_FFLAGSMASK,
+            triggered: change.fflags & NOTE_TRIGGER == NOTE_TRIGGER,
         }
     }
 
     /// Replaces udata, and with ADD also the parameters; ADD enables unless the change says
     /// DISABLE.
-    #[tactic(auto, unfolding(kq_model::specs::Registration::replaced))]
+    #[tactic(auto, unfolding(kq_model::specs::ChangedKnote::replaced))]
     pub fn replace(&mut self, change: &Change)
         ensures { self.new ≡ replaced change.now self.old }
     {
@@ -76,19 +69,23 @@ impl Knote {
 
     /// Of a user event a later change applies its control to the bits, replaces the data, and
     /// triggers where it says so.
-    #[tactic(auto, unfolding(kq_model::specs::Registration::changed))]
+    #[tactic(auto, unfolding(kq_model::specs::ChangedKnote::changed))]
     pub fn control(&mut self, change: &Change)
         ensures { self.new ≡ changed change.now.filter change.now self.old }
     {
         if change.filter == Filter::User {
-            self.bits = controlled(change.fflags / CONTROL, self.bits, change.fflags & OWN_BITS);
+            self.bits = controlled(
+                change.fflags / NOTE_FFAND,
+                self.bits,
+                change.fflags & NOTE_FFLAGSMASK,
+            );
             self.datum = change.datum;
-            self.triggered = self.triggered || change.fflags & TRIGGER == TRIGGER;
+            self.triggered = self.triggered || change.fflags & NOTE_TRIGGER == NOTE_TRIGGER;
         }
     }
 
     /// ENABLE enables and DISABLE disables.
-    #[tactic(auto, unfolding(kq_model::specs::Registration::switched))]
+    #[tactic(auto, unfolding(kq_model::specs::ChangedKnote::switched))]
     pub fn switch(&mut self, change: &Change)
         ensures { self.new ≡ switched change.now self.old }
     {
@@ -96,13 +93,14 @@ impl Knote {
             && !change.flags.contains(EvFlags::DISABLE);
     }
 
-    /// What CLEAR and DISPATCH do to a knote that was delivered: CLEAR takes back the trigger of a
-    /// user event, DISPATCH disables; it is not active.
+    /// What CLEAR and DISPATCH do to a knote that was delivered: CLEAR takes back what it heard and
+    /// the trigger of a user event, DISPATCH disables; it is not active.
     #[tactic(auto, unfolding(kq_model::specs::Retrieval::rested, kq_model::specs::Retrieval::reset))]
     pub fn rest(&mut self)
         ensures { self.new ≡ rested self.old }
     {
         if self.clear {
+            self.tally = Tally::empty();
             self.triggered = false;
         }
         self.active = false;

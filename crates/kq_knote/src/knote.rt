@@ -1,16 +1,18 @@
 ghost use Rattle.std.specs.Prelude.{◌≡◌, Some};
-ghost use Rattle.kq_model.specs.Knote.{key_eq};
 ghost use Rattle.kq_model.specs.Kqueue.{is_waiting};
 
-use kq_model::{Change, EvFlags, Filter, Key};
+use crate::Tally;
+use kq_model::{Key, Target};
+use kq_table::Keyed;
 use std::marker::Model;
 
-/// What a kqueue keeps of one registered kevent (kqueue(2)). Contracts see it as a knote of the
-/// model that has heard nothing and has no timer: a user event needs neither.
+/// What a kqueue keeps of one registered kevent (kqueue(2)).
 #[derive(Debug, Drop, Clone, Copy)]
 pub struct Knote {
     /// Which knote of its kqueue it is.
     pub key: Key,
+    /// What is watched; none where the change named nothing that is there.
+    pub target: Option<Target>,
     /// The filter's own flags, of the last change that set them.
     pub fflags: u32,
     /// The filter's own number, of the last change that set it.
@@ -27,6 +29,12 @@ pub struct Knote {
     pub enabled: bool,
     /// Its condition held when it was looked at last.
     pub active: bool,
+    /// What was heard since the last reset.
+    pub tally: Tally,
+    /// Of a timer, the moment at which it was started, in nanoseconds.
+    pub start: u64,
+    /// Of a timer, in nanoseconds.
+    pub period: u64,
     /// Of a user event, its low 24 bits.
     pub bits: u32,
     /// Of a user event: triggered since it was reset.
@@ -34,15 +42,13 @@ pub struct Knote {
 }
 
 impl Model for Knote {
-    ghost use Rattle.std.specs.Prelude.{[], Some};
-    ghost use Rattle.kq_model.specs.Knote as model;
-    ghost use Rattle.kq_model.specs.declared.object.Target.TheVariants.{Own};
+    ghost use Rattle.kq_model.specs.Tallied as tallied;
 
-    ghost Value = { model.Knote };
+    ghost Value = { tallied.Knote };
 
     ghost view = { λ k. record {
       key = k.key;
-      target = Some Own;
+      target = k.target;
       fflags = k.fflags;
       datum = k.datum;
       udata = k.udata;
@@ -51,15 +57,16 @@ impl Model for Knote {
       dispatch = k.dispatch;
       enabled = k.enabled;
       active = k.active;
-      seen = [];
-      start = 0;
-      period = 0;
+      seen = k.tally;
+      start = k.start;
+      period = k.period;
       bits = k.bits;
       triggered = k.triggered;
     } };
 
     ghost inverse = { λ k. record {
       key = k.key;
+      target = k.target;
       fflags = k.fflags;
       datum = k.datum;
       udata = k.udata;
@@ -68,19 +75,26 @@ impl Model for Knote {
       dispatch = k.dispatch;
       enabled = k.enabled;
       active = k.active;
+      tally = k.seen;
+      start = k.start;
+      period = k.period;
       bits = k.bits;
       triggered = k.triggered;
     } };
 }
 
-impl Knote {
-    /// Whether this is the knote of the key.
-    pub fn is_of(&self, key: &Key) -> bool
-        ensures { result ≡ key_eq key.now self.now.key }
-    {
-        *key == self.key
-    }
+/// At most one knote of a kqueue has a key.
+impl Keyed for Knote {
+    type Key = Key;
 
+    ghost key_of = { λ k. k.key };
+
+    fn key(&self) -> Key {
+        self.key
+    }
+}
+
+impl Knote {
     /// Whether it stands in the queue: active and enabled.
     #[tactic(auto, unfolding(kq_model::specs::Kqueue::is_waiting))]
     pub fn is_waiting(&self) -> bool

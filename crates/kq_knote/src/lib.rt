@@ -4,6 +4,8 @@
 mod changes;
 mod knote;
 mod knotes;
+mod tally;
 
 pub use knote::Knote;
 pub use knotes::Knotes;
+pub use tally::Tally;

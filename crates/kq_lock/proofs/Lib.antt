@@ -1,13 +1,17 @@
 pub mod Beginnings
 pub mod Logs
+pub mod Leading
+pub mod Books
 pub mod Numbers
 pub mod Keeping
 pub mod Looking
 pub mod Turning
+pub mod Passing
 pub mod Parting
 pub mod Numbered
 pub mod Ending
 pub mod Allowed
 pub mod Held
 pub mod Resting
+pub mod Apart
 pub mod Seating

@@ -1,3 +1,4 @@
 pub mod Calls
 pub mod Turns
 pub mod Seats
+pub mod Merging

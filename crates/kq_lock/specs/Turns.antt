@@ -1,5 +1,6 @@
 -- The rule of the lock's table, and what each step tells the seat that takes it.
-use Rattle.std.specs.Prelude.{◌≡◌, ◌≢◌, ℕ, ◌+◌, ◌%◌, ◌<◌, ◌≤◌, true, false, Some, None, List, [], ◌∷◌, ◌++◌, length, sum_by}
+use Rattle.std.specs.Prelude.{◌≡◌, ◌≢◌, ℕ, ◌+◌, ◌%◌, ◌<◌, ◌≤◌, true, false, Some, None, List, []}
+use Rattle.std.specs.Prelude.{◌∷◌, ◌++◌, length, sum_by}
 use Rattle.std.specs.Prelude as std
 use mathlib.Core.List.{IsPrefix}
 use mathlib.Core.Option.{Option, some}
@@ -14,10 +15,14 @@ use Rattle.kq_lock.specs.declared.view.View.{View}
 use Rattle.kq_lock.specs.declared.view.Stage.{Stage}
 use Rattle.kq_lock.specs.declared.view.Stage.TheVariants.{Spent, Idle, Joined, Waits, Holds, Raised}
 use Rattle.kq_lock.specs.Calls.{plain, call_of, calls_by, Each, IsMade, Merged, longer, Leads}
+use Rattle.kq_lock.specs.Calls.{Grows}
 
--- What the words and the slot stand for. The phase is 0 while the turn is free, 1 once a seat has taken the value out, and 2 once it has raised LENGTH.
--- `who` tells which seat drew a ticket, `owner` which seat owns a number, and `made` is the number of each seat that was made, in the order of the seats.
-pub record World (M S A : Type 0) : Type 0 where
+-- What the words and the slot stand for. The phase is 0 while the turn is free, 1 once a seat has
+-- taken the value out, and 2 once it has raised LENGTH. `who` tells which seat drew a ticket,
+-- `owner`
+-- which seat owns a number, and `made` is the number of each seat that was made, in the seats'
+-- order.
+pub record LockState (M S A : Type 0) : Type 0 where
   pub ticket : ℕ
   pub serving : ℕ
   pub log : List (Call S A)
@@ -39,7 +44,7 @@ Homes M S A = List (Option (std.Option (Kept M S A)))
 
 module _ {M S A : Type 0} where
   -- LENGTH, TICKET and SERVING
-  abbrev pub words_of : World M S A → List ℕ
+  abbrev pub words_of : LockState M S A → List ℕ
   words_of x = length x.log ∷ x.ticket ∷ x.serving ∷ []
 
   -- the seat may use the number, for itself or for a seat that is split off
@@ -54,7 +59,7 @@ module _ {M S A : Type 0} where
   abbrev pub tickets_at : Stage M S A → ℕ
   tickets_at Spent = 0
   tickets_at Idle = 0
-  tickets_at (Joined before other) = 0
+  tickets_at (Joined before other n s) = 0
   tickets_at _ = 1
 
   abbrev pub tickets : View M S A → ℕ
@@ -66,70 +71,133 @@ module _ {M S A : Type 0} where
   Carries t (Raised u v l) = u ≡ t
   Carries t _ = ⊥
 
-  -- what the stage of the seat j says of the world
-  abbrev pub Stands : World M S A → ℕ → ℕ → ℕ → List (Call S A) → Stage M S A → Type 0
+  -- the seat j has the turn with the ticket t, took out v with the history l, and is in this phase
+  abbrev pub IsInTurn : LockState M S A → ℕ → ℕ → ℕ → M → List (Call S A) → Type 0
+  IsInTurn x j phase t v l =
+      (x.who t ≡ j) × (t ≡ x.serving) × (t < x.ticket) × (x.phase ≡ phase) × (v ≡ x.value)
+      × (l ≡ x.log)
+
+  -- what the stage of the seat j says of the state
+  abbrev pub Stands : LockState M S A → ℕ → ℕ → ℕ → List (Call S A) → Stage M S A → Type 0
   Stands x j number stride seen Spent = Unit {0}
   Stands x j number stride seen Idle = Unit {0}
-  Stands x j number stride seen (Joined before other) = Merged number stride seen before other
-  Stands x j number stride seen (Waits t) = (x.who t ≡ j) × (x.serving ≤ t) × (t < x.ticket) × (t ≡ x.serving → x.phase ≡ 0)
-  Stands x j number stride seen (Holds t v l) = (x.who t ≡ j) × (t ≡ x.serving) × (t < x.ticket) × (x.phase ≡ 1) × (v ≡ x.value) × (l ≡ x.log)
-  Stands x j number stride seen (Raised t v l) = (x.who t ≡ j) × (t ≡ x.serving) × (t < x.ticket) × (x.phase ≡ 2) × (v ≡ x.value) × (l ≡ x.log)
+  Stands x j number stride seen (Joined before other n s) =
+      Merged number stride n s seen before other
+  Stands x j number stride seen (Waits t) =
+      (x.who t ≡ j) × (x.serving ≤ t) × (t < x.ticket) × (t ≡ x.serving → x.phase ≡ 0)
+  Stands x j number stride seen (Holds t v l) = IsInTurn x j 1 t v l
+  Stands x j number stride seen (Raised t v l) = IsInTurn x j 2 t v l
 
   -- what an unspent seat j knows
-  pub record Fits (opening : M) (last : ℕ) (x : World M S A) (j : ℕ) (v : View M S A) : Type 0 where
+  pub record Fits (opening : M) (last : ℕ) (x : LockState M S A) (j : ℕ)
+      (v : View M S A) : Type 0 where
+    -- the value at the start, and how many tickets there are
     pub opened : v.opening ≡ Some opening
     pub limit : v.last ≡ last
+    -- its number is one of those that it owns
     pub small : v.number < v.stride
+    -- where it is worn, TICKET is `last`
     pub worn : v.worn ≡ true → x.ticket ≡ last
+    -- its lower bound is not over SERVING
     pub bound : v.bound ≤ x.serving
+    -- its number is that of the seat that was made in its place
     pub numbered : get_elem? x.made j ≡ some v.number
+    -- what it has seen begins the history
     pub seen : IsPrefix v.seen x.log
+    -- no other seat owns a number that it owns
     pub owned : (n : ℕ) → Owns v n → x.owner n ≡ j
+    -- it has seen all calls with numbers that it owns
     pub own : (n : ℕ) → Owns v n → calls_by n x.log ≡ calls_by n v.seen
 
-  abbrev pub Sits : M → ℕ → World M S A → ℕ → View M S A → Type 0
-  Sits opening last x j v = (Unspent v.stage → Fits opening last x j v) × Stands x j v.number v.stride v.seen v.stage
+  abbrev pub Sits : M → ℕ → LockState M S A → ℕ → View M S A → Type 0
+  Sits opening last x j v =
+      (Unspent v.stage → Fits opening last x j v) × Stands x j v.number v.stride v.seen v.stage
 
   -- the slot is home, with the value and its history
   abbrev pub IsHome : Homes M S A → M → List (Call S A) → Type 0
-  IsHome homes value log = (k : Kept M S A) × (homes ≡ some (Some k) ∷ []) × (k.value ≡ value) × (k.history.items ≡ plain log)
+  IsHome homes value log =
+      (k : Kept M S A) × (homes ≡ some (Some k) ∷ []) × (k.value ≡ value)
+      × (k.history.items ≡ plain log)
 
-  pub record Fair (leads : M → S → A → M → Type 0) (opening : M) (last : ℕ) (x : World M S A) (homes : Homes M S A) (views : List (View M S A)) : Type 0 where
-    pub drawn : x.ticket ≤ last
+  -- the rule, of a state with its slot and what the seats know
+  pub record Fair (leads : M → S → A → M → Type 0) (opening : M) (last : ℕ) (x : LockState M S A)
+      (homes : Homes M S A) (views : List (View M S A)) : Type 0 where
+    -- TICKET is at most `last`
+    pub at_most_last : x.ticket ≤ last
+    -- SERVING plus the number of seats with a ticket is TICKET
     pub count : x.serving + sum_by tickets views ≡ x.ticket
+    -- the history leads from the opening value to the value
     pub legal : Leads leads opening x.log x.value
-    pub even : x.phase < 2 → length x.log ≤ x.serving
-    pub ahead : length x.log ≤ x.serving + 1
-    pub taken : 0 < x.phase → x.serving < x.ticket
-    pub holder : 0 < x.phase → (v : View M S A) × (get_elem? views (x.who x.serving) ≡ some v) × Carries x.serving v.stage
-    pub home : x.phase ≡ 0 → IsHome homes x.value x.log
+    -- LENGTH is at most SERVING, until it is raised in this turn
+    pub length_served : x.phase < 2 → length x.log ≤ x.serving
+    -- LENGTH is at most one more than SERVING
+    pub length_one_ahead : length x.log ≤ x.serving + 1
+    -- while a seat has the turn, SERVING is a ticket that was drawn
+    pub turn_has_ticket : 0 < x.phase → x.serving < x.ticket
+    -- while the slot is empty, the seat that drew the ticket SERVING has the value
+    pub holder : 0 < x.phase
+        → (v : View M S A) × (get_elem? views (x.who x.serving) ≡ some v)
+        × Carries x.serving v.stage
+    -- while the turn is free, the slot has the value and its history
+    pub home_while_free : x.phase ≡ 0 → IsHome homes x.value x.log
+    -- each seat has the number that it was made with
     pub made : length x.made ≡ length views
-    pub entered : Each (IsMade x.made) x.log
+    -- each entry has the number of a seat that was made
+    pub made_by_seats : Each (IsMade x.made) x.log
+    -- what each seat knows is true, and where it stands
     pub seats : (j : ℕ) (v : View M S A) → get_elem? views j ≡ some v → Sits opening last x j v
 
-  -- the rule
-  pub record Turned (leads : M → S → A → M → Type 0) (opening : M) (last : ℕ) (s : State (std.Option (Kept M S A)) (View M S A)) : Type 0 where
-    pub world : World M S A
-    pub words : s.words ≡ words_of world
-    pub fair : Fair leads opening last world s.homes s.views
+  -- the rule of the table: its words are those of some state, of which the rule above holds
+  pub record Turned (leads : M → S → A → M → Type 0) (opening : M) (last : ℕ)
+      (s : State (std.Option (Kept M S A)) (View M S A)) : Type 0 where
+    pub state : LockState M S A
+    pub words : s.words ≡ words_of state
+    pub fair : Fair leads opening last state s.homes s.views
 
   -- the first seat
   abbrev pub newcomer : M → ℕ → View M S A
-  newcomer opening last = record { opening = Some opening; last = last; number = 0; stride = 1; seen = []; worn = false; bound = 0; stage = Idle }
+  newcomer opening last = record {
+    opening = Some opening;
+    last = last;
+    number = 0;
+    stride = 1;
+    seen = [];
+    worn = false;
+    bound = 0;
+    stage = Idle;
+  }
 
   abbrev pub first_half : View M S A → View M S A
   first_half v = record v { stride = v.stride + v.stride }
 
   abbrev pub second_half : View M S A → View M S A
-  second_half v = record v { number = v.number + v.stride; stride = v.stride + v.stride; worn = false; stage = Idle }
+  second_half v =
+      record v {
+        number = v.number + v.stride;
+        stride = v.stride + v.stride;
+        worn = false;
+        stage =
+            Idle;
+      }
 
   abbrev pub joined : View M S A → View M S A → View M S A
-  joined v w = record v { seen = longer v.seen w.seen; stage = Joined v.seen w.seen }
+  joined v w =
+      record v { seen = longer v.seen w.seen; stage = Joined v.seen w.seen w.number w.stride }
 
   abbrev pub spent : View M S A
-  spent = record { opening = None; last = 0; number = 0; stride = 0; seen = []; worn = false; bound = 0; stage = Spent }
+  spent = record {
+    opening = None;
+    last = 0;
+    number = 0;
+    stride = 0;
+    seen = [];
+    worn = false;
+    bound = 0;
+    stage = Spent;
+  }
 
-  -- the seat has the turn with the ticket t: it carries the slot, and knows the value in it and its history
+  -- the seat has the turn with the ticket t: it carries the slot, and knows the value in it and its
+  -- history
   pub record HasTurn (leads : M → S → A → M → Type 0) (t : ℕ) (m : Mine M S A) : Type 0 where
     pub kept : Kept M S A
     pub log : List (Call S A)
@@ -142,6 +210,11 @@ module _ {M S A : Type 0} where
     pub own : (n : ℕ) → Owns m.0 n → calls_by n log ≡ calls_by n m.0.seen
     pub short : length log ≤ t
     pub limit : t < m.0.last
+
+  -- the seat v made a call with this answer, and is w afterwards
+  abbrev pub IsLogged : (M → S → A → M → Type 0) → View M S A → View M S A → S → A → Type 0
+  IsLogged leads v w step answer =
+      Grows leads v.opening v.number v.seen w.seen (record { step = step; answer = answer })
 
   -- no call was made under another number that the seat owns
   abbrev pub KeepsOthers : View M S A → View M S A → Type 0
@@ -156,10 +229,13 @@ module _ {M S A : Type 0} where
   Entered leads t m m' = IsSameView m.0 m'.0 × (m.1 ≡ [] → HasTurn leads t m')
 
   abbrev pub LooksAtTicket : At M S A → Mine M S A → ℕ → Mine M S A → Type 0
-  LooksAtTicket st m r m' = (r ≤ m.0.last) × (m.0.worn ≡ true → r ≡ m.0.last) × (r ≡ m.0.last → m' ≡ (record m.0 { worn = true }, m.1)) × (r ≢ m.0.last → m' ≡ m)
+  LooksAtTicket st m r m' =
+      (r ≤ m.0.last) × (m.0.worn ≡ true → r ≡ m.0.last)
+      × (r ≡ m.0.last → m' ≡ (record m.0 { worn = true }, m.1)) × (r ≢ m.0.last → m' ≡ m)
 
   abbrev pub Draws : At M S A → Mine M S A → ℕ → Mine M S A → Type 0
-  Draws st m r m' = (r ≡ st.first → m' ≡ (record m.0 { stage = Waits st.first }, m.1)) × (r ≢ st.first → m' ≡ m)
+  Draws st m r m' =
+      (r ≡ st.first → m' ≡ (record m.0 { stage = Waits st.first }, m.1)) × (r ≢ st.first → m' ≡ m)
 
   abbrev pub Seizes : (M → S → A → M → Type 0) → At M S A → Mine M S A → ℕ → Mine M S A → Type 0
   Seizes leads st m r m' = (r ≡ st.first → Entered leads st.first m m') × (r ≢ st.first → m' ≡ m)
@@ -168,7 +244,9 @@ module _ {M S A : Type 0} where
   LooksAtTurn st m r m' = m' ≡ (record m.0 { bound = r }, m.1)
 
   abbrev pub Enters : (M → S → A → M → Type 0) → At M S A → Mine M S A → ℕ → Mine M S A → Type 0
-  Enters leads st m r m' = (t : ℕ) → m.0.stage ≡ Waits t → (r ≡ t → Entered leads t m m') × (r ≢ t → m' ≡ (record m.0 { bound = r }, m.1))
+  Enters leads st m r m' =
+      (t : ℕ) → m.0.stage ≡ Waits t
+      → (r ≡ t → Entered leads t m m') × (r ≢ t → m' ≡ (record m.0 { bound = r }, m.1))
 
   -- the history with this entry as a call of the seat
   abbrev pub logged : View M S A → List (Call S A) → Entry S A → List (Call S A)
@@ -176,16 +254,29 @@ module _ {M S A : Type 0} where
 
   -- LENGTH was raised for the entry that the seat put behind the history
   abbrev pub Raises : At M S A → Mine M S A → ℕ → Mine M S A → Type 0
-  Raises st m r m' = (t : ℕ) (v : M) (log : List (Call S A)) (k : Kept M S A) (e : Entry S A) → m.0.stage ≡ Holds t v log → m.1 ≡ (0, Some k) ∷ [] → k.history.items ≡ plain log ++ e ∷ []
-      → m' ≡ (record m.0 { seen = logged m.0 log e; stage = Raised t k.value (logged m.0 log e) }, m.1)
+  Raises st m r m' =
+      (t : ℕ) (v : M) (log : List (Call S A)) (k : Kept M S A) (e : Entry S A)
+      → m.0.stage ≡ Holds t v log → m.1 ≡ (0, Some k) ∷ [] → k.history.items ≡ plain log ++ e ∷ []
+      → m' ≡ (
+        record m.0 {
+          seen = logged m.0 log e;
+          stage =
+              Raised t k.value (logged m.0 log e);
+        },
+        m.1,
+      )
 
   abbrev pub PassesOn : At M S A → Mine M S A → ℕ → Mine M S A → Type 0
   PassesOn st m r m' = m' ≡ (record m.0 { stage = Idle }, [])
 
   abbrev pub Settles : At M S A → Mine M S A → ℕ → Mine M S A → Type 0
-  Settles st m r m' = (before other : List (Call S A)) → m.0.stage ≡ Joined before other → Merged m.0.number m.0.stride m.0.seen before other × (m' ≡ (record m.0 { stage = Idle }, m.1))
+  Settles st m r m' =
+      (before other : List (Call S A)) (n s : ℕ) → m.0.stage ≡ Joined before other n s
+      → Merged m.0.number m.0.stride n s m.0.seen before other
+      × (m' ≡ (record m.0 { stage = Idle }, m.1))
 
-  abbrev pub IsSameSeat : Seat (std.Option (Kept M S A)) (View M S A) → Seat (std.Option (Kept M S A)) (View M S A) → Type 0
+  abbrev pub IsSameSeat : Seat (std.Option (Kept M S A)) (View M S A)
+      → Seat (std.Option (Kept M S A)) (View M S A) → Type 0
   IsSameSeat p q = (q.table_id ≡ p.table_id) × (q.id ≡ p.id)
 
 -- LENGTH, TICKET, SERVING and the slot

@@ -9,12 +9,13 @@ use crate::machine::Machine;
 use crate::plays::{LookAtTicket, LookAtTurn, Seize};
 use crate::rule::{SERVING, TICKET};
 use crate::seat::TurnSeat;
-use crate::turn::{await_turn, draw, take_turn};
+use crate::turn::{await_turn, draw, make_call};
 use std::sync::Wait;
 
 impl<M: Machine> TurnLock<M> {
-    /// Takes one step of the machine. It may wait for the calls with earlier tickets, and never answers `Busy`.
-    /// `WornOut` comes where all tickets were drawn, and `Memory` where the history or the machine was refused a growth.
+    /// Takes one step of the machine. It may wait for the calls with earlier tickets, and never
+    /// answers `Busy`. `WornOut` comes where all tickets were drawn, and `Memory` where the history
+    /// or the machine was refused a growth.
     pub fn call<R: Wait>(
         &self,
         rt: &R,
@@ -23,28 +24,21 @@ impl<M: Machine> TurnLock<M> {
     ) -> Result<Receipt<M::Answer>, TurnError>
         requires { seat.old.lock ≡ self.now }
         ensures kept { (seat.new.lock ≡ seat.old.lock) × (seat.new.number ≡ seat.old.number) }
-        ensures ok { IfOk result (λ r. Called M.leads seat.old seat.new step r.at r.answer r.seen_len) }
+        ensures stride { seat.new.stride ≡ seat.old.stride }
+        ensures ok { IfOk result (λ r.
+            Called M.leads seat.old seat.new step r.at r.answer r.seen_len) }
         ensures err { IfErr result (λ e. Refused seat.old seat.new e) }
         ensures worn { seat.old.worn ≡ true → result ≡ Err TurnError.WornOut }
         ensures never_busy { IfErr result (λ e. e ≢ TurnError.Busy) }
     {
-        let top = &self.board.shared;
-        let ticket = draw(rt, top, &mut seat.place, self.last)?;
-        await_turn(rt, top, &mut seat.place, ticket);
-        let (at, answer) = take_turn(top, &mut seat.place, ticket, step).map_err(
-            |_| TurnError::Memory,
-        )?;
-        let seen_len = seat.seen_len;
-        seat.seen_len = at;
-        Ok(Receipt {
-            at,
-            answer,
-            seen_len,
-        })
+        let table = &self.table.shared;
+        let ticket = draw(rt, table, &mut seat.token, self.last)?;
+        await_turn(rt, table, &mut seat.token, ticket);
+        make_call(table, &mut seat.token, &mut seat.seen_len, ticket, step)
     }
 
-    /// The same in a single try, which waits for nobody. Where more than one refusal would fit, `WornOut` goes before
-    /// `Busy`, and `Busy` before `Memory`.
+    /// The same in a single try, which waits for nobody. Where more than one refusal would fit,
+    /// `WornOut` goes before `Busy`, and `Busy` before `Memory`.
     pub fn try_call(
         &self,
         seat: &mut TurnSeat<M>,
@@ -52,32 +46,25 @@ impl<M: Machine> TurnLock<M> {
     ) -> Result<Receipt<M::Answer>, TurnError>
         requires { seat.old.lock ≡ self.now }
         ensures kept { (seat.new.lock ≡ seat.old.lock) × (seat.new.number ≡ seat.old.number) }
-        ensures ok { IfOk result (λ r. Called M.leads seat.old seat.new step r.at r.answer r.seen_len) }
+        ensures stride { seat.new.stride ≡ seat.old.stride }
+        ensures ok { IfOk result (λ r.
+            Called M.leads seat.old seat.new step r.at r.answer r.seen_len) }
         ensures err { IfErr result (λ e. Refused seat.old seat.new e) }
         ensures worn { seat.old.worn ≡ true → result ≡ Err TurnError.WornOut }
     {
-        let top = &self.board.shared;
-        let serving = top.load::<LookAtTurn>(&mut seat.place, SERVING);
-        let ticket = top.load::<LookAtTicket>(&mut seat.place, TICKET);
+        let table = &self.table.shared;
+        let serving = table.load::<LookAtTurn>(&mut seat.token, SERVING);
+        let ticket = table.load::<LookAtTicket>(&mut seat.token, TICKET);
         if ticket == self.last {
             return Err(TurnError::WornOut);
         }
         if ticket != serving {
             return Err(TurnError::Busy);
         }
-        let found = top.compare_exchange::<Seize<M>>(&mut seat.place, TICKET, ticket, ticket + 1);
+        let found = table.compare_exchange::<Seize<M>>(&mut seat.token, TICKET, ticket, ticket + 1);
         if found != ticket {
             return Err(TurnError::Busy);
         }
-        let (at, answer) = take_turn(top, &mut seat.place, ticket, step).map_err(
-            |_| TurnError::Memory,
-        )?;
-        let seen_len = seat.seen_len;
-        seat.seen_len = at;
-        Ok(Receipt {
-            at,
-            answer,
-            seen_len,
-        })
+        make_call(table, &mut seat.token, &mut seat.seen_len, ticket, step)
     }
 }

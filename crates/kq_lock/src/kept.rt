@@ -17,9 +17,11 @@ pub fn take_step<M: Machine>(
     kept: &mut Kept<M, M::Step, M::Answer>,
     step: M::Step,
 ) -> Result<M::Answer, Memory>
-    ensures entry { IfOk result (λ a. kept.new.history.items ≡ kept.old.history.items ++ record { step = step; answer = a } ∷ []) }
+    ensures entry { IfOk result (λ a.
+        kept.new.history.items ≡ kept.old.history.items ++ record { step = step; answer = a } ∷ []) }
     ensures leads { IfOk result (λ a. M.leads kept.old.value step a kept.new.value) }
-    ensures err { OnErr result ((kept.new.value ≡ kept.old.value) × (kept.new.history.items ≡ kept.old.history.items)) }
+    ensures err { OnErr result (kept.new.value ≡ kept.old.value) }
+    ensures history { OnErr result (kept.new.history.items ≡ kept.old.history.items) }
 {
     kept.history.reserve(1).map_err(|_| Memory)?;
     let (answer, copy) = kept.value.apply(&step)?;

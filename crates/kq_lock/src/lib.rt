@@ -1,7 +1,8 @@
 //! A ticket lock round a machine of the caller's own, whose calls stand in one history.
 //!
-//! A machine is a value that takes steps and answers each. It names the relation that a step keeps between the
-//! old value, the step, the answer and the new value. This one adds each step to a total, which it answers:
+//! A machine is a value that takes steps and answers each. It names the relation that a step keeps
+//! between the old value, the step, the answer and the new value. This one adds each step to a total,
+//! which it answers:
 //!
 //! ```text
 //! #[derive(Drop)]
@@ -23,8 +24,8 @@
 //! }
 //! ```
 //!
-//! Under a lock with one seat and two tickets it takes two steps. A thread needs a seat of its own: ask `new` for
-//! several, or `split` one. The closures of `std::thread::join` share the lock by `&`.
+//! Under a lock with one seat and two tickets it takes two steps. A thread needs a seat of its own:
+//! ask `new` for several, or `split` one. The closures of `std::thread::join` share the lock by `&`.
 //!
 //! ```text
 //! let (lock, mut seats) = TurnLock::new(rt.alloc(), Sum { total: 0 }, 1, 2)?;
@@ -34,8 +35,9 @@
 //! let (sum, history) = lock.close(seat)?; // the total 5, and both steps with their answers
 //! ```
 //!
-//! The contract of `call` says of each receipt: the machine's relation leads from `Sum { total: 0 }` through all that
-//! the seat has seen, which ends with this call and its answer, and has each call of the seat once.
+//! The contract of `call` says of each receipt: the machine's relation leads from `Sum { total: 0 }`
+//! through all that the seat has seen, which ends with this call and its answer, and has each call of
+//! the seat once.
 #![tactic(auto)]
 
 mod call;

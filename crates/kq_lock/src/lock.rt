@@ -1,14 +1,15 @@
-ghost use Rattle.std.specs.Prelude.{◌≡◌, ◌+◌, ◌^◌, ◌≤◌, ◌<◌, Some, false, length, vec_len, IfOk, IfErr, []};
+ghost use Rattle.std.specs.Prelude.{◌≡◌, ◌+◌, ◌^◌, ◌≤◌, Some, false, [], length, vec_len};
+ghost use Rattle.std.specs.Prelude.{IfOk, IfErr};
 ghost use mathlib.Core.List.{IsPrefix};
-ghost use Rattle.kq_lock.specs.Calls.{longer};
-ghost use Rattle.kq_lock.specs.Seats.{IsFresh, EachSeat, AreApart, Ends, own_calls};
+ghost use Rattle.kq_lock.specs.Calls.{calls_by, longer};
+ghost use Rattle.kq_lock.specs.Seats.{IsFresh, EachSeat, AreApart, AllParted, AreHalves, Ends};
+ghost use Rattle.kq_lock.specs.Seats.{own_calls};
 
 use crate::entry::Entry;
 use crate::error::TurnError;
 use crate::kept::Kept;
 use crate::machine::Machine;
-use crate::plays::{Halves, Merge, Settle};
-use crate::rule::{Board, LENGTH, Place, SERVING, Slot, TICKET};
+use crate::rule::{LockTable, SERVING, Slot, TICKET};
 use crate::seat::TurnSeat;
 use crate::view::About;
 use std::alloc::Global;
@@ -18,7 +19,7 @@ use std::snapshot::Snapshot;
 /// A machine under a ticket lock, with the history of its calls.
 #[derive(Drop)]
 pub struct TurnLock<M: Machine> {
-    pub(crate) board: Board<M>,
+    pub(crate) table: LockTable<M>,
     /// How many tickets there are.
     pub(crate) last: u64,
 }
@@ -29,9 +30,15 @@ impl<M: Machine> Model for TurnLock<M> {
 
     ghost Value = { LockName M };
 
-    ghost view = { λ l. record { table = l.board.shared.table_id; opening = Some l.board.shared.key.opening.value; last = l.last } };
+    ghost view = { λ l. record {
+      table = l.table.shared.table_id;
+      opening = Some l.table.shared.key.opening.value;
+      last = l.last;
+    } };
 
-    ghost invariant = { λ l. (l.board.shared.table_id.words ≡ 3) × (l.board.shared.table_id.slots ≡ 1) × (l.board.shared.key.last ≡ l.last) × (l.last ≤ 2 ^ 62) };
+    ghost invariant = { λ l.
+        (l.table.shared.table_id.words ≡ 3) × (l.table.shared.table_id.slots ≡ 1)
+        × (l.table.shared.key.last ≡ l.last) × (l.last ≤ 2 ^ 62) };
 }
 
 impl<M: Machine> TurnLock<M> {
@@ -46,7 +53,10 @@ impl<M: Machine> TurnLock<M> {
         requires seats { (1 ≤ seats) × (seats ≤ 64) }
         requires last { last ≤ 2 ^ 62 }
         ensures lock { IfOk result (λ r. (r.0.opening ≡ Some machine) × (r.0.last ≡ last)) }
-        ensures seats { IfOk result (λ r. (vec_len r.1 ≡ seats) × EachSeat (IsFresh r.0) r.1.items × AreApart r.1.items) }
+        ensures count { IfOk result (λ r. vec_len r.1 ≡ seats) }
+        ensures fresh { IfOk result (λ r. EachSeat (IsFresh r.0) r.1.items) }
+        ensures apart { IfOk result (λ r. AreApart r.1.items) }
+        ensures parted { IfOk result (λ r. AllParted r.1.items) }
         ensures err { IfErr result (λ e. e ≡ TurnError.Memory) }
     {
         let mut all = Vec::with_capacity(alloc, seats).map_err(|_| TurnError::Memory)?;
@@ -76,25 +86,27 @@ impl<M: Machine> TurnLock<M> {
         };
         let mut slots: Vec<Slot<M>> = Vec::with_capacity(alloc, 1).map_err(|_| TurnError::Memory)?;
         slots.push_reserved(Some(kept));
-        let Ok((board, place)) = Board::<M>::new(alloc, [0, 0, 0].as_slice(), slots, &about) else {
+        let Ok((table, token)) = LockTable::<M>::new(alloc, [0, 0, 0].as_slice(), slots, &about)
+        else {
             return Err(TurnError::Memory);
         };
-        Ok((TurnLock { board, last }, TurnSeat { place, seen_len: 0 }))
+        Ok((TurnLock { table, last }, TurnSeat { token, seen_len: 0 }))
     }
 
     /// A seat of its own that has seen as much. It waits for nobody.
     pub fn split(&self, seat: &mut TurnSeat<M>) -> TurnSeat<M>
         requires { seat.old.lock ≡ self.now }
         ensures kept { seat.new ≡ record seat.old { stride = seat.old.stride + seat.old.stride } }
-        ensures new { result ≡ record seat.old { number = seat.old.number + seat.old.stride; stride = seat.old.stride + seat.old.stride; worn = false } }
-        ensures apart { seat.old.number < seat.old.stride }
+        ensures new { result ≡ record seat.old {
+          number = seat.old.number + seat.old.stride;
+          stride = seat.old.stride + seat.old.stride;
+          worn = false;
+        } }
+        // No number that a seat owned, of this lock or split off later, is the new seat's as well.
+        ensures halves { AreHalves seat.old seat.new result }
         ensures none { own_calls result ≡ [] }
     {
-        let place = self.board.shared.split_seat::<Halves>(&mut seat.place);
-        TurnSeat {
-            place,
-            seen_len: seat.seen_len,
-        }
+        seat.part(&self.table.shared)
     }
 
     /// The first seat learns what the other had seen. It waits for nobody.
@@ -102,14 +114,12 @@ impl<M: Machine> TurnLock<M> {
         requires seat { seat.old.lock ≡ self.now }
         requires other { other.lock ≡ self.now }
         ensures same { seat.new ≡ record seat.old { seen = longer seat.old.seen other.seen } }
-        ensures beginnings { IsPrefix seat.old.seen seat.new.seen × IsPrefix other.seen seat.new.seen }
+        ensures begins { IsPrefix seat.old.seen seat.new.seen }
+        ensures learned { IsPrefix other.seen seat.new.seen }
         ensures own { own_calls seat.new ≡ own_calls seat.old }
+        ensures theirs { calls_by other.number seat.new.seen ≡ own_calls other }
     {
-        let TurnSeat { place, seen_len } = other;
-        let shared = &self.board.shared;
-        shared.join_seat::<Merge>(&mut seat.place, place);
-        shared.load::<Settle>(&mut seat.place, LENGTH);
-        seat.seen_len = seat.seen_len.max(seen_len);
+        seat.absorb(&self.table.shared, other);
     }
 
     /// How many calls of the lock's history the seat has seen.
@@ -120,14 +130,15 @@ impl<M: Machine> TurnLock<M> {
     }
 
     /// Takes the lock apart, into the value and the history of all calls that led to it, in order.
-    /// It waits for nobody. It answers `Memory` where a call still has a ticket, which no caller can bring about.
+    /// It waits for nobody. It answers `Memory` where a call still has a ticket, which no caller can
+    /// bring about.
     pub fn close(self, seat: TurnSeat<M>) -> Result<(M, Vec<Entry<M::Step, M::Answer>>), TurnError>
         requires { seat.lock ≡ self }
         ensures ok { IfOk result (λ r. Ends M.leads self seat r.0 r.1.items) }
         ensures err { IfErr result (λ e. e ≡ TurnError.Memory) }
     {
-        let TurnSeat { place, seen_len: _ } = seat;
-        let mut closed = self.board.close_with(place);
+        let TurnSeat { token, seen_len: _ } = seat;
+        let mut closed = self.table.close_with(token);
         let free = closed.word(TICKET) == closed.word(SERVING);
         let slot = closed.take(0);
         closed.free();

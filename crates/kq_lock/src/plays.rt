@@ -1,5 +1,6 @@
 //! What each step on the table tells the seat that takes it.
-ghost use Rattle.kq_lock.specs.Turns.{LooksAtTicket, Draws, Seizes, LooksAtTurn, Enters, Raises, PassesOn, Settles, first_half, second_half, joined, spent};
+ghost use Rattle.kq_lock.specs.Turns.{LooksAtTicket, Draws, Seizes, LooksAtTurn, Enters, Raises};
+ghost use Rattle.kq_lock.specs.Turns.{PassesOn, Settles, first_half, second_half, joined, spent};
 
 use crate::kept::Kept;
 use crate::machine::Machine;

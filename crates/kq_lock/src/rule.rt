@@ -1,5 +1,6 @@
-//! The lock's table. Word 0 is LENGTH, how many calls the history has. Word 1 is TICKET, the next ticket to be drawn.
-//! Word 2 is SERVING, the ticket whose turn it is. Slot 0 has the value with its history, or `None` while a seat has them.
+//! The lock's table. Word 0 is LENGTH, how many calls the history has. Word 1 is TICKET, the next
+//! ticket to be drawn. Word 2 is SERVING, the ticket whose turn it is. Slot 0 has the value with its
+//! history, or `None` while a seat has them.
 use crate::kept::Kept;
 use crate::machine::Machine;
 use crate::view::{About, View};
@@ -30,12 +31,17 @@ impl<M: Machine> TableRule<
     ghost first = { λ key. newcomer key.opening.value key.last };
 }
 
+/// What lies in the slot.
 pub type Slot<M> = Option<Kept<M, <M as Machine>::Step, <M as Machine>::Answer>>;
 
-pub type Knows<M> = View<M, <M as Machine>::Step, <M as Machine>::Answer>;
+/// What a seat knows, in proofs alone.
+pub type Knowledge<M> = View<M, <M as Machine>::Step, <M as Machine>::Answer>;
 
-pub type Board<M> = Table<Slot<M>, Knows<M>, About<M>, Turns<M>, Global>;
+/// The table, which the lock owns.
+pub type LockTable<M> = Table<Slot<M>, Knowledge<M>, About<M>, Turns<M>, Global>;
 
-pub type Top<M> = Shared<Slot<M>, Knows<M>, About<M>, Turns<M>>;
+/// The part of the table that steps are taken on, through a `&`.
+pub type SharedTable<M> = Shared<Slot<M>, Knowledge<M>, About<M>, Turns<M>>;
 
-pub type Place<M> = Seat<Slot<M>, Knows<M>>;
+/// The right to step on the table.
+pub type TableSeat<M> = Seat<Slot<M>, Knowledge<M>>;

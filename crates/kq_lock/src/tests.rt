@@ -1,4 +1,5 @@
-//! What no clause says: that calls succeed, which refusal comes where another call has the turn, and that threads end.
+//! What no clause says: that calls succeed, which refusal comes where another call has the turn, and
+//! that threads end.
 mod machines;
 mod single;
 mod threads;

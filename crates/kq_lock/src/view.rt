@@ -21,8 +21,8 @@ pub enum Stage<M, S, A> {
     /// It was joined to another seat.
     Spent,
     Idle,
-    /// It was just joined with another: what each had seen.
-    Joined(LinkedList<Call<S, A>>, LinkedList<Call<S, A>>),
+    /// It was just joined with another: what each had seen, and the number and stride of the other.
+    Joined(LinkedList<Call<S, A>>, LinkedList<Call<S, A>>, u64, u64),
     /// It has this ticket.
     Waits(u64),
     /// It has the turn with this ticket, and took out this value with this history.

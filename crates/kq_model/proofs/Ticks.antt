@@ -96,7 +96,7 @@ counted-periods t from (suc n) positive =
     let before = counted-periods t from n positive in
     rw one_more (omega (arith, before, periods-suc t (from + n) positive))
 
-pub ticks_between-periods : (t : Ticking) (from to : ℕ) → 0 < t.period → from ≤ to → ticks_between t from to ≡ periods t to - periods t from
+pub ticks_between-periods : (t : Ticking) (from to : ℕ) → 0 < t.period → from ≤ to → ticks_between (is_tick t) from to ≡ periods t to - periods t from
 ticks_between-periods t from to positive ordered =
     let reached : from + (to - from) ≡ to = omega arith in
     let all = rw reached at (counted-periods t from (to - from) positive) in

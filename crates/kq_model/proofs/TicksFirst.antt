@@ -3,7 +3,7 @@
 use Rattle.std.proofs.Common.{◌≡◌, ℕ, zero, suc, ◌+◌, ◌-◌, ◌<◌, ◌≤◌, Bool, true, false, cond, leb, ltb, pos, ◌⊎◌, inl, inr, sym, ap, ◌∙◌, add-zero, arith}
 use Rattle.std.proofs.lemmas.Bool.{cases_lt, cases_order, cases_Bool, le-leb, lt-leb, lt-ltb, true≢false}
 use Rattle.std.proofs.lemmas.Int.{ints}
-use Rattle.kq_model.specs.Ticks.{Ticking, last_moment, is_tick, counted, first_passing, next_tick, IsNextTick, HasNoTick}
+use Rattle.kq_model.specs.Ticks.{last_moment, counted, first_passing, next_tick, IsNextTick, HasNoTick}
 use Rattle.kq_model.specs.TimerWalk.{IsFirstPassing}
 
 -- ---- the definition finds it
@@ -52,10 +52,10 @@ first_passing-is test from (suc n) =
     by_test is (inl h) (inl e) = rw (lt-leb (first_passing test from n) (from + n) h, e) (found_now test from _ _ is h (omega arith) e)
     by_test is (inl h) (inr e) = rw (lt-leb (first_passing test from n) (from + n) h, e) (none_yet test from _ _ is h (omega arith) e)
 
-pub next_tick-is : (t : Ticking) (from : ℕ) → from ≤ last_moment → IsFirstPassing (is_tick t) from last_moment (next_tick t from)
-next_tick-is t from within =
+pub next_tick-is : (test : ℕ → Bool) (from : ℕ) → from ≤ last_moment → IsFirstPassing test from last_moment (next_tick test from)
+next_tick-is test from within =
     let whole : from + (last_moment - from) ≡ last_moment = omega arith in
-    rw whole at (first_passing-is (is_tick t) from (last_moment - from))
+    rw whole at (first_passing-is test from (last_moment - from))
 
 -- ---- and there is no other
 
@@ -68,23 +68,23 @@ first_passing-none test from (suc n) none =
     rw (late, none (from + suc n) (omega arith) (omega arith))
 
 -- what `first_after` says of a next tick names this definition
-pub next_tick-found : (t : Ticking) (from m : ℕ) → m ≤ last_moment → IsNextTick t (pos from) m → next_tick t from ≡ m
-next_tick-found t from m in_time next = by_order (next_tick-is t from (omega (arith, ints, next.after, in_time))) (cases_order (next_tick t from) m)
+pub next_tick-found : (test : ℕ → Bool) (from m : ℕ) → m ≤ last_moment → IsNextTick test (pos from) m → next_tick test from ≡ m
+next_tick-found test from m in_time next = by_order (next_tick-is test from (omega (arith, ints, next.after, in_time))) (cases_order (next_tick test from) m)
   where
-    by_order : IsFirstPassing (is_tick t) from last_moment (next_tick t from) → (next_tick t from ≡ m) ⊎ ((next_tick t from < m) ⊎ (m < next_tick t from)) → next_tick t from ≡ m
+    by_order : IsFirstPassing test from last_moment (next_tick test from) → (next_tick test from ≡ m) ⊎ ((next_tick test from < m) ⊎ (m < next_tick test from)) → next_tick test from ≡ m
     by_order is (inl e) = e
     by_order is (inr (inl h)) =
-        let ticks : is_tick t (next_tick t from) ≡ true = is.passes (omega (arith, in_time)) in
-        let not : is_tick t (next_tick t from) ≡ false = next.least (next_tick t from) (omega (arith, ints, is.after)) h in
+        let ticks : test (next_tick test from) ≡ true = is.passes (omega (arith, in_time)) in
+        let not : test (next_tick test from) ≡ false = next.least (next_tick test from) (omega (arith, ints, is.after)) h in
         absurd (true≢false (sym ticks ∙ not))
     by_order is (inr (inr h)) =
-        let not : is_tick t m ≡ false = is.least m (omega (arith, ints, next.after)) h in_time in
+        let not : test m ≡ false = is.least m (omega (arith, ints, next.after)) h in_time in
         absurd (true≢false (sym next.tick ∙ not))
 
-pub next_tick-none : (t : Ticking) (from : ℕ) → from ≤ last_moment → HasNoTick t (pos from) → next_tick t from ≡ suc last_moment
-next_tick-none t from within none =
+pub next_tick-none : (test : ℕ → Bool) (from : ℕ) → from ≤ last_moment → HasNoTick test (pos from) → next_tick test from ≡ suc last_moment
+next_tick-none test from within none =
     let whole : from + (last_moment - from) ≡ last_moment = omega arith in
-    first_passing-none (is_tick t) from (last_moment - from) (λ m later in_time. none m (omega (arith, ints)) (omega arith)) ∙ ap suc whole
+    first_passing-none test from (last_moment - from) (λ m later in_time. none m (omega (arith, ints)) (omega arith)) ∙ ap suc whole
 
 -- ---- what expires is counted
 

@@ -96,7 +96,7 @@ first-of_none test from to ordered none = record {
 before_first : (t : Ticking) (m : ℕ) → 0 < t.period → m < t.start + t.period → is_tick t m ≡ false
 before_first t m positive earlier = is_tick-false t m (λ j e. omega arith)
 
-pub next_tick-first : (t : Ticking) (m : ℕ) → 0 < t.period → IsNextTick t (negsuc 0) m → m ≡ t.start + t.period
+pub next_tick-first : (t : Ticking) (m : ℕ) → 0 < t.period → IsNextTick (is_tick t) (negsuc 0) m → m ≡ t.start + t.period
 next_tick-first t m positive next = by_order (cases_order m (t.start + t.period))
   where
     by_order : (m ≡ t.start + t.period) ⊎ ((m < t.start + t.period) ⊎ (t.start + t.period < m)) → m ≡ t.start + t.period
@@ -104,7 +104,7 @@ next_tick-first t m positive next = by_order (cases_order m (t.start + t.period)
     by_order (inr (inl h)) = absurd (true≢false (sym next.tick ∙ before_first t m positive h))
     by_order (inr (inr h)) = absurd (true≢false (sym (first_moment t (omega arith)) ∙ next.least (t.start + t.period) (omega (arith, ints)) h))
 
-pub next_tick-no_first : (t : Ticking) → 0 < t.period → HasNoTick t (negsuc 0) → last_moment < t.start + t.period
+pub next_tick-no_first : (t : Ticking) → 0 < t.period → HasNoTick (is_tick t) (negsuc 0) → last_moment < t.start + t.period
 next_tick-no_first t positive none = by_size (cases_lt last_moment (t.start + t.period))
   where
     by_size : (last_moment < t.start + t.period) ⊎ (t.start + t.period ≤ last_moment) → last_moment < t.start + t.period

@@ -43,6 +43,28 @@ asks flags flag = bit_and flags.0 flag == flag
 abbrev pub flag_if : Bool → ℕ → EvFlags → EvFlags
 flag_if holds flag flags = if holds then record { 0 = bit_or flags.0 flag } else flags
 
+-- ---- fflags of PROC
+
+-- NOTE_EXIT
+abbrev pub exit_note : ℕ
+exit_note = 2 ^ 31
+
+-- NOTE_FORK
+abbrev pub fork_note : ℕ
+fork_note = 2 ^ 30
+
+-- NOTE_EXEC
+abbrev pub exec_note : ℕ
+exec_note = 2 ^ 29
+
+-- NOTE_TRACK
+abbrev pub track_note : ℕ
+track_note = 1
+
+-- these fflags have the bit
+abbrev pub has_note : ℕ → ℕ → Bool
+has_note fflags note = bit_and fflags note == note
+
 -- ---- fflags of USER
 
 -- NOTE_TRIGGER

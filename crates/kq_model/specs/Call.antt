@@ -8,7 +8,9 @@ use Rattle.kq_model.specs.declared.kevent.Kevent.{Kevent}
 use Rattle.kq_model.specs.declared.reply.Reply.{Reply}
 use Rattle.kq_model.specs.declared.reply.Reply.TheVariants.{Events, Failed}
 use Rattle.kq_model.specs.Bits.{asks, receipt, error}
+use Rattle.kq_model.specs.Caller.{Caller}
 use Rattle.kq_model.specs.Errno.{error_number}
+use Rattle.kq_model.specs.Hearing.{Hearing}
 use Rattle.kq_model.specs.Kqueue.{Kqueue}
 use Rattle.kq_model.specs.Registration.{Registered, register}
 use Rattle.kq_model.specs.Retrieval.{Retrieved, retrieval}
@@ -39,43 +41,43 @@ unfoldable pub ended : Option Errno → List Kevent → Reply
 ended None placed = Events placed
 ended (Some e) placed = Failed e
 
-pub record Processed : Type 0 where
-  pub kq : Kqueue
+pub record Processed {S : Type 0} (h : Hearing S) : Type 0 where
+  pub kq : Kqueue h
   pub placed : List Kevent
   -- the call's answer, where a change ended it
   pub answer : Option Reply
 
--- after one change, whose registration is given; `rest` goes on with the later changes
-unfoldable pub after : (List Kevent → Kqueue → Processed) → ℕ → Change → List Kevent → Registered → Processed
-after rest room c placed r =
-    if is_answered c r.error
-    then (if nat_lt (length placed) room
-    then rest (placed ++ entry_of c r.error ∷ []) r.kq
-    else record { kq = r.kq; placed = placed; answer = Some (ended r.error placed) })
-    else rest placed r.kq
-
-unfoldable pub process : Views → ℕ → ℕ → List Change → List Kevent → Kqueue → Processed
-process views owner room [] placed kq = record { kq = kq; placed = placed; answer = None }
-process views owner room (c ∷ cs) placed kq =
-    after (process views owner room cs) room c placed (register views owner c kq)
-
-pub record Called : Type 0 where
-  pub kq : Kqueue
+pub record Called {S : Type 0} (h : Hearing S) : Type 0 where
+  pub kq : Kqueue h
   pub reply : Reply
 
-unfoldable pub returned : Retrieved → Called
-returned r = record { kq = r.kq; reply = Events r.events }
+module _ {S : Type 0} {h : Hearing S} where
+  -- after one change, whose registration is given; `rest` goes on with the later changes
+  unfoldable pub after : (List Kevent → Kqueue h → Processed h) → ℕ → Change → List Kevent → Registered h → Processed h
+  after rest room c placed r =
+      if is_answered c r.error
+      then (if nat_lt (length placed) room
+      then rest (placed ++ entry_of c r.error ∷ []) r.kq
+      else record { kq = r.kq; placed = placed; answer = Some (ended r.error placed) })
+      else rest placed r.kq
 
-unfoldable pub by_entries : Views → ℕ → List Kevent → Kqueue → Called
-by_entries views room [] kq = returned (retrieval views room kq)
-by_entries views room (entry ∷ entries) kq = record { kq = kq; reply = Events (entry ∷ entries) }
+  unfoldable pub process : Caller → ℕ → List Change → List Kevent → Kqueue h → Processed h
+  process caller room [] placed kq = record { kq = kq; placed = placed; answer = None }
+  process caller room (c ∷ cs) placed kq = after (process caller room cs) room c placed (register caller c kq)
 
-unfoldable pub by_answer : Views → ℕ → Processed → Option Reply → Called
-by_answer views room p (Some reply) = record { kq = p.kq; reply = reply }
-by_answer views room p None = by_entries views room p.placed p.kq
+  unfoldable pub returned : Retrieved h → Called h
+  returned r = record { kq = r.kq; reply = Events r.events }
 
-unfoldable pub concluded : Views → ℕ → Processed → Called
-concluded views room p = by_answer views room p p.answer
+  unfoldable pub by_entries : Views → ℕ → List Kevent → Kqueue h → Called h
+  by_entries views room [] kq = returned (retrieval views room kq)
+  by_entries views room (entry ∷ entries) kq = record { kq = kq; reply = Events (entry ∷ entries) }
 
-unfoldable pub call : Views → ℕ → ℕ → List Change → Kqueue → Called
-call views owner room changes kq = concluded views room (process views owner room changes [] kq)
+  unfoldable pub by_answer : Views → ℕ → Processed h → Option Reply → Called h
+  by_answer views room p (Some reply) = record { kq = p.kq; reply = reply }
+  by_answer views room p None = by_entries views room p.placed p.kq
+
+  unfoldable pub concluded : Views → ℕ → Processed h → Called h
+  concluded views room p = by_answer views room p p.answer
+
+  unfoldable pub call : Caller → ℕ → List Change → Kqueue h → Called h
+  call caller room changes kq = concluded caller.views room (process caller room changes [] kq)

@@ -6,6 +6,8 @@ use Rattle.kq_model.specs.declared.kevent.Kevent.{Kevent}
 use Rattle.kq_model.specs.declared.reply.Reply.{Reply}
 use Rattle.kq_model.specs.declared.reply.Reply.TheVariants.{Done, Events, Failed, Impossible}
 use Rattle.kq_model.specs.Bits.{asks, error, oneshot}
+use Rattle.kq_model.specs.Caller.{Caller}
+use Rattle.kq_model.specs.Hearing.{Hearing}
 use Rattle.kq_model.specs.Call.{call, is_answered, process}
 use Rattle.kq_model.specs.Knote.{Knote, find_knote, has_key}
 use Rattle.kq_model.specs.Kqueue.{Kqueue, AreOnce}
@@ -28,23 +30,24 @@ AreInOrder keys (next ∷ queue) =
     AreInOrder keys queue ⊎ ((rest : List Key) × (keys ≡ next ∷ rest) × AreInOrder rest queue)
 
 -- the event is that of a knote whose condition holds
-pub record IsDue (views : Views) (knotes : List Knote) (e : Kevent) : Type 0 where
-  pub knote : Knote
+pub record IsDue {S : Type 0} {h : Hearing S} (views : Views) (knotes : List (Knote h)) (e : Kevent) : Type 0 where
+  pub knote : Knote h
   pub seen : Seen
   pub found : find_knote (key_of_event e) knotes ≡ Some knote
   pub holds : look views knote ≡ Some seen
   pub is : e ≡ event_of knote seen
 
 -- an event of a ONESHOT knote is its last: the knote is gone
-abbrev pub IsLastOfOneshot : List Knote → Kevent → Type 0
+abbrev pub IsLastOfOneshot : {S : Type 0} {h : Hearing S} → List (Knote h) → Kevent → Type 0
 IsLastOfOneshot left e = asks e.flags oneshot ≡ true → find_knote (key_of_event e) left ≡ None
 
 -- the condition of the key's knote does not hold
-abbrev pub IsIdle : Views → List Knote → Key → Type 0
-IsIdle views knotes key = (k : Knote) → find_knote key knotes ≡ Some k → look views k ≡ None
+abbrev pub IsIdle : {S : Type 0} {h : Hearing S} → Views → List (Knote h) → Key → Type 0
+IsIdle {h = h} views knotes key = (k : Knote h) → find_knote key knotes ≡ Some k → look views k ≡ None
 
 -- events were taken out of a kqueue, which is left as `after`
-pub record AreTaken (views : Views) (room : ℕ) (kq after : Kqueue) (events : List Kevent) : Type 0 where
+pub record AreTaken {S : Type 0} {h : Hearing S} (views : Views) (room : ℕ) (kq after : Kqueue h) (events : List Kevent)
+    : Type 0 where
   -- in the order of the queue as it was, each knote at most once
   pub in_order : AreInOrder (map key_of_event events) kq.queue
   pub once : AreOnce (map key_of_event events)
@@ -58,30 +61,32 @@ pub record AreTaken (views : Views) (room : ℕ) (kq after : Kqueue) (events : L
       → (has_key key (map key_of_event events) ≡ true) ⊎ IsIdle views kq.knotes key
 
 -- entries, each with ERROR, and nothing was taken out of the kqueue
-pub record AreEntries (room : ℕ) (kq after : Kqueue) (events : List Kevent) : Type 0 where
+pub record AreEntries {S : Type 0} {h : Hearing S} (room : ℕ) (kq after : Kqueue h) (events : List Kevent)
+    : Type 0 where
   pub entries : Each (λ e. asks e.flags error ≡ true) events
   pub some : 0 < length events
   pub within : length events ≤ room
   pub untouched : after ≡ kq
 
--- a call answers either with entries alone, or with events of the kqueue as its changes left it
-abbrev pub IsAnswer : Views → ℕ → Kqueue → Kqueue → Reply → Type 0
-IsAnswer views room kq after (Events events) = AreEntries room kq after events ⊎ AreTaken views room kq after events
-IsAnswer views room kq after (Failed e) = after ≡ kq
-IsAnswer views room kq after Done = ⊥
-IsAnswer views room kq after (Impossible why) = ⊥
+module _ {S : Type 0} {h : Hearing S} where
+  -- a call answers either with entries alone, or with events of the kqueue as its changes left it
+  abbrev pub IsAnswer : Views → ℕ → Kqueue h → Kqueue h → Reply → Type 0
+  IsAnswer views room kq after (Events events) = AreEntries room kq after events ⊎ AreTaken views room kq after events
+  IsAnswer views room kq after (Failed e) = after ≡ kq
+  IsAnswer views room kq after Done = ⊥
+  IsAnswer views room kq after (Impossible why) = ⊥
 
-abbrev pub kqueue_after_changes : Views → ℕ → ℕ → List Change → Kqueue → Kqueue
-kqueue_after_changes views owner room changes kq = (process views owner room changes [] kq).kq
+  abbrev pub kqueue_after_changes : Caller → ℕ → List Change → Kqueue h → Kqueue h
+  kqueue_after_changes caller room changes kq = (process caller room changes [] kq).kq
 
--- no change fails or asks for a receipt
-abbrev pub AreQuiet : Views → ℕ → List Change → Kqueue → Type 0
-AreQuiet views owner [] kq = Unit {0}
-AreQuiet views owner (c ∷ changes) kq =
-    (is_answered c (register views owner c kq).error ≡ false) × AreQuiet views owner changes (register views owner c kq).kq
+  -- no change fails or asks for a receipt
+  abbrev pub AreQuiet : Caller → List Change → Kqueue h → Type 0
+  AreQuiet caller [] kq = Unit {0}
+  AreQuiet caller (c ∷ changes) kq =
+      (is_answered c (register caller c kq).error ≡ false) × AreQuiet caller changes (register caller c kq).kq
 
--- the call is its changes with room 0, and then a poll
-abbrev pub IsChangesThenPoll : Views → ℕ → ℕ → List Change → Kqueue → Type 0
-IsChangesThenPoll views owner room changes kq =
-    AreQuiet views owner changes kq
-    → call views owner room changes kq ≡ call views owner room [] (call views owner 0 changes kq).kq
+  -- the call is its changes with room 0, and then a poll
+  abbrev pub IsChangesThenPoll : Caller → ℕ → List Change → Kqueue h → Type 0
+  IsChangesThenPoll caller room changes kq =
+      AreQuiet caller changes kq
+      → call caller room changes kq ≡ call caller room [] (call caller 0 changes kq).kq

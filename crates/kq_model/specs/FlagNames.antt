@@ -1,8 +1,9 @@
--- The flags by name, in the order in which they are spelled; the values are FreeBSD's (kqueue(2)).
+-- The flags by name, in the order in which they are spelled.
 use Rattle.std.specs.Prelude.{ℕ, List, [], ◌∷◌, codes}
+use Rattle.kq_model.specs.Bits.{add, delete, enable, disable, oneshot, clear, dispatch, receipt, eof, error}
 
 abbrev pub flag_table : List (List ℕ × ℕ)
 flag_table =
-    (codes "ADD", 1) ∷ (codes "DELETE", 2) ∷ (codes "ENABLE", 4) ∷ (codes "DISABLE", 8)
-    ∷ (codes "ONESHOT", 16) ∷ (codes "CLEAR", 32) ∷ (codes "DISPATCH", 128)
-    ∷ (codes "RECEIPT", 64) ∷ (codes "EOF", 32768) ∷ (codes "ERROR", 16384) ∷ []
+    (codes "ADD", add) ∷ (codes "DELETE", delete) ∷ (codes "ENABLE", enable) ∷ (codes "DISABLE", disable)
+    ∷ (codes "ONESHOT", oneshot) ∷ (codes "CLEAR", clear) ∷ (codes "DISPATCH", dispatch)
+    ∷ (codes "RECEIPT", receipt) ∷ (codes "EOF", eof) ∷ (codes "ERROR", error) ∷ []

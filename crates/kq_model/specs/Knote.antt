@@ -1,12 +1,12 @@
 -- A knote: what a kqueue keeps of one registered kevent, and the operations on lists of knotes and
 -- of keys (kqueue(2); Lemon 2001, section 4).
-use Rattle.std.specs.Prelude.{ℕ, ℤ, Bool, not, ◌&&◌, ◌==◌, List, [], ◌∷◌, ◌++◌, map, filter, Option, Some, None, if◌then◌else◌}
+use Rattle.std.specs.Prelude.{ℕ, ℤ, Bool, true, false, not, ◌&&◌, ◌==◌, List, [], ◌∷◌, ◌++◌, map, filter, Option, Some, None, if◌then◌else◌}
 use Rattle.std.specs.List.{list_any}
 use Rattle.kq_model.specs.declared.filter.Filter.{Filter}
 use Rattle.kq_model.specs.declared.filter.Filter.TheVariants.{Read, Write, Vnode, Proc, Signal, Timer, User, Aio, Lio, Fs, Procdesc, Sendfile, Empty}
 use Rattle.kq_model.specs.declared.key.Key.{Key}
 use Rattle.kq_model.specs.declared.object.Target.{Target}
-use Rattle.kq_model.specs.declared.object.Hint.{Hint}
+use Rattle.kq_model.specs.Hearing.{Hearing}
 
 -- ---- keys
 
@@ -29,6 +29,17 @@ filter_number Empty = 12
 abbrev pub filter_eq : Filter → Filter → Bool
 filter_eq f g = filter_number f == filter_number g
 
+-- READ, WRITE and VNODE watch what a number of the process names
+unfoldable pub watches_number : Filter → Bool
+watches_number Read = true
+watches_number Write = true
+watches_number Vnode = true
+watches_number _ = false
+
+unfoldable pub is_timer : Filter → Bool
+is_timer Timer = true
+is_timer _ = false
+
 abbrev pub key_eq : Key → Key → Bool
 key_eq a b = (a.ident == b.ident) && filter_eq a.filter b.filter
 
@@ -45,12 +56,8 @@ queued key queue = if has_key key queue then queue else queue ++ key ∷ []
 
 -- ---- knotes
 
--- what a knote has heard: a hint for its target, or an expiration of its timer
-pub data Heard : Type 0 where
-  Told : Hint → Heard
-  Expired : Heard
-
-pub record Knote : Type 0 where
+-- `h` says how what was heard is kept
+pub record Knote {S : Type 0} (h : Hearing S) : Type 0 where
   pub key : Key
   -- what is watched; none where the change named nothing that is there
   pub target : Option Target
@@ -64,8 +71,8 @@ pub record Knote : Type 0 where
   pub dispatch : Bool
   pub enabled : Bool
   pub active : Bool
-  -- what was heard since the last reset, the latest last
-  pub seen : List Heard
+  -- what was heard since the last reset
+  pub seen : S
   -- of a TIMER, in ns
   pub start : ℕ
   pub period : ℕ
@@ -73,15 +80,16 @@ pub record Knote : Type 0 where
   pub bits : ℕ
   pub triggered : Bool
 
--- the knote of this key
-unfoldable pub find_knote : Key → List Knote → Option Knote
-find_knote key [] = None
-find_knote key (k ∷ ks) = if key_eq key k.key then Some k else find_knote key ks
+module _ {S : Type 0} {h : Hearing S} where
+  -- the knote of this key
+  unfoldable pub find_knote : Key → List (Knote h) → Option (Knote h)
+  find_knote key [] = None
+  find_knote key (k ∷ ks) = if key_eq key k.key then Some k else find_knote key ks
 
--- the knotes with this one in the place of the one of its key
-abbrev pub with_knote : Knote → List Knote → List Knote
-with_knote knote knotes = map (λ k. if key_eq knote.key k.key then knote else k) knotes
+  -- the knotes with this one in the place of the one of its key
+  abbrev pub with_knote : Knote h → List (Knote h) → List (Knote h)
+  with_knote knote knotes = map (λ k. if key_eq knote.key k.key then knote else k) knotes
 
--- the knotes without the one of this key
-abbrev pub without_knote : Key → List Knote → List Knote
-without_knote key knotes = filter (λ k. not (key_eq key k.key)) knotes
+  -- the knotes without the one of this key
+  abbrev pub without_knote : Key → List (Knote h) → List (Knote h)
+  without_knote key knotes = filter (λ k. not (key_eq key k.key)) knotes

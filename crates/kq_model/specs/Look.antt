@@ -2,8 +2,7 @@
 use Rattle.std.specs.Prelude.{ℕ, ℤ, Bool, true, false, Option, Some, None, if◌then◌else◌}
 use Rattle.kq_model.specs.declared.filter.Filter.{Filter}
 use Rattle.kq_model.specs.declared.filter.Filter.TheVariants.{User}
-use Rattle.kq_model.specs.declared.object.Target.{Target}
-use Rattle.kq_model.specs.declared.object.Target.TheVariants.{Own}
+use Rattle.kq_model.specs.Hearing.{Hearing}
 use Rattle.kq_model.specs.Knote.{Knote}
 use Rattle.kq_model.specs.Views.{Views}
 
@@ -13,23 +12,19 @@ pub record Seen : Type 0 where
   pub datum : ℤ
   pub eof : Bool
 
--- EVFILT_USER: triggered; its own bits and the data of the last change
-unfoldable pub look_user : Knote → Option Seen
-look_user k = if k.triggered then Some (record { fflags = k.bits; datum = k.datum; eof = false }) else None
-
-unfoldable pub look_by : Filter → Views → Knote → Option Seen
-look_by User views k = look_user k
-look_by _ views k = None
-
-unfoldable pub look : Views → Knote → Option Seen
-look views k = look_by k.key.filter views k
-
 -- the filters that are simulated; all others are refused
 unfoldable pub is_simulated : Filter → Bool
 is_simulated User = true
 is_simulated _ = false
 
--- what a change of this filter and ident, made by this process, watches
-unfoldable pub target_of : Views → ℕ → Filter → ℕ → Option Target
-target_of views owner User ident = Some Own
-target_of views owner _ ident = None
+module _ {S : Type 0} {h : Hearing S} where
+  -- EVFILT_USER: triggered; its own bits and the data of the last change
+  unfoldable pub look_user : Knote h → Option Seen
+  look_user k = if k.triggered then Some (record { fflags = k.bits; datum = k.datum; eof = false }) else None
+
+  unfoldable pub look_by : Filter → Views → Knote h → Option Seen
+  look_by User views k = look_user k
+  look_by _ views k = None
+
+  unfoldable pub look : Views → Knote h → Option Seen
+  look views k = look_by k.key.filter views k

@@ -1,9 +1,11 @@
--- The names of filters and flags in a trace and a report (this project's choice).
+-- The names of filters, flags and reasons in a trace and a report (this project's choice).
 use Rattle.std.specs.Prelude.{ℕ, nat_eq, Bool, List, [], ◌∷◌, Option, Some, None, codes, filter, map, if◌then◌else◌}
 use Rattle.std.specs.Cmp.Lexicographic.{pointwise}
 use Rattle.kq_model.specs.declared.event_flags.EvFlags.{EvFlags}
 use Rattle.kq_model.specs.declared.filter.Filter.{Filter}
 use Rattle.kq_model.specs.declared.filter.Filter.TheVariants.{Read, Write, Vnode, Proc, Signal, Timer, User, Aio, Lio, Fs, Procdesc, Sendfile, Empty}
+use Rattle.kq_model.specs.declared.why.Why.{Why}
+use Rattle.kq_model.specs.declared.why.Why.TheVariants.{NoProcess, UsedPid, NoDescriptor, UsedDescriptor, WrongKind, Absent, UsedFile, ClockBack, TooMany}
 use Rattle.kq_model.specs.Bits.{asks}
 use Rattle.kq_model.specs.FlagNames.{flag_table}
 
@@ -40,3 +42,15 @@ filter_named name = filter_among filters name
 -- the names of the flags that are set, each once, in the order of the table
 unfoldable pub names_of : EvFlags → List (List ℕ)
 names_of flags = map (λ row. row.0) (filter (λ row. asks flags row.1) flag_table)
+
+-- why a record is impossible
+abbrev pub why_name : Why → List ℕ
+why_name NoProcess = codes "NoProcess"
+why_name UsedPid = codes "UsedPid"
+why_name NoDescriptor = codes "NoDescriptor"
+why_name UsedDescriptor = codes "UsedDescriptor"
+why_name WrongKind = codes "WrongKind"
+why_name Absent = codes "Absent"
+why_name UsedFile = codes "UsedFile"
+why_name ClockBack = codes "ClockBack"
+why_name TooMany = codes "TooMany"

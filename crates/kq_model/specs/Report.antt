@@ -8,23 +8,10 @@ use Rattle.kq_model.specs.declared.kevent.Kevent.{Kevent}
 use Rattle.kq_model.specs.declared.reply.Reply.{Reply}
 use Rattle.kq_model.specs.declared.reply.Reply.TheVariants.{Done, Events, Failed, Impossible}
 use Rattle.kq_model.specs.declared.row.Row.{Row}
-use Rattle.kq_model.specs.declared.why.Why.{Why}
-use Rattle.kq_model.specs.declared.why.Why.TheVariants.{NoProcess, UsedPid, NoDescriptor, UsedDescriptor, WrongKind, Absent, UsedFile, ClockBack, TooMany}
 use Rattle.kq_model.specs.Errno.{error_number}
-use Rattle.kq_model.specs.Names.{filter_name}
+use Rattle.kq_model.specs.Names.{filter_name, why_name}
 use Rattle.kq_model.specs.Spelling.{natural, integer, flags_data, line_text}
 use Rattle.kq_model.specs.System.{rows}
-
-abbrev pub why_name : Why → List ℕ
-why_name NoProcess = codes "NoProcess"
-why_name UsedPid = codes "UsedPid"
-why_name NoDescriptor = codes "NoDescriptor"
-why_name UsedDescriptor = codes "UsedDescriptor"
-why_name WrongKind = codes "WrongKind"
-why_name Absent = codes "Absent"
-why_name UsedFile = codes "UsedFile"
-why_name ClockBack = codes "ClockBack"
-why_name TooMany = codes "TooMany"
 
 unfoldable pub kevent_data : Kevent → Data
 kevent_data e = object (

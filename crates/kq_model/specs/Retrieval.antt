@@ -5,70 +5,102 @@ use Rattle.kq_model.specs.declared.kevent.Kevent.{Kevent}
 use Rattle.kq_model.specs.declared.event_flags.EvFlags.{EvFlags}
 use Rattle.kq_model.specs.declared.key.Key.{Key}
 use Rattle.kq_model.specs.Bits.{flag_if, oneshot, clear, dispatch, eof}
+use Rattle.kq_model.specs.Hearing.{Hearing}
 use Rattle.kq_model.specs.Knote.{Knote, find_knote, with_knote, without_knote}
 use Rattle.kq_model.specs.Kqueue.{Kqueue}
 use Rattle.kq_model.specs.Look.{Seen, look}
 use Rattle.kq_model.specs.Views.{Views}
 
-unfoldable pub event_flags : Knote → Seen → EvFlags
-event_flags k seen =
-    flag_if seen.eof eof (flag_if k.dispatch dispatch (flag_if k.clear clear (flag_if k.oneshot oneshot (record { 0 = 0 }))))
-
-unfoldable pub event_of : Knote → Seen → Kevent
-event_of k seen = record {
-  ident = k.key.ident;
-  filter = k.key.filter;
-  flags = event_flags k seen;
-  fflags = seen.fflags;
-  datum = seen.datum;
-  udata = k.udata;
-}
-
--- CLEAR takes back what was heard and a USER's trigger; its bits and data stay
-unfoldable pub reset : Knote → Knote
-reset k = if k.clear then record k { seen = []; triggered = false } else k
-
--- CLEAR resets and DISPATCH disables; with either the knote is not active
-unfoldable pub rested : Knote → Knote
-rested k = record (reset k) { active = false; enabled = k.enabled && not k.dispatch }
-
--- the knotes after this one was delivered
-unfoldable pub knotes_after : Knote → List Knote → List Knote
-knotes_after k knotes =
-    if k.oneshot then without_knote k.key knotes
-    else if k.clear || k.dispatch then with_knote (rested k) knotes
-    else knotes
-
--- only a knote without ONESHOT, CLEAR and DISPATCH stays in the queue, and goes to its back
-unfoldable pub stays : Knote → Bool
-stays k = not (k.oneshot || k.clear || k.dispatch)
-
-unfoldable pub back_after : Knote → List Key → List Key
-back_after k back = if stays k then back ++ k.key ∷ [] else back
-
-pub record Retrieved : Type 0 where
-  pub kq : Kqueue
+pub record Retrieved {S : Type 0} (h : Hearing S) : Type 0 where
+  pub kq : Kqueue h
   pub events : List Kevent
 
-unfoldable pub delivered : Kevent → Retrieved → Retrieved
-delivered event r = record r { events = event ∷ r.events }
+-- what the turn of one knote leaves, with the event where one is delivered
+pub record Turned {S : Type 0} (h : Hearing S) : Type 0 where
+  pub kq : Kqueue h
+  pub event : Option Kevent
 
--- Where the condition holds no more the knote becomes inactive, and leaves the queue; else an event is
--- delivered. `rest` goes on with the keys behind.
-unfoldable pub at_look : (List Key → ℕ → List Knote → Retrieved) → Knote → List Key → ℕ → List Knote → Option Seen → Retrieved
-at_look rest k back room knotes None = rest back (suc room) (with_knote (record k { active = false }) knotes)
-at_look rest k back room knotes (Some seen) = delivered (event_of k seen) (rest (back_after k back) room (knotes_after k knotes))
+module _ {S : Type 0} {h : Hearing S} where
+  -- ---- the event
 
-unfoldable pub at_front : (List Key → ℕ → List Knote → Retrieved) → Views → List Key → ℕ → List Knote → Option Knote → Retrieved
-at_front rest views back room knotes None = rest back (suc room) knotes
-at_front rest views back room knotes (Some k) = at_look rest k back room knotes (look views k)
+  unfoldable pub event_flags : Knote h → Seen → EvFlags
+  event_flags k seen =
+      flag_if seen.eof eof (flag_if k.dispatch dispatch (flag_if k.clear clear (
+      flag_if k.oneshot oneshot (record { 0 = 0 }))))
 
--- The keys are what is left of the queue as it stood, and `back` is what went to its back meanwhile.
-unfoldable pub retrieve : Views → List Key → List Key → ℕ → List Knote → Retrieved
-retrieve views [] back room knotes = record { kq = record { knotes = knotes; queue = back }; events = [] }
-retrieve views (key ∷ keys) back zero knotes = record { kq = record { knotes = knotes; queue = (key ∷ keys) ++ back }; events = [] }
-retrieve views (key ∷ keys) back (suc room) knotes = at_front (retrieve views keys) views back room knotes (find_knote key knotes)
+  unfoldable pub event_of : Knote h → Seen → Kevent
+  event_of k seen = record {
+    ident = k.key.ident;
+    filter = k.key.filter;
+    flags = event_flags k seen;
+    fflags = seen.fflags;
+    datum = seen.datum;
+    udata = k.udata;
+  }
 
--- at most so many events out of a kqueue
-unfoldable pub retrieval : Views → ℕ → Kqueue → Retrieved
-retrieval views room kq = retrieve views kq.queue [] room kq.knotes
+  -- ---- what becomes of the knote
+
+  -- CLEAR takes back what was heard and a USER's trigger; its bits and data stay
+  unfoldable pub reset : Knote h → Knote h
+  reset k = if k.clear then record k { seen = h.empty; triggered = false } else k
+
+  -- CLEAR resets and DISPATCH disables; with either the knote is not active
+  unfoldable pub rested : Knote h → Knote h
+  rested k = record (reset k) { active = false; enabled = k.enabled && not k.dispatch }
+
+  -- the knotes after this one was delivered
+  unfoldable pub knotes_after : Knote h → List (Knote h) → List (Knote h)
+  knotes_after k knotes =
+      if k.oneshot then without_knote k.key knotes
+      else if k.clear || k.dispatch then with_knote (rested k) knotes
+      else knotes
+
+  -- only a knote without ONESHOT, CLEAR and DISPATCH stays in the queue, and goes to its back
+  unfoldable pub stays : Knote h → Bool
+  stays k = not (k.oneshot || k.clear || k.dispatch)
+
+  unfoldable pub back_after : Knote h → List Key → List Key
+  back_after k back = if stays k then back ++ k.key ∷ [] else back
+
+  -- ---- one turn: a key was taken from the front of the queue, and its knote is looked at
+
+  -- where the condition holds no more the knote becomes inactive; its key is out of the queue
+  abbrev pub with_idle : Knote h → Kqueue h → Kqueue h
+  with_idle k kq = record kq { knotes = with_knote (record k { active = false }) kq.knotes }
+
+  abbrev pub with_delivered : Knote h → Kqueue h → Kqueue h
+  with_delivered k kq = record { knotes = knotes_after k kq.knotes; queue = back_after k kq.queue }
+
+  unfoldable pub turned_at_look : Knote h → Kqueue h → Option Seen → Turned h
+  turned_at_look k kq None = record { kq = with_idle k kq; event = None }
+  turned_at_look k kq (Some seen) = record { kq = with_delivered k kq; event = Some (event_of k seen) }
+
+  unfoldable pub turned_at : Views → Kqueue h → Option (Knote h) → Turned h
+  turned_at views kq None = record { kq = kq; event = None }
+  turned_at views kq (Some k) = turned_at_look k kq (look views k)
+
+  -- the turn of a key, which the kqueue's queue has no longer
+  unfoldable pub turned : Views → Key → Kqueue h → Turned h
+  turned views key kq = turned_at views kq (find_knote key kq.knotes)
+
+  -- ---- the retrieval
+
+  unfoldable pub delivered : Kevent → Retrieved h → Retrieved h
+  delivered event r = record r { events = event ∷ r.events }
+
+  -- an event takes up room; `rest` goes on with the keys behind
+  unfoldable pub after_turn : (ℕ → Kqueue h → Retrieved h) → ℕ → Kqueue h → Option Kevent → Retrieved h
+  after_turn rest room kq None = rest (suc room) kq
+  after_turn rest room kq (Some event) = delivered event (rest room kq)
+
+  -- The keys are what is left of the queue as it stood; the kqueue's own queue is what went to the back
+  -- meanwhile.
+  unfoldable pub retrieve : Views → List Key → ℕ → Kqueue h → Retrieved h
+  retrieve views [] room kq = record { kq = kq; events = [] }
+  retrieve views (key ∷ keys) zero kq = record { kq = record kq { queue = (key ∷ keys) ++ kq.queue }; events = [] }
+  retrieve views (key ∷ keys) (suc room) kq =
+      after_turn (retrieve views keys) room (turned views key kq).kq (turned views key kq).event
+
+  -- at most so many events out of a kqueue
+  unfoldable pub retrieval : Views → ℕ → Kqueue h → Retrieved h
+  retrieval views room kq = retrieve views kq.queue room (record kq { queue = [] })

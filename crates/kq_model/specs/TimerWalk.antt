@@ -4,7 +4,7 @@
 -- the order in which events of one call are returned.
 use Rattle.std.specs.Prelude.{◌≡◌, ℕ, zero, suc, ◌+◌, ◌<◌, ◌≤◌, Bool, true, false, not, ◌&&◌, nat_le, nat_lt, if◌then◌else◌, List, [], ◌∷◌, ◌++◌, map}
 use Rattle.std.specs.List.{filter, list_any}
-use Rattle.kq_model.specs.Ticks.{Ticking, counted, ticks_between, next_tick}
+use Rattle.kq_model.specs.Ticks.{counted, ticks_between, next_tick}
 
 -- what the walk asks of an item and does to it
 pub record Alarms (X Key : Type 0) : Type 0 where
@@ -75,12 +75,12 @@ walked_at_once a first from n w = record {
   queue = w.queue ++ map a.key (in_order first (filter (λ x. nat_le (first x) (from + n) && is_fresh a w.queue x) w.items));
 }
 
--- the same for items that each are a timer: each gets its ticks after `from` and not after `to`, and those
--- with a tick go to the queue's back in the order of their next ticks after `from`
-abbrev pub tickers_at_once : {X Key : Type 0} → Alarms X Key → (X → Ticking) → ℕ → ℕ → Waiting X Key → Waiting X Key
-tickers_at_once a ticking from to w = record {
-  items = map (λ x. rung_times a (ticks_between (ticking x) from to) x) w.items;
-  queue = w.queue ++ map a.key (in_order (λ x. next_tick (ticking x) from) (filter (λ x. nat_lt 0 (ticks_between (ticking x) from to) && is_fresh a w.queue x) w.items));
+-- the same from `from` to `to`: each item gets its ticks, and those with a tick go to the queue's back in
+-- the order of their next ticks after `from`
+abbrev pub tickers_at_once : {X Key : Type 0} → Alarms X Key → ℕ → ℕ → Waiting X Key → Waiting X Key
+tickers_at_once a from to w = record {
+  items = map (λ x. rung_times a (ticks_between (a.expires x) from to) x) w.items;
+  queue = w.queue ++ map a.key (in_order (λ x. next_tick (a.expires x) from) (filter (λ x. nat_lt 0 (ticks_between (a.expires x) from to) && is_fresh a w.queue x) w.items));
 }
 
 -- an expiration changes neither an item's key nor when it expires, nor whether it is enabled

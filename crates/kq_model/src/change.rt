@@ -1,4 +1,7 @@
-use crate::{EvFlags, Filter};
+ghost use Rattle.std.specs.Prelude.{◌≡◌};
+ghost use Rattle.kq_model.specs.ChangedKnote.{key_of};
+
+use crate::{EvFlags, Filter, Key};
 
 /// One entry of a change list: the fields of a kevent, as kevent(2) takes them.
 #[derive(Debug, Drop, Clone, Copy, PartialEq, Eq)]
@@ -14,4 +17,16 @@ pub struct Change {
     pub datum: i64,
     /// Kept for the caller and given back with each event.
     pub udata: u64,
+}
+
+impl Change {
+    /// The key of the knote that the change is about.
+    pub fn key(&self) -> Key
+        ensures { result ≡ key_of self.now }
+    {
+        Key {
+            ident: self.ident,
+            filter: self.filter,
+        }
+    }
 }

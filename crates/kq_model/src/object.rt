@@ -1,6 +1,6 @@
 /// What a knote watches. A socket, a pipe and an open file description are named by the place of
 /// the record that made them.
-#[derive(Debug, Drop, Clone, Copy, PartialEq, Eq)]
+#[derive(Debug, Drop, Clone, Copy, PartialEq, Eq, Hash)]
 pub enum Target {
     Socket(u64),
     Pipe(u64),
@@ -35,36 +35,36 @@ pub enum Named {
     Kqueue(u64),
 }
 
-/// What a filter sees of its target.
+/// What a filter sees of its target. Amounts, sizes and marks are bytes.
 #[derive(Debug, Drop, Clone, Copy, PartialEq, Eq)]
 pub enum View {
     /// A listening socket and its connections that wait to be accepted.
     Listen {
-        pending: u64,
+        pending: i64,
     },
-    /// A socket that does not listen; amounts are bytes.
+    /// A socket that does not listen. A side is shut with an error or 0.
     Sock {
-        readable: u64,
-        read_mark: u64,
+        readable: i64,
+        read_mark: i64,
         read_shut: bool,
         read_error: u32,
         connected: bool,
-        space: u64,
-        write_mark: u64,
+        space: i64,
+        write_mark: i64,
         write_shut: bool,
         write_error: u32,
     },
     /// A pipe; `writer` and `reader` say whether such an end is open.
     Pipe {
-        bytes: u64,
-        cap: u64,
+        bytes: i64,
+        cap: i64,
         writer: bool,
         reader: bool,
     },
-    /// An open file description: the file's size and this description's offset, in bytes.
+    /// An open file description: the file's size and this description's offset.
     Open {
-        size: u64,
-        offset: u64,
+        size: i64,
+        offset: i64,
     },
     File,
     /// A process, with its exit status once it has exited.

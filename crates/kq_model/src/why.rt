@@ -1,3 +1,6 @@
+ghost use Rattle.std.specs.Prelude.{◌≡◌};
+ghost use Rattle.kq_model.specs.Names.{why_name};
+
 /// Why a record is impossible. Of several reasons the first in this order is given.
 #[derive(Debug, Drop, Clone, Copy, PartialEq, Eq)]
 pub enum Why {
@@ -19,4 +22,23 @@ pub enum Why {
     ClockBack,
     /// An amount is outside its limits.
     TooMany,
+}
+
+impl Why {
+    /// The name by which a report spells it.
+    pub fn name(self) -> &'static str
+        ensures { result.now ≡ why_name self }
+    {
+        match self {
+            Why::NoProcess => "NoProcess",
+            Why::UsedPid => "UsedPid",
+            Why::NoDescriptor => "NoDescriptor",
+            Why::UsedDescriptor => "UsedDescriptor",
+            Why::WrongKind => "WrongKind",
+            Why::Absent => "Absent",
+            Why::UsedFile => "UsedFile",
+            Why::ClockBack => "ClockBack",
+            Why::TooMany => "TooMany",
+        }
+    }
 }

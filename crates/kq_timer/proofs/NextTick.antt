@@ -21,7 +21,7 @@ none_between t from base m positive e later earlier = by_base (cases_lt base m)
         let start : m ≡ 0 = omega (arith, ints, clamps) in
         rw start (never_at_zero t)
 
-next_is : (t : Ticking) (from : ℤ) (base : ℕ) → 0 < t.period → pos base ≡ int_max from (pos 0) → IsNextTick t from (moment_after t base)
+next_is : (t : Ticking) (from : ℤ) (base : ℕ) → 0 < t.period → pos base ≡ int_max from (pos 0) → IsNextTick (is_tick t) from (moment_after t base)
 next_is t from base positive e =
     let later = moment_after-later t base positive in
     record {
@@ -42,5 +42,5 @@ not_negative (negsuc n) from e = absurd (omega (arith, ints, clamps))
 
 -- with the later of `from` and 0 as the code has it
 pub next_found : (t : Ticking) (from z : ℤ) (later : ℕ) → 0 < t.period → z ≡ int_max from (pos 0) → later ≡ max (unsigned_abs z) t.start
-    → IsNextTick t from (later - (later - t.start) % t.period + t.period)
+    → IsNextTick (is_tick t) from (later - (later - t.start) % t.period + t.period)
 next_found t from z later positive e l = rw (moment_after-code t (unsigned_abs z) later l) (next_is t from (unsigned_abs z) positive (not_negative z from e))

@@ -1,5 +1,5 @@
 ghost use Rattle.std.specs.Prelude.{◌≡◌, pos, ◌≤ℤ◌, unsigned_abs, IfSome, MatchOption};
-ghost use Rattle.kq_model.specs.Ticks.{ticks_between, IsNextTick, HasNoTick};
+ghost use Rattle.kq_model.specs.Ticks.{is_tick, ticks_between, IsNextTick, HasNoTick};
 
 use crate::Period;
 use std::marker::Model;
@@ -43,7 +43,7 @@ impl Ticker {
     pub fn ticks(&self, from: i64, to: i64) -> i64
         requires past { pos 0 ≤ℤ from }
         requires ordered { from ≤ℤ to }
-        ensures { result ≡ pos (ticks_between self.now (unsigned_abs from) (unsigned_abs to)) }
+        ensures { result ≡ pos (ticks_between (is_tick self.now) (unsigned_abs from) (unsigned_abs to)) }
     {
         let before = (from as u64).saturating_sub(self.start) / self.period;
         let until = (to as u64).saturating_sub(self.start) / self.period;
@@ -53,7 +53,7 @@ impl Ticker {
     /// The moment of the first expiration after `from`, where there is one up to 2^63 - 1. `from` may
     /// be any number, also a negative one.
     pub fn first_after(&self, from: i64) -> Option<i64>
-        ensures next { MatchOption result (HasNoTick self.now from) (λ moment. IsNextTick self.now from (unsigned_abs moment)) }
+        ensures next { MatchOption result (HasNoTick (is_tick self.now) from) (λ moment. IsNextTick (is_tick self.now) from (unsigned_abs moment)) }
         ensures not_negative { IfSome result (λ moment. pos 0 ≤ℤ moment) }
     {
         i64::try_from(self.next_after(from)).ok()
@@ -61,7 +61,7 @@ impl Ticker {
 
     /// The moment of the first expiration after `from`, also where it is past 2^63 - 1.
     fn next_after(&self, from: i64) -> u64
-        ensures { IsNextTick self.now from result }
+        ensures { IsNextTick (is_tick self.now) from result }
     {
         let later = (from.max(0) as u64).max(self.start);
         later - (later - self.start) % self.period + self.period

@@ -5,8 +5,8 @@ ghost use Rattle.serde_json.specs.Find.{get};
 ghost use Rattle.serde_json.specs.View.{view};
 ghost use Rattle.kq_model.specs.Reading.{header_version, json_of, version_in};
 
-use crate::values::line_value;
 use crate::member::has_just;
+use crate::values::line_value;
 use kq_model::Memory;
 use serde_json::Value;
 use std::alloc::Global;

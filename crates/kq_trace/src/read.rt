@@ -6,9 +6,9 @@ ghost use Rattle.kq_trace.specs.Faults.{IsFault, IsLeastFault};
 
 use crate::TraceError;
 use crate::header::version_on_line;
-use crate::values::line_value;
 use crate::line::first_line;
 use crate::record::event_of;
+use crate::values::line_value;
 use kq_line::LineReader;
 use kq_model::{Event, LineFault, Memory, Series, Trace};
 use std::alloc::Global;

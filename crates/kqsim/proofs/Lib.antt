@@ -1,7 +1,1 @@
-pub mod Appends
-pub mod FlagTextLemmas
-pub mod ReportLines
-pub mod WorldLemmas
-pub mod PlanLemmas
-pub mod SystemLemmas
 pub mod ReplayLemmas

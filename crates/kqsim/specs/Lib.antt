@@ -1,9 +1,5 @@
 pub mod Fault
 pub mod CommandLine
 pub mod Workers
-pub mod Adds
-pub mod FlagText
-pub mod EventsText
-pub mod Kept
 pub mod Replay
 pub mod Run

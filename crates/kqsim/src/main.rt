@@ -8,9 +8,7 @@ mod input;
 mod order;
 mod output;
 mod replaying;
-mod report;
 mod running;
-mod system;
 #[cfg(test)]
 mod tests;
 mod workers;

@@ -1,4 +1,6 @@
 mod library;
+mod merging;
 mod program;
 mod streams;
+mod system;
 mod text;

@@ -23,7 +23,9 @@ fn main(rt: HostRuntime) -> anyhow::Result<()> {
     let words = env::args(&rt)?;
     let word = words.skip(1).next();
     let task = word.as_ref().and_then(|word| Task::named(word.as_str()));
-    let task = task.context("usage: trace_check read | values | write | each | each-value | fallbacks")?;
+    let task = task.context(
+        "usage: trace_check read | values | write | each | each-value | fallbacks",
+    )?;
     let mut bytes = Vec::new(rt.alloc());
     rt.stdin().read_to_end(&mut bytes)?;
     run(&rt, task, bytes.as_slice())

@@ -1,5 +1,5 @@
 //! Calls of several threads. Each is joined, and what they show does not hang on how they ran.
-ghost use Rattle.std.specs.Prelude.{◌≡◌};
+ghost use Rattle.std.specs.Prelude.{◌≡◌, ◌^◌, ◌≤◌};
 
 use super::machines::{Held, Sum, await_word};
 use super::{next_seat, told};
@@ -35,17 +35,32 @@ fn held_and_tried<R: Threads + Wait + Sync>(
     )
 }
 
-#[test]
-fn busy_while_the_turn_is_held(rt: HostRuntime) -> Result<(), Fail> {
+// What a call that holds the turn of a lock with so many tickets answers, and what a try meanwhile.
+fn tried_while_held(rt: &HostRuntime, last: u64) -> Result<(Told, Told), Fail>
+    requires { last ≤ 2 ^ 62 }
+{
     let word = Arc::new(rt.alloc(), AtomicU64::new(0))?;
     let machine = Held {
         word: Arc::try_clone(&word)?,
     };
-    let (lock, mut seats) = TurnLock::new(rt.alloc(), machine, 2, 2)?;
+    let (lock, mut seats) = TurnLock::new(rt.alloc(), machine, 2, last)?;
     let one = next_seat(&lock, &mut seats).ok_or("a seat")?;
     let two = next_seat(&lock, &mut seats).ok_or("a second seat")?;
-    let (held, tried) = held_and_tried(&rt, &lock, &word, one, two);
+    Ok(held_and_tried(rt, &lock, &word, one, two))
+}
+
+#[test]
+fn busy_while_the_turn_is_held(rt: HostRuntime) -> Result<(), Fail> {
+    let (held, tried) = tried_while_held(&rt, 2)?;
     assert_eq!(rt; tried, Err(TurnError::Busy));
+    assert_eq!(rt; held, Ok((1, 1, 0)));
+    Ok(())
+}
+
+#[test]
+fn worn_out_goes_before_busy(rt: HostRuntime) -> Result<(), Fail> {
+    let (held, tried) = tried_while_held(&rt, 1)?;
+    assert_eq!(rt; tried, Err(TurnError::WornOut));
     assert_eq!(rt; held, Ok((1, 1, 0)));
     Ok(())
 }

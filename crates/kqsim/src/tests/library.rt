@@ -1,7 +1,7 @@
 //! A kqueue and its knotes as a library: room is there where memory is.
 use kq_kevent::Kq;
-use kq_knote::{Knote, Knotes};
-use kq_model::{Filter, Key};
+use kq_knote::{Knote, Knotes, Tally};
+use kq_model::{Filter, Key, Target};
 use std::test::Fail;
 
 fn user(ident: u64) -> Knote {
@@ -10,6 +10,7 @@ fn user(ident: u64) -> Knote {
             ident,
             filter: Filter::User,
         },
+        target: Some(Target::Own),
         fflags: 0,
         datum: 0,
         udata: 8,
@@ -18,6 +19,9 @@ fn user(ident: u64) -> Knote {
         dispatch: false,
         enabled: true,
         active: false,
+        tally: Tally::empty(),
+        start: 0,
+        period: 0,
         bits: 5,
         triggered: false,
     }
@@ -30,7 +34,7 @@ fn an_attached_knote_is_got(rt: HostRuntime) -> Result<(), Fail> {
     knotes.reserve(1).map_err(|_| "memory")?;
     knotes.attach(user(7));
     let key = user(7).key;
-    assert_eq!(rt; knotes.get(key).map(|knote| knote.bits), Some(5));
+    assert_eq!(rt; knotes.find(key).map(|knote| knote.bits), Some(5));
     assert_eq!(rt; knotes.len(), 1);
     Ok(())
 }

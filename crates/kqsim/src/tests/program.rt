@@ -3,8 +3,8 @@ use crate::command_line::parse_words;
 use crate::fault::Fault;
 use crate::order::Order;
 use crate::replaying::replay;
-use crate::system::run;
 use kq_model::{Event, Kevent, Reply};
+use kq_system::System;
 use kq_trace::read_trace;
 use std::test::Fail;
 
@@ -128,7 +128,7 @@ fn returned(reply: &Reply) -> Option<&[Kevent]> {
 #[test]
 fn a_copied_row_is_equal(rt: HostRuntime) -> Result<(), Fail> {
     let trace = read_trace(&rt, STORED.as_bytes())?;
-    let rows = run(rt.alloc(), &trace).map_err(|_| "memory")?;
+    let rows = System::run(rt.alloc(), &trace).map_err(|_| "memory")?;
     let Some(row) = rows.get(2) else {
         panic!(rt; "no third row");
     };

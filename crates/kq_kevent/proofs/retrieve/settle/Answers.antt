@@ -1,12 +1,13 @@
-use Rattle.std.proofs.Common.{sym, ap, ◌∙◌, subst}
-use Rattle.kq_model.specs.declared.key.Key.{Key}
-use Rattle.kq_model.specs.Knote.{Knote}
-use Rattle.kq_model.specs.Retrieval.{rested}
-use Rattle.kq_knote.specs.Reserved.{IsPlaceOf}
-use Rattle.kq_kevent.proofs.TurnLaws.{rested-key}
+use Rattle.std.proofs.Common.{length, ap, arith}
+use Rattle.kq_model.specs.Tallied.{Knote}
+use Rattle.kq_kevent.proofs.TableLaws.{limit-without_knote}
 use Rattle.kq_kevent.proofs.retrieve.settle.Goals as goal
 
-pub put_at-requires : goal.put_at-requires
-put_at-requires c =
-    subst (λ (key : Key). IsPlaceOf key c.args.knotes.now.knotes c.args.place)
-    (sym (ap (λ (k : Knote). k.key) c.rest.ensures ∙ ap (λ (k : Knote). (rested k).key) c.delivered.view_is ∙ rested-key c.args.delivered.now)) c.requires.place
+pub returns-then-delivered-clause-limit : goal.returns-then-delivered-clause-limit
+returns-then-delivered-clause-limit c =
+    let key = c.args.delivered.now.key in
+    let ks = c.args.knotes.now.knotes in
+    let at = ap (λ (k : Knote). k.key) c.delivered.view_is in
+    let kept = limit-without_knote c.delivered.inside.key ks c.remove.result c.args.knotes.now.room
+    c.remove.new.self.room c.requires.own_keys c.remove.ensures.removed c.remove.ensures.room in
+    omega (arith, kept, ap (length {A = Knote}) c.remove.ensures.knotes)

@@ -4,19 +4,28 @@ use Rattle.kq_lock.proofs.Held.{same_view_on, bounded_view, bounded_stage, bound
 use Rattle.kq_lock.proofs.turn.await_turn.Goals as goal
 
 pub load-requires : goal.load-requires
-load-requires g c = (search rules, search rules, may_enter _ _ _ _ _ _ (search rules) c.args.ticket c.loop.invariant.2)
+load-requires g c = (
+  search rules,
+  search rules,
+  may_enter _ _ _ _ _ _
+      (search rules) c.args.ticket c.loop.invariant.2,
+)
 
 pub returns-then-load-ticket-clause-seat : goal.returns-then-load-ticket-clause-seat
 returns-then-load-ticket-clause-seat g c =
-    let told = c.load.ensures.2 c.args.ticket c.loop.invariant.2 in
-    (search rules, same_view_on c.args.place.now.me.0 c.loop.place.me.0 c.load.new.seat.me.0 c.loop.invariant.1 (told.0 c.if-load-ticket.true).0)
+    let told = c.load.ensures.2 c.args.ticket c.loop.invariant.2 in (
+      search rules,
+      same_view_on c.args.token.now.me.0 c.loop.token.me.0 c.load.new.seat.me.0
+          c.loop.invariant.1 (told.0 c.if-load-ticket.true).0,
+    )
 
 pub loop-preserved : goal.loop-preserved
 loop-preserved g c =
     let told = c.load.ensures.2 c.args.ticket c.loop.invariant.2 in
     let same = told.1 c.if-load-ticket.false in (
       search rules,
-      same_view_on c.args.place.now.me.0 c.loop.place.me.0 c.load.new.seat.me.0 c.loop.invariant.1 (bounded_view c.loop.place.me c.load.new.seat.me c.load.result same),
-      bounded_stage c.loop.place.me c.load.new.seat.me c.load.result same ∙ c.loop.invariant.2,
-      bounded_slots c.loop.place.me c.load.new.seat.me c.load.result same ∙ c.loop.invariant.3,
+      same_view_on c.args.token.now.me.0 c.loop.token.me.0 c.load.new.seat.me.0 c.loop.invariant.1
+          (bounded_view c.loop.token.me c.load.new.seat.me c.load.result same),
+      bounded_stage c.loop.token.me c.load.new.seat.me c.load.result same ∙ c.loop.invariant.2,
+      bounded_slots c.loop.token.me c.load.new.seat.me c.load.result same ∙ c.loop.invariant.3,
     )

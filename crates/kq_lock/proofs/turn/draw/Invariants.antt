@@ -4,4 +4,4 @@ use Rattle.kq_lock.proofs.turn.draw.Given as goal
 
 -- no ticket was drawn yet
 abbrev pub invariant-loop : goal.invariant-loop
-invariant-loop g l = IsSameSeat l.initial.place l.place × (l.place.me ≡ l.initial.place.me)
+invariant-loop g l = IsSameSeat l.initial.token l.token × (l.token.me ≡ l.initial.token.me)

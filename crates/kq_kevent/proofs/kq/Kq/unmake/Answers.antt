@@ -1,42 +1,45 @@
-use Rattle.std.proofs.Common.{length, sym, ap, ◌∙◌, arith}
-use Rattle.kq_model.specs.Knote.{Knote}
-use Rattle.kq_model.specs.Kqueue.{Kqueue, is_waiting}
-use Rattle.kq_kevent.specs.Held.{Held}
-use Rattle.kq_kevent.specs.Steps.{with_removed}
+use Rattle.std.proofs.Common.{length, ap, arith}
+use Rattle.kq_model.specs.Registration.{with_removed}
+use Rattle.kq_model.specs.Tallied.{Knote, Kqueue}
+use Rattle.kq_kevent.specs.Owned.{OwnedKqueue, limit}
 use Rattle.kq_kevent.proofs.CountLaws.{length-without_knote}
-use Rattle.kq_kevent.proofs.QueueLaws.{without_key-absent}
-use Rattle.kq_kevent.proofs.RegisterLaws.{same_kqueue, IsSound-at}
+use Rattle.kq_kevent.proofs.RegisterLaws.{IsSound-at}
 use Rattle.kq_kevent.proofs.SoundLaws.{IsSound-removed}
+use Rattle.kq_kevent.proofs.TableLaws.{limit-without_knote}
 use Rattle.kq_kevent.proofs.kq.Kq.unmake.Goals as goal
 
 pub invariant_of-self : goal.invariant_of-self
 invariant_of-self c =
     let kq : Kqueue = record { knotes = c.self.inside.knotes.knotes; queue = c.self.inside.queue.keys } in
+    let kept = limit-without_knote c.args.key kq.knotes c.remove.result c.self.inside.knotes.room
+    c.remove.new.self.room c.self.invariant.sound.own_keys c.remove.ensures.removed c.remove.ensures.room in
     record {
-      sound = IsSound-at c.remove_at-knote.new.self.knotes c.take_out.new.self.keys (with_removed c.args.key kq) c.remove_at-knote.ensures.knotes c.take_out.ensures.keys (IsSound-removed kq c.args.key c.self.invariant.sound);
-      capacity = omega (arith, ap (length {A = Knote}) c.remove_at-knote.ensures.knotes, length-without_knote c.args.key kq.knotes, c.take_out.ensures.capacity, c.self.invariant.capacity);
+      sound = IsSound-at c.remove.new.self.knotes c.take_out.new.self.keys
+          (with_removed c.args.key kq) c.remove.ensures.knotes c.take_out.ensures.keys
+          (IsSound-removed kq c.args.key c.self.invariant.sound);
+      capacity = omega (
+        arith,
+        kept,
+        ap (length {A = Knote}) c.remove.ensures.knotes,
+        c.take_out.ensures.capacity,
+        c.self.invariant.capacity,
+      );
     }
 
-pub invariant_of-self-else-is_waiting : goal.invariant_of-self-else-is_waiting
-invariant_of-self-else-is_waiting c =
-    let kq : Kqueue = record { knotes = c.self.inside.knotes.knotes; queue = c.self.inside.queue.keys } in
-    let idle = c.self.invariant.sound.waiting c.args.key ∙ ap is_waiting c.remove_at-knote.ensures.removed ∙ sym c.is_waiting.ensures ∙ c.if-is_waiting.false in
-    record {
-      sound = IsSound-at c.remove_at-knote.new.self.knotes c.self.inside.queue.keys (with_removed c.args.key kq) c.remove_at-knote.ensures.knotes (sym (without_key-absent c.args.key kq.queue idle)) (IsSound-removed kq c.args.key c.self.invariant.sound);
-      capacity = omega (arith, ap (length {A = Knote}) c.remove_at-knote.ensures.knotes, length-without_knote c.args.key kq.knotes, c.self.invariant.capacity);
-    }
+pub returns-clause-room : goal.returns-clause-room
+returns-clause-room c =
+    let kept = limit-without_knote c.args.key c.self.inside.knotes.knotes c.remove.result c.self.inside.knotes.room
+    c.remove.new.self.room c.self.invariant.sound.own_keys c.remove.ensures.removed c.remove.ensures.room in
+    omega (
+      arith,
+      kept,
+      length-without_knote c.args.key c.self.inside.knotes.knotes,
+      ap
+          (λ (v : OwnedKqueue). v.room) c.self.view_is,
+    )
 
-pub returns-then-is_waiting-clause-room : goal.returns-then-is_waiting-clause-room
-returns-then-is_waiting-clause-room c =
-    omega (arith, ap (length {A = Knote}) c.remove_at-knote.ensures.knotes, length-without_knote c.args.key c.self.inside.knotes.knotes, c.take_out.ensures.capacity, c.remove_at-knote.ensures.room, ap (λ (v : Held). v.room) c.self.view_is)
-
-pub returns-else-is_waiting-clause-kq : goal.returns-else-is_waiting-clause-kq
-returns-else-is_waiting-clause-kq c =
-    let kq : Kqueue = record { knotes = c.self.inside.knotes.knotes; queue = c.self.inside.queue.keys } in
-    let idle = c.self.invariant.sound.waiting c.args.key ∙ ap is_waiting c.remove_at-knote.ensures.removed ∙ sym c.is_waiting.ensures ∙ c.if-is_waiting.false in
-    same_kqueue c.remove_at-knote.new.self.knotes c.self.inside.queue.keys (with_removed c.args.key kq) c.remove_at-knote.ensures.knotes (sym (without_key-absent c.args.key kq.queue idle))
-    ∙ ap (λ (v : Held). with_removed c.args.key v.kq) c.self.view_is
-
-pub returns-else-is_waiting-clause-room : goal.returns-else-is_waiting-clause-room
-returns-else-is_waiting-clause-room c =
-    omega (arith, ap (length {A = Knote}) c.remove_at-knote.ensures.knotes, length-without_knote c.args.key c.self.inside.knotes.knotes, c.remove_at-knote.ensures.room, ap (λ (v : Held). v.room) c.self.view_is)
+pub returns-clause-limit : goal.returns-clause-limit
+returns-clause-limit c =
+    let kept = limit-without_knote c.args.key c.self.inside.knotes.knotes c.remove.result c.self.inside.knotes.room
+    c.remove.new.self.room c.self.invariant.sound.own_keys c.remove.ensures.removed c.remove.ensures.room in
+    omega (arith, kept, ap (length {A = Knote}) c.remove.ensures.knotes, ap limit c.self.view_is)

@@ -1,0 +1,32 @@
+"""What the runs of one program took, as the kernel counts it."""
+import os
+import subprocess
+import sys
+
+
+class Measure:
+    """The shortest time, in seconds, and the greatest peak memory, in bytes, of some runs of one program."""
+
+    def __init__(self, words, given, taken):
+        self.words, self.given, self.taken = words, given, taken
+        self.seconds, self.peak = float("inf"), 0
+
+    def run(self):
+        with open(self.given, "rb") as source, open(self.taken, "wb") as sink:
+            child = subprocess.Popen(self.words, stdin=source, stdout=sink)
+            _, status, used = os.wait4(child.pid, 0)
+        child.returncode = os.waitstatus_to_exitcode(status)
+        if child.returncode:
+            sys.exit(f"{self.words[0]} ended with status {child.returncode}")
+        self.seconds = min(self.seconds, used.ru_utime + used.ru_stime)
+        self.peak = max(self.peak, used.ru_maxrss * 1024)
+
+
+def last_line(path):
+    with open(path, "rb") as file:
+        file.seek(max(0, os.path.getsize(path) - 200))
+        return file.read().splitlines()[-1]
+
+
+def bar(what, has, most):
+    print(f"bar: {what}: {has:.2f}, at most {most}: {'met' if has <= most else 'NOT MET'}", flush=True)

@@ -1,0 +1,44 @@
+-- What contracts see of a kqueue of the code.
+use Rattle.std.specs.Prelude.{◌≡◌, ℕ, ◌+◌, ◌≤◌, List, length}
+use Rattle.kq_model.specs.declared.key.Key.{Key}
+use Rattle.kq_model.specs.Call.{number_of}
+use Rattle.kq_model.specs.Caller.{Caller}
+use Rattle.kq_model.specs.Hearing.{listed}
+use Rattle.kq_model.specs.Kqueue.{IsSound}
+use Rattle.kq_model.specs.Recast.{tallied}
+use Rattle.kq_model.specs.Registration.{Registered}
+use Rattle.kq_model.specs.Tallied.{Kqueue}
+use Rattle.kq_model.specs.Views.{Views}
+use Rattle.kq_knote.specs.Reserved.{Reserved}
+
+-- the queue alone, with how many keys it can hold
+pub record Keys : Type 0 where
+  pub keys : List Key
+  pub capacity : ℕ
+
+-- a kqueue with the process that owns it and the room reserved in it
+pub record OwnedKqueue : Type 0 where
+  pub kq : Kqueue
+  -- a pid
+  pub owner : ℕ
+  -- of the trace's format
+  pub version : ℕ
+  -- how many knotes more can be registered
+  pub room : ℕ
+
+-- the owner as it calls, where it sees this of the world
+abbrev pub caller : Views → OwnedKqueue → Caller
+caller views kq = record { views = views; owner = kq.owner; version = kq.version }
+
+-- the outcome of a registration, in tallies and with an error number, is this one
+abbrev pub IsTalliedRegistration : Kqueue → ℕ → Registered listed → Type 0
+IsTalliedRegistration kq error r = (kq ≡ tallied r.kq) × (error ≡ number_of r.error)
+
+-- how many knotes fit, with those that are there
+abbrev pub limit : OwnedKqueue → ℕ
+limit kq = length kq.kq.knotes + kq.room
+
+-- The kqueue is sound, and its queue can hold the key of each knote that fits.
+pub record IsLawful (knotes : Reserved) (queue : Keys) : Type 0 where
+  pub sound : IsSound (record { knotes = knotes.knotes; queue = queue.keys })
+  pub capacity : length knotes.knotes + knotes.room ≤ queue.capacity

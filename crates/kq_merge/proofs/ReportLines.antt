@@ -1,0 +1,157 @@
+use Rattle.std.proofs.Common.{◌≡◌, ◌∙◌, ◌+◌, ◌<◌, ◌≤◌, ℕ, ℤ, pos, negsuc, Bool, true, false, List, [], ◌∷◌, ◌++◌, map, length, drop, get_or, refl, sym, ap, codes, add-one, append_assoc, append-nil, drop-cons, drop_of_length-le}
+use Rattle.std.specs.Prelude.{decimal}
+use Rattle.std.specs.Fmt.{signed_decimal}
+use Rattle.json.specs.Print.{escape, escape_byte}
+use Rattle.serde_json.specs.View.{items_of}
+use Rattle.serde_json.specs.Written.{comma_if, compact_text, items_text, number_text}
+use Rattle.serde_json.specs.Find.{of_integer}
+use Rattle.kq_model.specs.declared.kevent.Kevent.{Kevent}
+use Rattle.kq_model.specs.declared.filter.Filter.{Filter}
+use Rattle.kq_model.specs.declared.filter.Filter.TheVariants.{Read, Write, Vnode, Proc, Signal, Timer, User, Aio, Lio, Fs, Procdesc, Sendfile, Empty}
+use Rattle.kq_model.specs.Names.{filter_name, why_name}
+use Rattle.kq_model.specs.declared.errno.Errno.{Errno}
+use Rattle.kq_model.specs.declared.reply.Reply.TheVariants.{Done, Events, Failed, Impossible}
+use Rattle.kq_model.specs.declared.why.Why.{Why}
+use Rattle.kq_model.specs.declared.why.Why.TheVariants.{NoProcess, UsedPid, NoDescriptor, UsedDescriptor, WrongKind, Absent, UsedFile, ClockBack, TooMany}
+use Rattle.kq_model.specs.Errno.{error_number}
+use Rattle.kq_model.specs.Spelling.{flags_data, integer, line_text, natural}
+use Rattle.kq_model.specs.Report.{call_count, calls_in, event_count, events_data, events_in, kevent_data, last_line, reply_line, report, row_data, row_lines}
+use Rattle.kq_model.specs.declared.row.Row.{Row}
+use Rattle.kq_merge.specs.Adds.{Adds}
+use Rattle.kq_merge.specs.EventsText.{events_text}
+
+pub number_text-of_integer : (z : ℤ) → number_text (of_integer z) ≡ signed_decimal z
+number_text-of_integer (pos n) = refl
+number_text-of_integer (negsuc n) = refl
+
+-- a filter's name has nothing to escape
+escape-filter_name : (f : Filter) → escape (filter_name f) ≡ filter_name f
+unfolding escape_byte
+escape-filter_name Read = refl
+escape-filter_name Write = refl
+escape-filter_name Vnode = refl
+escape-filter_name Proc = refl
+escape-filter_name Signal = refl
+escape-filter_name Timer = refl
+escape-filter_name User = refl
+escape-filter_name Aio = refl
+escape-filter_name Lio = refl
+escape-filter_name Fs = refl
+escape-filter_name Procdesc = refl
+escape-filter_name Sendfile = refl
+escape-filter_name Empty = refl
+
+-- the text of an event, piece by piece
+pub kevent_text : (e : Kevent) → compact_text (kevent_data e)
+    ≡ codes "{\"data\":" ++ (signed_decimal e.datum ++ (codes ",\"fflags\":" ++ (decimal e.fflags
+    ++ (codes ",\"filter\":\"" ++ (filter_name e.filter ++ (codes "\",\"flags\":" ++ (compact_text (flags_data e.flags)
+    ++ (codes ",\"ident\":" ++ (decimal e.ident ++ (codes ",\"udata\":" ++ (decimal e.udata ++ codes "}")))))))))))
+unfolding kevent_data natural integer escape_byte
+kevent_text e = simp (number_text-of_integer, escape-filter_name, append_assoc)
+
+-- a list of events, event by event
+events_text-is : (later : Bool) (es : List Kevent) → items_text later (items_of (map kevent_data es)) ≡ events_text later es
+unfolding events_text
+events_text-is later [] = refl
+events_text-is later (e ∷ es) = ap (λ rest. comma_if later ++ (compact_text (kevent_data e) ++ rest)) (events_text-is true es)
+
+-- the line of each answer, piece by piece
+regrouped : (a b c d e f : List ℕ) → (a ++ (b ++ (c ++ (d ++ e)))) ++ f ≡ (a ++ b) ++ (c ++ (d ++ (e ++ f)))
+regrouped a b c d e f = simp append_assoc
+
+returned_text : (place : ℕ) (es : List Kevent) → compact_text (row_data place (codes "events") (events_data es))
+    ≡ codes "{\"at\":" ++ (decimal place ++ (codes ",\"events\":[" ++ (events_text false es ++ codes "}")))
+unfolding row_data events_data natural escape_byte
+returned_text place es = ap (λ items. codes "{\"at\":" ++ (decimal place ++ (codes ",\"events\":[" ++ (items ++ codes "}")))) (events_text-is false es)
+
+pub returned_line : (place : ℕ) (es : List Kevent) → reply_line place (Events es)
+    ≡ (codes "{\"at\":" ++ decimal place) ++ (codes ",\"events\":[" ++ (events_text false es ++ codes "}\n"))
+unfolding reply_line line_text
+returned_line place es =
+    ap (λ text. text ++ 10 ∷ []) (returned_text place es)
+    ∙ regrouped (codes "{\"at\":") (decimal place) (codes ",\"events\":[") (events_text false es) (codes "}") (10 ∷ [])
+
+pub failed_line : (place : ℕ) (e : Errno) → reply_line place (Failed e)
+    ≡ (codes "{\"at\":" ++ decimal place) ++ (codes ",\"failed\":" ++ (decimal (error_number e) ++ codes "}\n"))
+unfolding reply_line row_data natural line_text escape_byte
+failed_line place e = simp append_assoc
+
+escape-why_name : (why : Why) → escape (why_name why) ≡ why_name why
+unfolding escape_byte
+escape-why_name NoProcess = refl
+escape-why_name UsedPid = refl
+escape-why_name NoDescriptor = refl
+escape-why_name UsedDescriptor = refl
+escape-why_name WrongKind = refl
+escape-why_name Absent = refl
+escape-why_name UsedFile = refl
+escape-why_name ClockBack = refl
+escape-why_name TooMany = refl
+
+pub impossible_line : (place : ℕ) (why : Why) → reply_line place (Impossible why)
+    ≡ (codes "{\"at\":" ++ decimal place) ++ (codes ",\"impossible\":\"" ++ (why_name why ++ codes "\"}\n"))
+unfolding reply_line row_data natural line_text escape_byte
+impossible_line place why = simp (append_assoc, escape-why_name)
+
+-- the last line, piece by piece
+pub last_line-is : (calls events records : ℕ) → last_line calls events records
+    ≡ codes "{\"calls\":" ++ (decimal calls ++ (codes ",\"events\":" ++ (decimal events
+    ++ (codes ",\"records\":" ++ (decimal records ++ codes "}\n")))))
+unfolding last_line natural line_text escape_byte
+last_line-is calls events records = simp append_assoc
+
+-- one event at a time
+pub event_taken : (later : Bool) (es : List Kevent) (i : ℕ) (d : Kevent) (old new : List ℕ) → i < length es
+    → Adds old (comma_if later ++ compact_text (kevent_data (get_or es i d))) new
+    → new ++ events_text true (drop (i + 1) es) ≡ old ++ events_text later (drop i es)
+unfolding events_text
+event_taken later es i d old new lt is = rw (is.is, add-one, drop-cons es i d) (simp append_assoc)
+
+-- the whole list, once every event was passed
+pub events_ended : (later : Bool) (es : List Kevent) (i : ℕ) (first out new : List ℕ) → length es ≤ i
+    → out ++ events_text later (drop i es) ≡ first ++ events_text false es → Adds out (93 ∷ []) new
+    → Adds first (events_text false es) new
+unfolding events_text
+events_ended later es i first out new past kept end =
+    let none : drop i es ≡ [] = drop_of_length-le es past in
+    let closed : events_text later (drop i es) ≡ 93 ∷ [] = rw none refl in
+    record { is = end.is ∙ ap (λ l. out ++ l) (sym closed) ∙ kept }
+
+-- ---- rows
+
+pub done_line : (place : ℕ) (old : List ℕ) → Adds old (reply_line place Done) old
+unfolding reply_line
+done_line place old = record { is = sym (append-nil old) }
+
+pub row_taken : (rs : List Row) (i : ℕ) (row : Row) (old new : List ℕ) → i < length rs → row ≡ get_or rs i row
+    → Adds old (reply_line row.at row.reply) new → new ++ row_lines (drop (i + 1) rs) ≡ old ++ row_lines (drop i rs)
+unfolding row_lines
+row_taken rs i row old new lt at is = rw (is.is, add-one, drop-cons rs i row, ← at) (simp append_assoc)
+
+pub calls_taken : (rs : List Row) (i : ℕ) (row : Row) → i < length rs → row ≡ get_or rs i row
+    → call_count (drop i rs) ≡ calls_in row.reply + call_count (drop (i + 1) rs)
+unfolding call_count
+calls_taken rs i row lt at = rw (add-one, drop-cons rs i row, ← at) refl
+
+pub events_taken : (rs : List Row) (i : ℕ) (row : Row) → i < length rs → row ≡ get_or rs i row
+    → event_count (drop i rs) ≡ events_in row.reply + event_count (drop (i + 1) rs)
+unfolding event_count
+events_taken rs i row lt at = rw (add-one, drop-cons rs i row, ← at) refl
+
+-- nothing is left once every row was passed
+pub row_lines-end : (rs : List Row) (i : ℕ) → length rs ≤ i → row_lines (drop i rs) ≡ []
+unfolding row_lines
+row_lines-end rs i past = let none : drop i rs ≡ [] = drop_of_length-le rs past in rw none refl
+
+pub call_count-end : (rs : List Row) (i : ℕ) → length rs ≤ i → call_count (drop i rs) ≡ 0
+unfolding call_count
+call_count-end rs i past = let none : drop i rs ≡ [] = drop_of_length-le rs past in rw none refl
+
+pub event_count-end : (rs : List Row) (i : ℕ) → length rs ≤ i → event_count (drop i rs) ≡ 0
+unfolding event_count
+event_count-end rs i past = let none : drop i rs ≡ [] = drop_of_length-le rs past in rw none refl
+
+pub report-is : (rs : List Row) (records calls events : ℕ) (lines new : List ℕ) → lines ≡ row_lines rs → calls ≡ call_count rs → events ≡ event_count rs
+    → Adds lines (last_line calls events records) new → new ≡ report rs records
+unfolding report
+report-is rs records calls events lines new l c e end = rw (end.is, l, c, e) refl

@@ -1,0 +1,10 @@
+use Rattle.std.proofs.lemmas.Result.{on_ok_weaker}
+use Rattle.kq_merge.proofs.Appends.{and_then, as_text}
+use Rattle.kq_merge.proofs.ReportLines.{returned_line}
+use Rattle.kq_merge.proofs.report.line.put_returned.Goals as goal
+
+pub returns : goal.returns
+returns c = on_ok_weaker c.put-2.result
+    (λ end. as_text (returned_line c.args.at c.args.events.now)
+    (and_then c.in_ok-put_place.ensures (and_then c.in_ok-put.ensures (and_then c.in_ok-put_events.ensures end))))
+    c.put-2.ensures

@@ -1,0 +1,9 @@
+//! The rows of many kqueues put in order by place, and the text of their report.
+#![tactic(auto)]
+
+mod merging;
+mod report;
+mod run;
+
+pub use merging::merge;
+pub use report::report_text;

@@ -1,0 +1,152 @@
+-- Closes, hints and the clock commute with a change of how what was heard is kept.
+use Rattle.std.proofs.Common.{◌≡◌, ℕ, zero, suc, ◌+◌, ◌-◌, Bool, true, false, cond, not, List, [], ◌∷◌, ◌++◌, map, filter, Option, Some, None, refl, sym, ap, ◌∙◌}
+use Rattle.std.proofs.lemmas.List.{map-append}
+use Rattle.std.specs.Option.{option_map}
+use Rattle.kq_model.specs.declared.key.Key.{Key}
+use Rattle.kq_model.specs.declared.object.Hint.{Hint}
+use Rattle.kq_model.specs.ChangedKnote.{activated}
+use Rattle.kq_model.specs.Clock.{Span, timers, expires_at, expired, waiting_of, kqueue_of_waiting, clock_from, clocked}
+use Rattle.kq_model.specs.Close.{Pair, is_closed, closed}
+use Rattle.kq_model.specs.Hearing.{Hearing, Expired, Told}
+use Rattle.kq_model.specs.Hints.{kept, hints_for, added, heard_by, hears_exit, unless_silent, noticed, if_there, knotes_noticing, queue_with, queue_noticing, queue_after_all, notified}
+use Rattle.kq_model.specs.Knote.{Knote}
+use Rattle.kq_model.specs.Kqueue.{Kqueue}
+use Rattle.kq_model.specs.Look.{look}
+use Rattle.kq_model.specs.Recast.{IsHearingMap, recast, recast_kqueue}
+use Rattle.kq_model.specs.Targets.{Posted}
+use Rattle.kq_model.specs.TimerWalk.{Waiting, rung_at, queue_at, moment_step, walked}
+use Rattle.kq_model.specs.Views.{Views}
+use Rattle.kq_model.proofs.RecastKnote.{cond-map, filter-recast, activated-recast, look-recast}
+use Rattle.kq_model.proofs.RecastRegistration.{queue_for-recast}
+
+module _ {S T : Type 0} {h : Hearing S} {g : Hearing T} {f : S → T} (is : IsHearingMap h g f) where
+  abbrev re : Knote h → Knote g
+  re k = recast g f k
+
+  abbrev re_kq : Kqueue h → Kqueue g
+  re_kq kq = recast_kqueue g f kq
+
+  abbrev kqueue : List (Knote g) → List Key → Kqueue g
+  kqueue knotes queue = record { knotes = knotes; queue = queue }
+
+  -- ---- closes
+
+  pub closed-recast : (owner : ℕ) (pairs : List Pair) (kq : Kqueue h) → closed owner pairs (re_kq kq) ≡ re_kq (closed owner pairs kq)
+  unfolding closed
+  closed-recast owner pairs kq =
+      ap (λ ks. kqueue ks (filter (λ key. not (is_closed owner pairs key)) kq.queue))
+      (filter-recast is (λ key. not (is_closed owner pairs key)) kq.knotes)
+
+  -- ---- hints
+
+  -- a knote that heard something else
+  abbrev hearing : Knote g → T → Knote g
+  hearing k s = record k { seen = s }
+
+  added-recast : (hint : Option Hint) (k : Knote h) → added hint (re k) ≡ re (added hint k)
+  unfolding added
+  added-recast None k = refl
+  added-recast (Some hint) k = ap (hearing (re k)) (sym (is.heard (Told hint) k.seen))
+
+  heard_by-recast : (hints : List Hint) (k : Knote h) → heard_by hints (re k) ≡ re (heard_by hints k)
+  unfolding heard_by
+  heard_by-recast [] k = refl
+  heard_by-recast (hint ∷ hints) k =
+      ap (heard_by hints) (added-recast (kept k.fflags hint) k) ∙ heard_by-recast hints (added (kept k.fflags hint) k)
+
+  unless_silent-recast : (exits : Bool) (k : Knote h) → unless_silent exits (re k) ≡ option_map re (unless_silent exits k)
+  unfolding unless_silent
+  unless_silent-recast false k = refl
+  unless_silent-recast true k =
+      ap (λ b. cond b None (Some (re (record k { oneshot = true })))) (is.is_empty k.seen)
+      ∙ sym (cond-map (option_map re) (h.is_empty k.seen) None (Some (record k { oneshot = true })))
+
+  noticed-recast : (views : Views) (hints : List Hint) (k : Knote h) → noticed views hints (re k) ≡ option_map re (noticed views hints k)
+  unfolding noticed
+  noticed-recast views [] k = refl
+  noticed-recast views (hint ∷ hints) k =
+      let all = hint ∷ hints in
+      let heard = heard_by all k in
+      ap (λ n. unless_silent (hears_exit all k) (activated (look views n) n)) (heard_by-recast all k)
+      ∙ ap (λ seen. unless_silent (hears_exit all k) (activated seen (re heard))) (look-recast is views heard)
+      ∙ ap (unless_silent (hears_exit all k)) (activated-recast is (look views heard) heard)
+      ∙ unless_silent-recast (hears_exit all k) (activated (look views heard) heard)
+
+  if_there-recast : (found : Option (Knote h)) → if_there (option_map re found) ≡ map re (if_there found)
+  unfolding if_there
+  if_there-recast None = refl
+  if_there-recast (Some k) = refl
+
+  knotes_noticing-recast : (views : Views) (posted : List Posted) (ks : List (Knote h)) → knotes_noticing views posted (map re ks) ≡ map re (knotes_noticing views posted ks)
+  unfolding knotes_noticing
+  knotes_noticing-recast views posted [] = refl
+  knotes_noticing-recast views posted (k ∷ ks) =
+      let found = noticed views (hints_for k posted) k in
+      ap (λ n. if_there n ++ knotes_noticing views posted (map re ks)) (noticed-recast views (hints_for k posted) k)
+      ∙ ap (λ n. n ++ knotes_noticing views posted (map re ks)) (if_there-recast found)
+      ∙ ap (λ rest. map re (if_there found) ++ rest) (knotes_noticing-recast views posted ks)
+      ∙ sym (map-append re (if_there found) (knotes_noticing views posted ks))
+
+  queue_with-recast : (key : Key) (found : Option (Knote h)) (queue : List Key) → queue_with key (option_map re found) queue ≡ queue_with key found queue
+  unfolding queue_with
+  queue_with-recast key None queue = refl
+  queue_with-recast key (Some k) queue = queue_for-recast is k queue
+
+  queue_noticing-recast : (views : Views) (hints : List Hint) (k : Knote h) (queue : List Key) → queue_noticing views hints (re k) queue ≡ queue_noticing views hints k queue
+  unfolding queue_noticing
+  queue_noticing-recast views [] k queue = refl
+  queue_noticing-recast views (hint ∷ hints) k queue =
+      ap (λ n. queue_with k.key n queue) (noticed-recast views (hint ∷ hints) k)
+      ∙ queue_with-recast k.key (noticed views (hint ∷ hints) k) queue
+
+  queue_after_all-recast : (views : Views) (posted : List Posted) (ks : List (Knote h)) (queue : List Key) → queue_after_all views posted (map re ks) queue ≡ queue_after_all views posted ks queue
+  unfolding queue_after_all
+  queue_after_all-recast views posted [] queue = refl
+  queue_after_all-recast views posted (k ∷ ks) queue =
+      ap (queue_after_all views posted (map re ks)) (queue_noticing-recast views (hints_for k posted) k queue)
+      ∙ queue_after_all-recast views posted ks (queue_noticing views (hints_for k posted) k queue)
+
+  pub notified-recast : (views : Views) (posted : List Posted) (kq : Kqueue h) → notified views posted (re_kq kq) ≡ re_kq (notified views posted kq)
+  unfolding notified
+  notified-recast views posted kq =
+      ap (λ ks. kqueue ks (queue_after_all views posted (map re kq.knotes) kq.queue)) (knotes_noticing-recast views posted kq.knotes)
+      ∙ ap (kqueue (map re (knotes_noticing views posted kq.knotes))) (queue_after_all-recast views posted kq.knotes kq.queue)
+
+  -- ---- the clock
+
+  expired-recast : (k : Knote h) → expired (re k) ≡ re (expired k)
+  expired-recast k = ap (hearing (record (re k) { active = true })) (sym (is.heard Expired k.seen))
+
+  rung_at-recast : (moment : ℕ) (ks : List (Knote h)) → map (rung_at timers moment) (map re ks) ≡ map re (map (rung_at timers moment) ks)
+  rung_at-recast moment [] = refl
+  rung_at-recast moment (k ∷ ks) =
+      ap (λ n. cond (expires_at k moment) n (re k) ∷ map (rung_at timers moment) (map re ks)) (expired-recast k)
+      ∙ ap (λ n. n ∷ map (rung_at timers moment) (map re ks)) (sym (cond-map re (expires_at k moment) (expired k) k))
+      ∙ ap (λ rest. re (rung_at timers moment k) ∷ rest) (rung_at-recast moment ks)
+
+  queue_at-recast : (moment : ℕ) (ks : List (Knote h)) (queue : List Key) → queue_at timers moment (map re ks) queue ≡ queue_at timers moment ks queue
+  unfolding queue_at
+  queue_at-recast moment [] queue = refl
+  queue_at-recast moment (k ∷ ks) queue = queue_at-recast moment ks _
+
+  abbrev re_waiting : Waiting (Knote h) Key → Waiting (Knote g) Key
+  re_waiting w = record { items = map re w.items; queue = w.queue }
+
+  abbrev waiting : List (Knote g) → List Key → Waiting (Knote g) Key
+  waiting items queue = record { items = items; queue = queue }
+
+  moment_step-recast : (moment : ℕ) (w : Waiting (Knote h) Key) → moment_step timers moment (re_waiting w) ≡ re_waiting (moment_step timers moment w)
+  moment_step-recast moment w =
+      ap (λ items. waiting items (queue_at timers moment (map re w.items) w.queue)) (rung_at-recast moment w.items)
+      ∙ ap (waiting (map re (map (rung_at timers moment) w.items))) (queue_at-recast moment w.items w.queue)
+
+  walked-recast : (from n : ℕ) (w : Waiting (Knote h) Key) → walked timers from n (re_waiting w) ≡ re_waiting (walked timers from n w)
+  unfolding walked
+  walked-recast from zero w = refl
+  walked-recast from (suc n) w =
+      ap (moment_step timers (from + suc n)) (walked-recast from n w) ∙ moment_step-recast (from + suc n) (walked timers from n w)
+
+  pub clocked-recast : (span : Option Span) (kq : Kqueue h) → clocked span (re_kq kq) ≡ re_kq (clocked span kq)
+  unfolding clocked clock_from
+  clocked-recast None kq = refl
+  clocked-recast (Some span) kq = ap kqueue_of_waiting (walked-recast span.from (span.to - span.from) (waiting_of kq))

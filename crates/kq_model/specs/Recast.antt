@@ -1,0 +1,64 @@
+-- What was heard may be kept in more than one way. A map from one way to another that keeps all that the
+-- definitions ask of it takes knotes and kqueues of the one way to those of the other, and systems too.
+use Rattle.std.specs.Prelude.{◌≡◌, List, map, length, min}
+use Rattle.kq_model.specs.declared.reply.Reply.{Reply}
+use Rattle.kq_model.specs.Call.{Called}
+use Rattle.kq_model.specs.Hearing.{Hearing, Occurrence, Tally, listed, tallying, union, most_counted}
+use Rattle.kq_model.specs.Knote.{Knote}
+use Rattle.kq_model.specs.Kqueue.{Kqueue}
+use Rattle.kq_model.specs.Objects as objects
+use Rattle.kq_model.specs.Objects.{Keeping, counted}
+use Rattle.kq_model.specs.System.{Live, System}
+use Rattle.kq_model.specs.World.{seen_world}
+
+pub record IsHearingMap {S T : Type 0} (h : Hearing S) (g : Hearing T) (f : S → T) : Type 0 where
+  pub empty : f h.empty ≡ g.empty
+  pub heard : (x : Occurrence) (s : S) → f (h.heard x s) ≡ g.heard x (f s)
+  pub count : (s : S) → g.count (f s) ≡ h.count s
+  pub notes : (s : S) → g.notes (f s) ≡ h.notes s
+  pub is_empty : (s : S) → g.is_empty (f s) ≡ h.is_empty s
+
+module _ {S T : Type 0} {h : Hearing S} (g : Hearing T) (f : S → T) where
+  abbrev pub recast : Knote h → Knote g
+  recast k = record {
+    key = k.key;
+    target = k.target;
+    fflags = k.fflags;
+    datum = k.datum;
+    udata = k.udata;
+    oneshot = k.oneshot;
+    clear = k.clear;
+    dispatch = k.dispatch;
+    enabled = k.enabled;
+    active = k.active;
+    seen = f k.seen;
+    start = k.start;
+    period = k.period;
+    bits = k.bits;
+    triggered = k.triggered;
+  }
+
+  abbrev pub recast_kqueue : Kqueue h → Kqueue g
+  recast_kqueue kq = record { knotes = map recast kq.knotes; queue = kq.queue }
+
+  abbrev pub recast_live : Live h → Live g
+  recast_live l = record { place = l.place; owner = l.owner; number = l.number; kq = recast_kqueue l.kq }
+
+  -- of the objects the quantities are kept
+  abbrev pub recast_system : {A B C D : Type 0} {k : Keeping A B C D} → System h k → System g counted
+  recast_system s = record { version = s.version; world = seen_world s.world; live = map recast_live s.live }
+
+-- ---- from lists to tallies
+
+abbrev pub tally_of : List Occurrence → Tally
+tally_of xs = record { count = min (length xs) most_counted; notes = union xs }
+
+abbrev pub tallied : Kqueue listed → Kqueue tallying
+tallied kq = recast_kqueue tallying tally_of kq
+
+abbrev pub tallied_system : System listed objects.listed → System tallying counted
+tallied_system s = recast_system tallying tally_of s
+
+-- the outcome of a call, in tallies, is this one
+abbrev pub IsTallied : Kqueue tallying → Reply → Called listed → Type 0
+IsTallied kq reply r = (kq ≡ tallied r.kq) × (reply ≡ r.reply)

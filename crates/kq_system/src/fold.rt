@@ -1,0 +1,32 @@
+ghost use Rattle.std.specs.Prelude.{◌≡◌, ◌++◌, IfOk, OnOk};
+ghost use Rattle.kq_model.specs.System.{row_of, rows};
+
+use crate::System;
+use kq_model::{Memory, Reply, Row, Trace};
+use std::alloc::Global;
+
+impl System {
+    /// The rows of a trace: a row for each answer of a kevent call and each impossible record, as
+    /// one fold of the whole system over the trace gives them.
+    pub fn run(alloc: Global, trace: &Trace) -> Result<Vec<Row>, Memory>
+        ensures { IfOk result (λ rs. rs.items ≡ rows trace.now.version trace.now.events) }
+    {
+        let mut system = System::new(alloc, trace.version);
+        let mut rows = Vec::new(alloc);
+        for event in trace.events.as_slice() {
+            let reply = system.apply(event)?;
+            put_row(&mut rows, system.applied(), reply)?;
+        }
+        Ok(rows)
+    }
+}
+
+/// Adds the row of the reply to the record at a place, if it has one.
+fn put_row(rows: &mut Vec<Row>, at: u64, reply: Reply) -> Result<(), Memory>
+    ensures { OnOk result (rows.new.items ≡ rows.old.items ++ row_of at reply) }
+{
+    match reply {
+        Reply::Done => Ok(()),
+        reply => rows.push(Row { at, reply }).map_err(|_| Memory),
+    }
+}

@@ -1,0 +1,10 @@
+pub mod RowLaws
+pub mod KeepLaws
+pub mod SlotLaws
+pub mod IndexLaws
+pub mod FoundLaws
+pub mod LinkLaws
+pub mod ChainLaws
+pub mod WovenLaws
+pub mod WatchLaws
+pub mod EndLaws

@@ -1,0 +1,26 @@
+use Rattle.std.proofs.Common.{Some, List, cond, refl, sym, ap, ◌∙◌}
+use Rattle.kq_table.specs.declared.watch.Ends.{Ends}
+use Rattle.kq_table.specs.Rows.{find_row}
+use Rattle.kq_table.specs.Links.{joined}
+use Rattle.kq_table.proofs.FoundLaws.{find_row-attach}
+use Rattle.kq_table.proofs.EndLaws.{ends-modify}
+use Rattle.kq_table.proofs.target_index.put_last.Goals as goal
+
+pub returns-in-None-clause-ends : goal.returns-in-None-clause-ends
+returns-in-None-clause-ends g c = λ other.
+    let alike = g.G.PartialEq.eq in
+    let rows = c.args.ends.now.rows in
+    let at_target = find_row alike (λ (e : Ends g.row.K.Denot g.row.G.Denot). e.target) c.args.target rows in
+    let new : Ends g.row.K.Denot g.row.G.Denot = record { target = c.args.target; first = c.args.key; last = c.args.key } in
+    ap (λ (es : List (Ends g.row.K.Denot g.row.G.Denot)). find_row alike (λ (e : Ends g.row.K.Denot g.row.G.Denot). e.target) other es) c.attach.ensures.rows
+    ∙ find_row-attach alike (λ (e : Ends g.row.K.Denot g.row.G.Denot). e.target) g.met.G.Eq.laws new rows (sym c.in-None.ensures) other
+    ∙ ap (λ o. cond (alike c.args.target other) (Some (joined c.args.target c.args.key o)) (find_row alike (λ (e : Ends g.row.K.Denot g.row.G.Denot). e.target) other rows)) c.in-None.ensures
+
+pub returns-in-Some-clause-ends : goal.returns-in-Some-clause-ends
+returns-in-Some-clause-ends g c = λ other.
+    let alike = g.G.PartialEq.eq in
+    let rows = c.args.ends.now.rows in
+    let at_target = find_row alike (λ (e : Ends g.row.K.Denot g.row.G.Denot). e.target) c.args.target rows in
+    ap (λ (es : List (Ends g.row.K.Denot g.row.G.Denot)). find_row alike (λ (e : Ends g.row.K.Denot g.row.G.Denot). e.target) other es) c.modify.ensures.rows
+    ∙ ends-modify alike g.met.G.Eq.laws c.args.target rows (record c.in-Some.found { last = c.args.key }) c.in-Some.found (sym c.in-Some.ensures) refl other
+    ∙ ap (λ o. cond (alike c.args.target other) (Some (joined c.args.target c.args.key o)) (find_row alike (λ (e : Ends g.row.K.Denot g.row.G.Denot). e.target) other rows)) c.in-Some.ensures

@@ -1,0 +1,13 @@
+//! A table of rows in order, with an index by key; and an index of keys by what they watch.
+#![tactic(auto)]
+
+mod keyed;
+mod place;
+mod table;
+mod target_index;
+mod watch;
+
+pub use keyed::Keyed;
+pub use table::Table;
+pub use target_index::TargetIndex;
+pub use watch::Watch;

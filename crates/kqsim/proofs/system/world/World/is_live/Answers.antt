@@ -1,7 +1,0 @@
-use Rattle.std.proofs.Common.{◌∙◌, sym, ap}
-use Rattle.kq_model.specs.World.{World}
-use Rattle.kqsim.proofs.WorldLemmas.{is_live-kept}
-use Rattle.kqsim.proofs.system.world.World.is_live.Goals as goal
-
-pub returns : goal.returns
-returns c = c.contains.ensures ∙ is_live-kept c.args.pid c.self.inside.processes.keys c.args.self.now (ap (λ (w : World). w.processes) (sym c.self.view_is))
