@@ -17,7 +17,7 @@ use Rattle.kq_model.specs.Errno.{error_number}
 use Rattle.kq_model.specs.Spelling.{flags_data, integer, line_text, natural}
 use Rattle.kq_model.specs.Report.{call_count, calls_in, event_count, events_data, events_in, kevent_data, last_line, reply_line, report, row_data, row_lines}
 use Rattle.kq_model.specs.declared.row.Row.{Row}
-use Rattle.kq_merge.specs.Adds.{Adds}
+use Rattle.kq_text.specs.Adds.{Adds}
 use Rattle.kq_merge.specs.EventsText.{events_text}
 
 pub number_text-of_integer : (z : ℤ) → number_text (of_integer z) ≡ signed_decimal z
@@ -50,10 +50,12 @@ unfolding kevent_data natural integer escape_byte
 kevent_text e = simp (number_text-of_integer, escape-filter_name, append_assoc)
 
 -- a list of events, event by event
-events_text-is : (later : Bool) (es : List Kevent) → items_text later (items_of (map kevent_data es)) ≡ events_text later es
+events_text-is : (later : Bool) (es : List Kevent) → items_text later
+    (items_of (map kevent_data es)) ≡ events_text later es
 unfolding events_text
 events_text-is later [] = refl
-events_text-is later (e ∷ es) = ap (λ rest. comma_if later ++ (compact_text (kevent_data e) ++ rest)) (events_text-is true es)
+events_text-is later (e ∷ es) = ap (λ rest. comma_if later ++ (compact_text (kevent_data e) ++ rest))
+    (events_text-is true es)
 
 -- the line of each answer, piece by piece
 regrouped : (a b c d e f : List ℕ) → (a ++ (b ++ (c ++ (d ++ e)))) ++ f ≡ (a ++ b) ++ (c ++ (d ++ (e ++ f)))
@@ -62,7 +64,8 @@ regrouped a b c d e f = simp append_assoc
 returned_text : (place : ℕ) (es : List Kevent) → compact_text (row_data place (codes "events") (events_data es))
     ≡ codes "{\"at\":" ++ (decimal place ++ (codes ",\"events\":[" ++ (events_text false es ++ codes "}")))
 unfolding row_data events_data natural escape_byte
-returned_text place es = ap (λ items. codes "{\"at\":" ++ (decimal place ++ (codes ",\"events\":[" ++ (items ++ codes "}")))) (events_text-is false es)
+returned_text place es = ap (λ items. codes "{\"at\":" ++ (decimal place ++
+    (codes ",\"events\":[" ++ (items ++ codes "}")))) (events_text-is false es)
 
 pub returned_line : (place : ℕ) (es : List Kevent) → reply_line place (Events es)
     ≡ (codes "{\"at\":" ++ decimal place) ++ (codes ",\"events\":[" ++ (events_text false es ++ codes "}\n"))
@@ -151,7 +154,8 @@ pub event_count-end : (rs : List Row) (i : ℕ) → length rs ≤ i → event_co
 unfolding event_count
 event_count-end rs i past = let none : drop i rs ≡ [] = drop_of_length-le rs past in rw none refl
 
-pub report-is : (rs : List Row) (records calls events : ℕ) (lines new : List ℕ) → lines ≡ row_lines rs → calls ≡ call_count rs → events ≡ event_count rs
+pub report-is : (rs : List Row) (records calls events : ℕ) (lines new : List ℕ) → lines ≡ row_lines rs
+    → calls ≡ call_count rs → events ≡ event_count rs
     → Adds lines (last_line calls events records) new → new ≡ report rs records
 unfolding report
 report-is rs records calls events lines new l c e end = rw (end.is, l, c, e) refl

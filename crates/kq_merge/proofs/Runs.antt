@@ -20,7 +20,8 @@ abbrev pub Lead : List Row → List Row → Type 0
 Lead [] left = Unit {0}
 Lead (row ∷ rest) left = All (λ later. row.at ≤ later.at) (rest ++ left) × Lead rest left
 
-pub lead_more : (rows left others : List Row) (row : Row) → IsPermutation left (row ∷ others) → All (λ later. row.at ≤ later.at) others
+pub lead_more : (rows left others : List Row) (row : Row) → IsPermutation left (row ∷ others)
+    → All (λ later. row.at ≤ later.at) others
     → Lead rows left → Lead (rows ++ row ∷ []) others
 lead_more [] left others row moved earliest lead = (earliest, tt)
 lead_more (r ∷ rs) left others row moved earliest lead = (
@@ -31,8 +32,10 @@ lead_more (r ∷ rs) left others row moved earliest lead = (
 
 pub lead_all : (rows left : List Row) → left ≡ [] → Lead rows left → NeverFall rows
 lead_all [] left none lead = tt
-lead_all (row ∷ rest) left none lead =
-    (subst (All (λ later. row.at ≤ later.at)) (ap (λ l. rest ++ l) none ∙ append-nil rest) lead.0, lead_all rest left none lead.1)
+lead_all (row ∷ rest) left none lead = (
+  subst (All (λ later. row.at ≤ later.at)) (ap (λ l. rest ++ l) none ∙ append-nil rest) lead.0,
+  lead_all rest left none lead.1,
+)
 
 -- ---- the next row of two lists
 
@@ -42,36 +45,44 @@ pub record IsEarliest (first second first' second' : List Row) (row : Row) : Typ
   pub earliest : All (λ later. row.at ≤ later.at) (first' ++ second')
 
 -- a list whose first row is not before the place stands past it
-from_first : (place : ℕ) (row : Row) (rest : List Row) → place ≤ row.at → NeverFall (row ∷ rest) → All (λ later. place ≤ later.at) (row ∷ rest)
+from_first : (place : ℕ) (row : Row) (rest : List Row) → place ≤ row.at → NeverFall (row ∷ rest)
+    → All (λ later. place ≤ later.at) (row ∷ rest)
 from_first place row rest low falls =
-    All-cons (λ later. place ≤ later.at) row rest low (All-weaker (λ later. row.at ≤ later.at) (λ later. place ≤ later.at) (λ later high. omega arith) rest falls.0)
+    All-cons (λ later. place ≤ later.at) row rest low (All-weaker (λ later. row.at ≤ later.at)
+    (λ later. place ≤ later.at) (λ later high. omega arith) rest falls.0)
 
-all_from : (row : Row) (rows others : List Row) → goes_first (row ∷ rows) others ≡ true → NeverFall others → All (λ later. row.at ≤ later.at) others
+all_from : (row : Row) (rows others : List Row) → goes_first (row ∷ rows) others ≡ true → NeverFall others
+    → All (λ later. row.at ≤ later.at) others
 all_from row rows [] first falls = λ k d lt. absurd (omega arith)
 all_from row rows (other ∷ others) first falls = from_first row.at other others (grind (arith, nat_tests)) falls
 
-all_after : (row : Row) (rows others : List Row) → goes_first others (row ∷ rows) ≡ false → NeverFall others → All (λ later. row.at ≤ later.at) others
+all_after : (row : Row) (rows others : List Row) → goes_first others (row ∷ rows) ≡ false → NeverFall others
+    → All (λ later. row.at ≤ later.at) others
 all_after row rows [] first falls = λ k d lt. absurd (omega arith)
 all_after row rows (other ∷ others) first falls = from_first row.at other others (grind (arith, nat_tests)) falls
 
-pub first_gives : (first second rest : List Row) (o : Option Row) → NeverFall first → NeverFall second → goes_first first second ≡ true
+pub first_gives : (first second rest : List Row) (o : Option Row) → NeverFall first → NeverFall second
+    → goes_first first second ≡ true
     → first ≡ option_to_list o ++ rest → IfSome o (IsEarliest first second rest second)
 first_gives first second rest None falls others goes is = tt
 first_gives first second rest (Some row) falls others goes is =
     let mine : NeverFall (row ∷ rest) = subst NeverFall is falls in
     record {
-      taken = subst (λ l. IsPermutation (l ++ second) (row ∷ (rest ++ second))) (sym is) (IsPermutation-refl (row ∷ (rest ++ second)));
+      taken = subst (λ l. IsPermutation (l ++ second) (row ∷ (rest ++ second))) (sym is)
+          (IsPermutation-refl (row ∷ (rest ++ second)));
       earliest = All-append (λ later. row.at ≤ later.at) rest second mine.0
           (all_from row rest second (ap (λ l. goes_first l second) (sym is) ∙ goes) others);
     }
 
-pub second_gives : (first second rest : List Row) (o : Option Row) → NeverFall first → NeverFall second → goes_first first second ≡ false
+pub second_gives : (first second rest : List Row) (o : Option Row) → NeverFall first → NeverFall second
+    → goes_first first second ≡ false
     → second ≡ option_to_list o ++ rest → IfSome o (IsEarliest first second first rest)
 second_gives first second rest None falls others goes is = tt
 second_gives first second rest (Some row) falls others goes is =
     let mine : NeverFall (row ∷ rest) = subst NeverFall is others in
     record {
-      taken = subst (λ l. IsPermutation (first ++ l) (row ∷ (first ++ rest))) (sym is) (IsPermutation-middle first row rest);
+      taken = subst (λ l. IsPermutation (first ++ l) (row ∷ (first ++ rest))) (sym is)
+          (IsPermutation-middle first row rest);
       earliest = All-append (λ later. row.at ≤ later.at) first rest
           (all_after row rest first (ap (λ l. goes_first first l) (sym is) ∙ goes) falls) mine.0;
     }
@@ -82,7 +93,8 @@ pub joined_behind : (first second run : List Row) (rest : List (List Row)) → I
     → IsPermutation (flat_map (λ r. r) (first ∷ second ∷ rest)) (flat_map (λ r. r) (rest ++ run ∷ []))
 joined_behind first second run rest same =
     let left = flat_map (λ (r : List Row). r) rest in
-    let flat : flat_map (λ (r : List Row). r) (rest ++ run ∷ []) ≡ left ++ run = flat_map-append (λ (r : List Row). r) rest (run ∷ []) ∙ ap (λ l. left ++ l) (append-nil run) in
+    let flat : flat_map (λ (r : List Row). r) (rest ++ run ∷ []) ≡ left ++ run = flat_map-append
+    (λ (r : List Row). r) rest (run ∷ []) ∙ ap (λ l. left ++ l) (append-nil run) in
     subst (IsPermutation (first ++ (second ++ left))) (sym flat) (
     subst (λ l. IsPermutation l (left ++ run)) (append_assoc first second left) (
     IsPermutation-trans ((first ++ second) ++ left) (run ++ left) (left ++ run)
@@ -91,14 +103,17 @@ joined_behind first second run rest same =
     )
 
 -- the runs of kqueues, and behind them one of plain rows
-pub queued : (kqueues : List Rows) (plain : List Row) (runs before : List (List Row)) → before ≡ map (λ k. k.rows) kqueues → runs ≡ before ++ plain ∷ []
+pub queued : (kqueues : List Rows) (plain : List Row) (runs before : List (List Row))
+    → before ≡ map (λ k. k.rows) kqueues → runs ≡ before ++ plain ∷ []
     → flat_map (λ run. run) runs ≡ rows_in kqueues plain
 queued [] plain runs before is last = rw (last, is) (append-nil plain)
 queued (k ∷ ks) plain runs before is last =
-    rw (last, is) (ap (λ l. k.rows ++ l) (queued ks plain (map (λ (r : Rows). r.rows) ks ++ plain ∷ []) (map (λ (r : Rows). r.rows) ks) refl refl)
+    rw (last, is) (ap (λ l. k.rows ++ l) (queued ks plain (map (λ (r : Rows). r.rows) ks ++ plain ∷ [])
+    (map (λ (r : Rows). r.rows) ks) refl refl)
     ∙ sym (append_assoc k.rows (flat_map (λ (r : Rows). r.rows) ks) plain))
 
 -- what follows from two clauses on one result
-pub if_both : {T E : Type 0} (r : Result T E) (P Q R : T → Type 0) → ((x : T) → P x → Q x → R x) → IfOk r P → IfOk r Q → IfOk r R
+pub if_both : {T E : Type 0} (r : Result T E) (P Q R : T → Type 0) → ((x : T) → P x → Q x → R x) → IfOk r P → IfOk r Q
+    → IfOk r R
 if_both (Ok x) P Q R follows p q = follows x p q
 if_both (Err e) P Q R follows p q = tt

@@ -1,5 +1,3 @@
 pub mod ByPlace
 pub mod Joined
-pub mod Adds
-pub mod FlagText
 pub mod EventsText

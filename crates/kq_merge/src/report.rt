@@ -4,7 +4,6 @@ ghost use Rattle.kq_model.specs.Report.{calls_in, events_in, report};
 
 mod event;
 mod line;
-mod text;
 
 use kq_model::{Memory, Reply, Row};
 use line::{put_counts, put_reply};

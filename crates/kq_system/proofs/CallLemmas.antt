@@ -25,7 +25,8 @@ is_equal : (a b : ℕ) → nat_eq a b ≡ true → a ≡ b
 is_equal a b h = grind (arith, nat_tests)
 
 -- no key behind an entry is its own
-behind : (x k : ℕ) (es : List (ℕ × NumberedKqueue)) → k ≡ x → AllByRecursion (λ y. nat_eq x y ≡ false) (keys_of es) → lookup (nat_eq k) es ≡ None
+behind : (x k : ℕ) (es : List (ℕ × NumberedKqueue)) → k ≡ x → AllByRecursion (λ y. nat_eq x y ≡ false) (keys_of es)
+    → lookup (nat_eq k) es ≡ None
 behind x k [] is others = refl
 behind x k (e ∷ es) is others =
     let other : nat_eq k e.0 ≡ false = ap (λ n. nat_eq n e.0) is ∙ others.0 in
@@ -35,17 +36,20 @@ swapped : (a b : ℕ) → nat_eq a b ≡ nat_eq b a
 swapped a b = grind (arith, nat_tests)
 
 -- a kqueue that is live is found
-there_step : (b c : Bool) (v : NumberedKqueue) (rest : Option NumberedKqueue) (later : Bool) → b ≡ c → (later ≡ true → rest ≡ None → ⊥) → (b || later) ≡ true
+there_step : (b c : Bool) (v : NumberedKqueue) (rest : Option NumberedKqueue) (later : Bool) → b ≡ c
+    → (later ≡ true → rest ≡ None → ⊥) → (b || later) ≡ true
     → cond c (Some v) rest ≡ None → ⊥
 there_step true true v rest later same gone is none = cc
 there_step true false v rest later same gone is none = cc
 there_step false true v rest later same gone is none = cc
 there_step false false v rest later same gone is none = gone is none
 
-pub live_found : (place : ℕ) (es : List (ℕ × NumberedKqueue)) → IsLive place (map live_of es) → lookup (nat_eq place) es ≡ None → ⊥
+pub live_found : (place : ℕ) (es : List (ℕ × NumberedKqueue)) → IsLive place (map live_of es)
+    → lookup (nat_eq place) es ≡ None → ⊥
 live_found place [] is none = cc
 live_found place (e ∷ es) is none =
-    there_step (nat_eq e.0 place) (nat_eq place e.0) e.1 (lookup (nat_eq place) es) (list_any (λ (l : Live). l.place == place) (map live_of es))
+    there_step (nat_eq e.0 place) (nat_eq place e.0) e.1 (lookup (nat_eq place) es)
+    (list_any (λ (l : Live). l.place == place) (map live_of es))
     (swapped e.0 place) (live_found place es) is none
 
 -- the kqueue of a number is live
@@ -53,45 +57,56 @@ or_cases : (a b rest others : Bool) → ((a && b) || rest) ≡ true → (rest �
 or_cases true b rest others is more = refl
 or_cases false b rest others is more = more is
 
-pub live_by_place : (place pid number : ℕ) (live : List Live) → has_live place pid number live ≡ true → IsLive place live
+pub live_by_place : (place pid number : ℕ) (live : List Live) → has_live place pid number live ≡ true
+    → IsLive place live
 live_by_place place pid number [] is = is
 live_by_place place pid number (l ∷ ls) is =
-    or_cases (l.place == place) ((l.owner == pid) && (l.number == number)) (has_live place pid number ls) (list_any (λ (k : Live). k.place == place) ls)
+    or_cases (l.place == place) ((l.owner == pid) && (l.number == number)) (has_live place pid number ls)
+    (list_any (λ (k : Live). k.place == place) ls)
     is (live_by_place place pid number ls)
 
 -- ---- the kqueue that is called is written in its place
 
 pub same_live : (place : ℕ) (o o' n n' : ℕ) (k k' : Kqueue) → o ≡ o' → n ≡ n' → k ≡ k'
-    → ◌≡◌ {A = Live} (record { place = place; owner = o; number = n; kq = k }) (record { place = place; owner = o'; number = n'; kq = k' })
+    → ◌≡◌ {A = Live} (record { place = place; owner = o; number = n; kq = k })
+    (record { place = place; owner = o'; number = n'; kq = k' })
 same_live place o o' n n' k k' a b c = rw (a, b, c) refl
 
 -- the kqueue after the call at this moment
 abbrev after_at : Moment → Call → NumberedKqueue → Kqueue
 after_at m c v = (called_at v.kq.owner m c v.kq.kq).kq
 
-none_called : (m : Moment) (c : Call) → IsQuiet m → m.call ≡ Some c → (es : List (ℕ × NumberedKqueue)) → lookup (nat_eq c.kqueue) es ≡ None
+none_called : (m : Moment) (c : Call) → IsQuiet m → m.call ≡ Some c → (es : List (ℕ × NumberedKqueue))
+    → lookup (nat_eq c.kqueue) es ≡ None
     → map live_of es ≡ map (stepped m) (map live_of es)
 none_called m c quiet call [] none = refl
 none_called m c quiet call (e ∷ es) none =
     let others = missed (nat_eq c.kqueue e.0) e.1 (lookup (nat_eq c.kqueue) es) none in
-    ap₂ (λ (l : Live) (ls : List Live). l ∷ ls) (sym (called_other m c (live_of e) quiet call others.0)) (none_called m c quiet call es others.1)
+    ap₂ (λ (l : Live) (ls : List Live). l ∷ ls) (sym (called_other m c (live_of e) quiet call others.0))
+    (none_called m c quiet call es others.1)
 
-called_step : (m : Moment) (c : Call) → IsQuiet m → m.call ≡ Some c → (e : ℕ × NumberedKqueue) (es : List (ℕ × NumberedKqueue)) (v w : NumberedKqueue) (b : Bool)
-    → nat_eq c.kqueue e.0 ≡ b → AllByRecursion (λ y. nat_eq e.0 y ≡ false) (keys_of es) → cond b (Some e.1) (lookup (nat_eq c.kqueue) es) ≡ Some v
+called_step : (m : Moment) (c : Call) → IsQuiet m → m.call ≡ Some c
+    → (e : ℕ × NumberedKqueue) (es : List (ℕ × NumberedKqueue)) (v w : NumberedKqueue) (b : Bool)
+    → nat_eq c.kqueue e.0 ≡ b → AllByRecursion (λ y. nat_eq e.0 y ≡ false) (keys_of es)
+    → cond b (Some e.1) (lookup (nat_eq c.kqueue) es) ≡ Some v
     → w.number ≡ v.number → w.kq.owner ≡ v.kq.owner → w.kq.kq ≡ after_at m c v
-    → (lookup (nat_eq c.kqueue) es ≡ Some v → map live_of (set_value (nat_eq c.kqueue) es w) ≡ map (stepped m) (map live_of es))
-    → map live_of (cond b ((e.0, w) ∷ es) (e ∷ set_value (nat_eq c.kqueue) es w)) ≡ map (stepped m) (map live_of (e ∷ es))
+    → (lookup (nat_eq c.kqueue) es ≡ Some v → map live_of (set_value (nat_eq c.kqueue) es w) ≡ map (stepped m)
+    (map live_of es))
+    → map live_of (cond b ((e.0, w) ∷ es) (e ∷ set_value (nat_eq c.kqueue) es w)) ≡ map (stepped m)
+    (map live_of (e ∷ es))
 called_step m c quiet call e es v w true hit others found number owner kq rest =
     let same : e.1 ≡ v = cc in
     ap₂ (λ (l : Live) (ls : List Live). l ∷ ls)
     (same_live e.0 w.kq.owner e.1.kq.owner w.number e.1.number w.kq.kq (after_at m c e.1)
-    (owner ∙ ap (λ (u : NumberedKqueue). u.kq.owner) (sym same)) (number ∙ ap (λ (u : NumberedKqueue). u.number) (sym same))
+    (owner ∙ ap (λ (u : NumberedKqueue). u.kq.owner) (sym same))
+    (number ∙ ap (λ (u : NumberedKqueue). u.number) (sym same))
     (kq ∙ ap (after_at m c) (sym same)) ∙ sym (called_one m c (live_of e) call hit))
     (none_called m c quiet call es (behind e.0 c.kqueue es (is_equal c.kqueue e.0 hit) others))
 called_step m c quiet call e es v w false hit others found number owner kq rest =
     ap₂ (λ (l : Live) (ls : List Live). l ∷ ls) (sym (called_other m c (live_of e) quiet call hit)) (rest found)
 
-some_called : (m : Moment) (c : Call) → IsQuiet m → m.call ≡ Some c → (es : List (ℕ × NumberedKqueue)) (v w : NumberedKqueue) → IsDistinct nat_eq (keys_of es)
+some_called : (m : Moment) (c : Call) → IsQuiet m → m.call ≡ Some c
+    → (es : List (ℕ × NumberedKqueue)) (v w : NumberedKqueue) → IsDistinct nat_eq (keys_of es)
     → lookup (nat_eq c.kqueue) es ≡ Some v → w.number ≡ v.number → w.kq.owner ≡ v.kq.owner → w.kq.kq ≡ after_at m c v
     → map live_of (set_value (nat_eq c.kqueue) es w) ≡ map (stepped m) (map live_of es)
 unfolding IsDistinct
@@ -100,7 +115,8 @@ some_called m c quiet call (e ∷ es) v w distinct found number owner kq =
     called_step m c quiet call e es v w (nat_eq c.kqueue e.0) refl distinct.0 found number owner kq
     (λ there. some_called m c quiet call es v w distinct.1 there number owner kq)
 
-answers_step : (m : Moment) (c : Call) (e : ℕ × NumberedKqueue) (es : List (ℕ × NumberedKqueue)) (v : NumberedKqueue) (r : Reply) (b : Bool) → nat_eq c.kqueue e.0 ≡ b
+answers_step : (m : Moment) (c : Call) (e : ℕ × NumberedKqueue) (es : List (ℕ × NumberedKqueue)) (v : NumberedKqueue)
+    (r : Reply) (b : Bool) → nat_eq c.kqueue e.0 ≡ b
     → cond b (Some e.1) (lookup (nat_eq c.kqueue) es) ≡ Some v → r ≡ (called_at v.kq.owner m c v.kq.kq).reply
     → (lookup (nat_eq c.kqueue) es ≡ Some v → r ≡ answer m c (map live_of es)) → r ≡ answer m c (map live_of (e ∷ es))
 unfolding answer
@@ -109,38 +125,49 @@ answers_step m c e es v r true hit found is rest =
     rw hit (is ∙ ap (λ (u : NumberedKqueue). (called_at u.kq.owner m c u.kq.kq).reply) (sym same))
 answers_step m c e es v r false hit found is rest = rw hit (rest found)
 
-some_answers : (m : Moment) (c : Call) (es : List (ℕ × NumberedKqueue)) (v : NumberedKqueue) (r : Reply) → lookup (nat_eq c.kqueue) es ≡ Some v
+some_answers : (m : Moment) (c : Call) (es : List (ℕ × NumberedKqueue)) (v : NumberedKqueue) (r : Reply)
+    → lookup (nat_eq c.kqueue) es ≡ Some v
     → r ≡ (called_at v.kq.owner m c v.kq.kq).reply → r ≡ answer m c (map live_of es)
 some_answers m c [] v r found is = absurd (cc)
 some_answers m c (e ∷ es) v r found is =
     answers_step m c e es v r (nat_eq c.kqueue e.0) refl found is (λ there. some_answers m c es v r there is)
 
-pub called_some : (m : Moment) (c : Call) → IsQuiet m → m.call ≡ Some c → (es : List (ℕ × NumberedKqueue)) (v w : NumberedKqueue) (r : Reply) → IsDistinct nat_eq (keys_of es)
+pub called_some : (m : Moment) (c : Call) → IsQuiet m → m.call ≡ Some c
+    → (es : List (ℕ × NumberedKqueue)) (v w : NumberedKqueue) (r : Reply) → IsDistinct nat_eq (keys_of es)
     → lookup (nat_eq c.kqueue) es ≡ Some v → w.number ≡ v.number → w.kq.owner ≡ v.kq.owner
     → w.kq.kq ≡ (called_at v.kq.owner m c v.kq.kq).kq → r ≡ (called_at v.kq.owner m c v.kq.kq).reply
     → IsCalled m c (map live_of es) (map live_of (set_value (nat_eq c.kqueue) es w)) r
-called_some m c quiet call es v w r distinct found number owner kq is =
-    (some_called m c quiet call es v w distinct found number owner kq ∙ sym (lived_each m (map live_of es) quiet), some_answers m c es v r found is)
+called_some m c quiet call es v w r distinct found number owner kq is = (
+  some_called m c quiet call es v w distinct found number owner kq
+      ∙ sym (lived_each m (map live_of es) quiet),
+  some_answers m c es v r found is,
+)
 
 -- ---- what a write in its place keeps
 
-kept_step : (k : ℕ) (e : ℕ × NumberedKqueue) (es : List (ℕ × NumberedKqueue)) (v w : NumberedKqueue) (b : Bool) → cond b (Some e.1) (lookup (nat_eq k) es) ≡ Some v
-    → w.number ≡ v.number → w.kq.owner ≡ v.kq.owner → w.kq.kq ≡ v.kq.kq → (lookup (nat_eq k) es ≡ Some v → map live_of (set_value (nat_eq k) es w) ≡ map live_of es)
+kept_step : (k : ℕ) (e : ℕ × NumberedKqueue) (es : List (ℕ × NumberedKqueue)) (v w : NumberedKqueue) (b : Bool)
+    → cond b (Some e.1) (lookup (nat_eq k) es) ≡ Some v
+    → w.number ≡ v.number → w.kq.owner ≡ v.kq.owner → w.kq.kq ≡ v.kq.kq
+    → (lookup (nat_eq k) es ≡ Some v → map live_of (set_value (nat_eq k) es w) ≡ map live_of es)
     → map live_of (cond b ((e.0, w) ∷ es) (e ∷ set_value (nat_eq k) es w)) ≡ map live_of (e ∷ es)
 kept_step k e es v w true found number owner kq rest =
     let same : e.1 ≡ v = cc in
     ap (λ l. l ∷ map live_of es) (same_live e.0 w.kq.owner e.1.kq.owner w.number e.1.number w.kq.kq e.1.kq.kq
-    (owner ∙ ap (λ (u : NumberedKqueue). u.kq.owner) (sym same)) (number ∙ ap (λ (u : NumberedKqueue). u.number) (sym same))
+    (owner ∙ ap (λ (u : NumberedKqueue). u.kq.owner) (sym same))
+    (number ∙ ap (λ (u : NumberedKqueue). u.number) (sym same))
     (kq ∙ ap (λ (u : NumberedKqueue). u.kq.kq) (sym same)))
 kept_step k e es v w false found number owner kq rest = ap (λ ls. live_of e ∷ ls) (rest found)
 
 -- a kqueue that stays as it was leaves all as it was
 pub kept : (k : ℕ) (es : List (ℕ × NumberedKqueue)) (v w : NumberedKqueue) → lookup (nat_eq k) es ≡ Some v
-    → w.number ≡ v.number → w.kq.owner ≡ v.kq.owner → w.kq.kq ≡ v.kq.kq → map live_of (set_value (nat_eq k) es w) ≡ map live_of es
+    → w.number ≡ v.number → w.kq.owner ≡ v.kq.owner → w.kq.kq ≡ v.kq.kq
+    → map live_of (set_value (nat_eq k) es w) ≡ map live_of es
 kept k [] v w found number owner kq = refl
-kept k (e ∷ es) v w found number owner kq = kept_step k e es v w (nat_eq k e.0) found number owner kq (λ there. kept k es v w there number owner kq)
+kept k (e ∷ es) v w found number owner kq = kept_step k e es v w (nat_eq k e.0) found number owner kq
+    (λ there. kept k es v w there number owner kq)
 
-version_step : (version k : ℕ) (e : ℕ × NumberedKqueue) (es : List (ℕ × NumberedKqueue)) (v w : NumberedKqueue) (b : Bool)
+version_step : (version k : ℕ) (e : ℕ × NumberedKqueue) (es : List (ℕ × NumberedKqueue)) (v w : NumberedKqueue)
+    (b : Bool)
     → cond b (Some e.1) (lookup (nat_eq k) es) ≡ Some v → w.kq.version ≡ v.kq.version → AreOfVersion version (e ∷ es)
     → (lookup (nat_eq k) es ≡ Some v → AreOfVersion version (set_value (nat_eq k) es w))
     → AreOfVersion version (cond b ((e.0, w) ∷ es) (e ∷ set_value (nat_eq k) es w))
@@ -149,51 +176,66 @@ version_step version k e es v w true found same all rest =
     (same ∙ ap (λ (u : NumberedKqueue). u.kq.version) (sym here) ∙ all.0, all.1)
 version_step version k e es v w false found same all rest = (all.0, rest found)
 
-pub version_kept : (version k : ℕ) (es : List (ℕ × NumberedKqueue)) (v w : NumberedKqueue) → lookup (nat_eq k) es ≡ Some v → w.kq.version ≡ v.kq.version
+pub version_kept : (version k : ℕ) (es : List (ℕ × NumberedKqueue)) (v w : NumberedKqueue)
+    → lookup (nat_eq k) es ≡ Some v → w.kq.version ≡ v.kq.version
     → AreOfVersion version es → AreOfVersion version (set_value (nat_eq k) es w)
 version_kept version k [] v w found same all = tt
 version_kept version k (e ∷ es) v w found same all =
-    version_step version k e es v w (nat_eq k e.0) found same all (λ there. version_kept version k es v w there same all.1)
+    version_step version k e es v w (nat_eq k e.0) found same all
+    (λ there. version_kept version k es v w there same all.1)
 
-found_step : (version : ℕ) (e : ℕ × NumberedKqueue) (v : NumberedKqueue) (rest : Option NumberedKqueue) (b : Bool) → cond b (Some e.1) rest ≡ Some v
+found_step : (version : ℕ) (e : ℕ × NumberedKqueue) (v : NumberedKqueue) (rest : Option NumberedKqueue) (b : Bool)
+    → cond b (Some e.1) rest ≡ Some v
     → e.1.kq.version ≡ version → (rest ≡ Some v → v.kq.version ≡ version) → v.kq.version ≡ version
 found_step version e v rest true found here later =
     let same : e.1 ≡ v = cc in
     ap (λ (u : NumberedKqueue). u.kq.version) (sym same) ∙ here
 found_step version e v rest false found here later = later found
 
-pub version_found : (version k : ℕ) (es : List (ℕ × NumberedKqueue)) (v : NumberedKqueue) → lookup (nat_eq k) es ≡ Some v → AreOfVersion version es → v.kq.version ≡ version
+pub version_found : (version k : ℕ) (es : List (ℕ × NumberedKqueue)) (v : NumberedKqueue)
+    → lookup (nat_eq k) es ≡ Some v → AreOfVersion version es → v.kq.version ≡ version
 version_found version k [] v found all = absurd (cc)
 version_found version k (e ∷ es) v found all =
-    found_step version e v (lookup (nat_eq k) es) (nat_eq k e.0) found all.0 (λ there. version_found version k es v there all.1)
+    found_step version e v (lookup (nat_eq k) es) (nat_eq k e.0) found all.0
+    (λ there. version_found version k es v there all.1)
 
-pub version_push : (version : ℕ) (es : List (ℕ × NumberedKqueue)) (e : ℕ × NumberedKqueue) → AreOfVersion version es → e.1.kq.version ≡ version
+pub version_push : (version : ℕ) (es : List (ℕ × NumberedKqueue)) (e : ℕ × NumberedKqueue) → AreOfVersion version es
+    → e.1.kq.version ≡ version
     → AreOfVersion version (es ++ e ∷ [])
 version_push version [] e all is = (is, tt)
 version_push version (x ∷ xs) e all is = (all.0, version_push version xs e all.1 is)
 
-named_step : (place pid number k : ℕ) (e : ℕ × NumberedKqueue) (es : List (ℕ × NumberedKqueue)) (v w : NumberedKqueue) (b : Bool)
+named_step : (place pid number k : ℕ) (e : ℕ × NumberedKqueue) (es : List (ℕ × NumberedKqueue)) (v w : NumberedKqueue)
+    (b : Bool)
     → cond b (Some e.1) (lookup (nat_eq k) es) ≡ Some v → w.number ≡ v.number → w.kq.owner ≡ v.kq.owner
-    → (lookup (nat_eq k) es ≡ Some v → has_live place pid number (map live_of (set_value (nat_eq k) es w)) ≡ has_live place pid number (map live_of es))
-    → has_live place pid number (map live_of (cond b ((e.0, w) ∷ es) (e ∷ set_value (nat_eq k) es w))) ≡ has_live place pid number (map live_of (e ∷ es))
+    → (lookup (nat_eq k) es ≡ Some v → has_live place pid number
+    (map live_of (set_value (nat_eq k) es w)) ≡ has_live place pid number (map live_of es))
+    → has_live place pid number (map live_of (cond b ((e.0, w) ∷ es) (e ∷ set_value (nat_eq k) es w)))
+    ≡ has_live place pid number (map live_of (e ∷ es))
 named_step place pid number k e es v w true found same_number same_owner rest =
     let same : e.1 ≡ v = cc in
     ap₂ (λ (o n : ℕ). ((e.0 == place) && ((o == pid) && (n == number))) || has_live place pid number (map live_of es))
-    (same_owner ∙ ap (λ (u : NumberedKqueue). u.kq.owner) (sym same)) (same_number ∙ ap (λ (u : NumberedKqueue). u.number) (sym same))
+    (same_owner ∙ ap (λ (u : NumberedKqueue). u.kq.owner) (sym same))
+    (same_number ∙ ap (λ (u : NumberedKqueue). u.number) (sym same))
 named_step place pid number k e es v w false found same_number same_owner rest =
     ap (λ b. ((e.0 == place) && ((e.1.kq.owner == pid) && (e.1.number == number))) || b) (rest found)
 
-named_same : (place pid number k : ℕ) (es : List (ℕ × NumberedKqueue)) (v w : NumberedKqueue) → lookup (nat_eq k) es ≡ Some v → w.number ≡ v.number → w.kq.owner ≡ v.kq.owner
+named_same : (place pid number k : ℕ) (es : List (ℕ × NumberedKqueue)) (v w : NumberedKqueue)
+    → lookup (nat_eq k) es ≡ Some v → w.number ≡ v.number → w.kq.owner ≡ v.kq.owner
     → has_live place pid number (map live_of (set_value (nat_eq k) es w)) ≡ has_live place pid number (map live_of es)
 named_same place pid number k [] v w found same_number same_owner = refl
 named_same place pid number k (e ∷ es) v w found same_number same_owner =
-    named_step place pid number k e es v w (nat_eq k e.0) found same_number same_owner (λ there. named_same place pid number k es v w there same_number same_owner)
+    named_step place pid number k e es v w (nat_eq k e.0) found same_number same_owner
+    (λ there. named_same place pid number k es v w there same_number same_owner)
 
-pub named_kept : (k : ℕ) (es : List (ℕ × NumberedKqueue)) (v w : NumberedKqueue) → lookup (nat_eq k) es ≡ Some v → w.number ≡ v.number → w.kq.owner ≡ v.kq.owner
-    → (table : List Descriptor) → All (NamesLive (map live_of es)) table → All (NamesLive (map live_of (set_value (nat_eq k) es w))) table
+pub named_kept : (k : ℕ) (es : List (ℕ × NumberedKqueue)) (v w : NumberedKqueue) → lookup (nat_eq k) es ≡ Some v
+    → w.number ≡ v.number → w.kq.owner ≡ v.kq.owner
+    → (table : List Descriptor) → All (NamesLive (map live_of es)) table
+    → All (NamesLive (map live_of (set_value (nat_eq k) es w))) table
 named_kept k es v w found same_number same_owner table all =
     All-weaker (NamesLive (map live_of es)) (NamesLive (map live_of (set_value (nat_eq k) es w)))
-    (λ d names place is. named_same place d.pid d.number k es v w found same_number same_owner ∙ names place is) table all
+    (λ d names place is. named_same place d.pid d.number k es v w found same_number same_owner ∙ names place is) table
+    all
 
 -- ---- places of birth
 
@@ -215,12 +257,14 @@ not_born n k (e ∷ es) lt all =
     let other : nat_eq k e.0 ≡ false = above k e.0 n lt all.0 in
     rw other (not_born n k es lt all.1)
 
-keys_step : (k : ℕ) (e : ℕ × NumberedKqueue) (es : List (ℕ × NumberedKqueue)) (w : NumberedKqueue) (b : Bool) → keys_of (set_value (nat_eq k) es w) ≡ keys_of es
+keys_step : (k : ℕ) (e : ℕ × NumberedKqueue) (es : List (ℕ × NumberedKqueue)) (w : NumberedKqueue) (b : Bool)
+    → keys_of (set_value (nat_eq k) es w) ≡ keys_of es
     → keys_of (cond b ((e.0, w) ∷ es) (e ∷ set_value (nat_eq k) es w)) ≡ keys_of (e ∷ es)
 keys_step k e es w true rest = refl
 keys_step k e es w false rest = ap (λ ks. e.0 ∷ ks) rest
 
 -- a write in its place leaves the places as they are
-pub keys_kept : (k : ℕ) (es : List (ℕ × NumberedKqueue)) (w : NumberedKqueue) → keys_of (set_value (nat_eq k) es w) ≡ keys_of es
+pub keys_kept : (k : ℕ) (es : List (ℕ × NumberedKqueue)) (w : NumberedKqueue)
+    → keys_of (set_value (nat_eq k) es w) ≡ keys_of es
 keys_kept k [] w = refl
 keys_kept k (e ∷ es) w = keys_step k e es w (nat_eq k e.0) (keys_kept k es w)

@@ -18,7 +18,8 @@ use Rattle.kq_model.specs.World.{Plan, Impossible, Possible, idle, named_by, see
 use Rattle.kq_model.proofs.SeenWorld.{seen-counted}
 use Rattle.kq_system.specs.SystemState.{IsImpossible, call_plan, start_of}
 
-pub proc_used : (place pid : ℕ) (w : World) → was_used pid w.processes ≡ true → plan place (Proc pid) w ≡ Impossible UsedPid
+pub proc_used : (place pid : ℕ) (w : World) → was_used pid w.processes ≡ true
+    → plan place (Proc pid) w ≡ Impossible UsedPid
 unfolding plan plan_proc
 proc_used place pid w used = rw used refl
 
@@ -27,7 +28,8 @@ pub proc_starts : (place pid : ℕ) (w : World) → was_used pid w.processes ≡
 unfolding plan plan_proc
 proc_starts place pid w used = rw used refl
 
-pub kqueue_no_process : (place pid fd : ℕ) (w : World) → is_live pid w.processes ≡ false → plan place (Kqueue pid fd) w ≡ Impossible NoProcess
+pub kqueue_no_process : (place pid fd : ℕ) (w : World) → is_live pid w.processes ≡ false
+    → plan place (Kqueue pid fd) w ≡ Impossible NoProcess
 unfolding plan plan_kqueue
 kqueue_no_process place pid fd w live = rw live refl
 
@@ -46,18 +48,21 @@ pub kevent_no_process : (place pid fd room : ℕ) (changes : List Change) (w : W
 unfolding plan plan_kevent on_descriptor
 kevent_no_process place pid fd room changes w live = rw live refl
 
-pub kevent_no_descriptor : (place pid fd room : ℕ) (changes : List Change) (w : World) → is_live pid w.processes ≡ true → named_by pid fd w ≡ None
+pub kevent_no_descriptor : (place pid fd room : ℕ) (changes : List Change) (w : World)
+    → is_live pid w.processes ≡ true → named_by pid fd w ≡ None
     → plan place (Kevent pid fd changes room) w ≡ Impossible NoDescriptor
 unfolding plan plan_kevent on_descriptor on_named
 kevent_no_descriptor place pid fd room changes w live there = rw (live, there) refl
 
 -- the plan of a call on what a number names
-pub kevent_on : (place pid fd room : ℕ) (changes : List Change) (w : World) (n : Named) → is_live pid w.processes ≡ true → named_by pid fd w ≡ Some n
+pub kevent_on : (place pid fd room : ℕ) (changes : List Change) (w : World) (n : Named)
+    → is_live pid w.processes ≡ true → named_by pid fd w ≡ Some n
     → plan place (Kevent pid fd changes room) w ≡ plan_call changes room n
 unfolding plan plan_kevent on_descriptor on_named
 kevent_on place pid fd room changes w n live there = rw (live, there) refl
 
-pub wrong_kind : (changes : List Change) (room : ℕ) (n : Named) → ((place : ℕ) → n ≡ named.Kqueue place → ⊥) → plan_call changes room n ≡ Impossible WrongKind
+pub wrong_kind : (changes : List Change) (room : ℕ) (n : Named) → ((place : ℕ) → n ≡ named.Kqueue place → ⊥)
+    → plan_call changes room n ≡ Impossible WrongKind
 unfolding plan_call
 wrong_kind changes room (named.Socket place) other = refl
 wrong_kind changes room (named.PipeRead place) other = refl
@@ -65,25 +70,31 @@ wrong_kind changes room (named.PipeWrite place) other = refl
 wrong_kind changes room (named.Open description file) other = refl
 wrong_kind changes room (named.Kqueue place) other = absurd (other place refl)
 
-pub too_many_asked : (changes : List Change) (room kqueue : ℕ) → (nat_lt most_changes (length changes) || nat_lt most_room room) ≡ true
+pub too_many_asked : (changes : List Change) (room kqueue : ℕ)
+    → (nat_lt most_changes (length changes) || nat_lt most_room room) ≡ true
     → plan_call changes room (named.Kqueue kqueue) ≡ Impossible TooMany
 unfolding plan_call
 too_many_asked changes room kqueue many = rw many refl
 
-pub calls : (changes : List Change) (room kqueue : ℕ) → (nat_lt most_changes (length changes) || nat_lt most_room room) ≡ false
-    → plan_call changes room (named.Kqueue kqueue) ≡ Possible (call_plan (record { kqueue = kqueue; changes = changes; room = room }))
+pub calls : (changes : List Change) (room kqueue : ℕ) → (nat_lt most_changes
+    (length changes) || nat_lt most_room room) ≡ false
+    → plan_call changes room (named.Kqueue kqueue) ≡ Possible
+    (call_plan (record { kqueue = kqueue; changes = changes; room = room }))
 unfolding plan_call
 calls changes room kqueue many = rw many refl
 
-pub too_many : (changes room : ℕ) → (most_changes < changes) ⊎ ((changes ≤ most_changes) × (most_room < room)) → (nat_lt most_changes changes || nat_lt most_room room) ≡ true
+pub too_many : (changes room : ℕ) → (most_changes < changes) ⊎ ((changes ≤ most_changes) × (most_room < room))
+    → (nat_lt most_changes changes || nat_lt most_room room) ≡ true
 too_many changes room (inl more) = grind (arith, nat_tests)
 too_many changes room (inr more) = grind (arith, nat_tests)
 
-pub not_too_many : (changes room : ℕ) → changes ≤ most_changes → room ≤ most_room → (nat_lt most_changes changes || nat_lt most_room room) ≡ false
+pub not_too_many : (changes room : ℕ) → changes ≤ most_changes → room ≤ most_room
+    → (nat_lt most_changes changes || nat_lt most_room room) ≡ false
 not_too_many changes room fewer less = grind (arith, nat_tests)
 
 -- what has a plan is not impossible
-pub not_impossible : (place : ℕ) (e : Event) (w : World) (p : Plan) → plan place e w ≡ Possible p → IsImpossible place e w → ⊥
+pub not_impossible : (place : ℕ) (e : Event) (w : World) (p : Plan) → plan place e w ≡ Possible p
+    → IsImpossible place e w → ⊥
 not_impossible place e w p is (why, none) =
     let clash : Possible p ≡ Impossible why = sym is ∙ ap (plan place e) (sym (seen-counted w)) ∙ none in
     cc

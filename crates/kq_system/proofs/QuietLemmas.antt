@@ -54,7 +54,8 @@ notified_none views kq =
 
 pub unhappened : (m : Moment) (owner : ℕ) (kq : Kqueue) → IsQuiet m → happened owner m kq ≡ kq
 unfolding happened clocked
-unhappened m owner kq quiet = rw (quiet.closed, quiet.hints, quiet.clock) (ap (notified m.views []) (closed_none owner kq) ∙ notified_none m.views kq)
+unhappened m owner kq quiet = rw (quiet.closed, quiet.hints, quiet.clock)
+    (ap (notified m.views []) (closed_none owner kq) ∙ notified_none m.views kq)
 
 -- ---- one live kqueue
 
@@ -63,9 +64,11 @@ pub uncalled : (m : Moment) (l : Live) → IsQuiet m → m.call ≡ None → ste
 unfolding stepped kqueue_step after_call happened
 uncalled m l quiet none = rw none (ap (λ (kq : Kqueue). record l { kq = kq }) (unhappened m l.owner l.kq quiet))
 
-pub called_other : (m : Moment) (c : Call) (l : Live) → IsQuiet m → m.call ≡ Some c → (c.kqueue == l.place) ≡ false → stepped m l ≡ l
+pub called_other : (m : Moment) (c : Call) (l : Live) → IsQuiet m → m.call ≡ Some c → (c.kqueue == l.place) ≡ false
+    → stepped m l ≡ l
 unfolding stepped kqueue_step after_call happened
-called_other m c l quiet call other = rw (call, other) (ap (λ (kq : Kqueue). record l { kq = kq }) (unhappened m l.owner l.kq quiet))
+called_other m c l quiet call other = rw (call, other) (ap (λ (kq : Kqueue). record l { kq = kq })
+    (unhappened m l.owner l.kq quiet))
 
 pub called_one : (m : Moment) (c : Call) (l : Live) → m.call ≡ Some c → (c.kqueue == l.place) ≡ true
     → stepped m l ≡ record l { kq = (called_at l.owner m c l.kq).kq }
@@ -77,11 +80,13 @@ called_one m c l call this = rw (call, this) refl
 pub lived_each : (m : Moment) (live : List Live) → IsQuiet m → lived m live ≡ map (stepped m) live
 unfolding lived
 lived_each m live quiet =
-    ap (map (stepped m)) (rw quiet.closed (all_kept (λ (l : Live). not (has_pair l.owner l.number [])) live (λ l. refl)))
+    ap (map (stepped m)) (rw quiet.closed (all_kept (λ (l : Live). not (has_pair l.owner l.number [])) live
+    (λ l. refl)))
 
 each_uncalled : (m : Moment) (live : List Live) → IsQuiet m → m.call ≡ None → map (stepped m) live ≡ live
 each_uncalled m [] quiet none = refl
-each_uncalled m (l ∷ ls) quiet none = ap₂ (λ (l : Live) (rest : List Live). l ∷ rest) (uncalled m l quiet none) (each_uncalled m ls quiet none)
+each_uncalled m (l ∷ ls) quiet none = ap₂ (λ (l : Live) (rest : List Live). l ∷ rest) (uncalled m l quiet none)
+    (each_uncalled m ls quiet none)
 
 pub lived_none : (m : Moment) (live : List Live) → IsQuiet m → m.call ≡ None → lived m live ≡ live
 lived_none m live quiet none = lived_each m live quiet ∙ each_uncalled m live quiet none

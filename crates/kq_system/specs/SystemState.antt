@@ -63,6 +63,15 @@ pub record NumberedKqueue : Type 0 where
 abbrev pub live_of : ℕ × NumberedKqueue → Live
 live_of e = record { place = e.0; owner = e.1.kq.owner; number = e.1.number; kq = e.1.kq.kq }
 
+-- what is seen of the code's system with these tables
+abbrev pub state_of : ℕ → WorldState → List (ℕ × NumberedKqueue) → ℕ → SystemState
+state_of version world live applied = record {
+  version = version;
+  world = world;
+  live = map live_of live;
+  applied = applied;
+}
+
 -- ---- what calls promise
 
 -- the event at this place takes the old system to the new one, with this reply

@@ -34,17 +34,11 @@ pub struct System {
 }
 
 impl Model for System {
-    ghost use Rattle.std.specs.Prelude.{map};
-    ghost use Rattle.kq_system.specs.SystemState.{IsLawful, SystemState, live_of};
+    ghost use Rattle.kq_system.specs.SystemState.{IsLawful, SystemState, state_of};
 
     ghost Value = { SystemState };
 
-    ghost view = { λ s. record {
-      version = s.version;
-      world = s.world;
-      live = map live_of s.live.entries;
-      applied = s.applied;
-    } };
+    ghost view = { λ s. state_of s.version s.world s.live.entries s.applied };
 
     ghost invariant = { λ s. IsLawful s.version s.applied s.world s.live.entries };
 }
@@ -85,9 +79,11 @@ impl System {
     /// After [`Memory`] nothing has changed; a record that is impossible takes no memory.
     pub fn apply(&mut self, event: &Event) -> Result<Reply, Memory>
         requires { self.old.applied < 2 ^ 31 - 1 }
-        ensures reply { IfOk result (IsStep (self.old.applied + 1) event.now (system_of self.old) (system_of self.new)) }
+        ensures reply { IfOk result
+            (IsStep (self.old.applied + 1) event.now (system_of self.old) (system_of self.new)) }
         ensures applied { IfOk result (λ _. self.new.applied ≡ self.old.applied + 1) }
-        ensures impossible { IsImpossible (self.old.applied + 1) event.now (world_of self.old.world) → IsOk result }
+        ensures impossible { IsImpossible (self.old.applied + 1) event.now (world_of self.old.world)
+            → IsOk result }
         ensures memory { OnErr result (self.new ≡ self.old) }
     {
         let place = self.applied + 1;
@@ -117,9 +113,11 @@ impl System {
 
     /// A process starts.
     fn start(&mut self, pid: u32) -> Result<Reply, Memory>
-        ensures reply { (place : ℕ) → IfOk result (IsStep place (Event.Proc pid) (system_of self.old) (system_of self.new)) }
+        ensures reply { (place : ℕ) → IfOk result
+            (IsStep place (Event.Proc pid) (system_of self.old) (system_of self.new)) }
         ensures applied { self.new.applied ≡ self.old.applied }
-        ensures impossible { (place : ℕ) → IsImpossible place (Event.Proc pid) (world_of self.old.world) → IsOk result }
+        ensures impossible { (place : ℕ) → IsImpossible place (Event.Proc pid) (world_of self.old.world)
+            → IsOk result }
         ensures memory { OnErr result (self.new ≡ self.old) }
     {
         if self.world.was_used(pid) {
@@ -132,9 +130,11 @@ impl System {
     /// A process opens a kqueue under a number that is not open.
     fn open(&mut self, place: u64, pid: u32, number: u32) -> Result<Reply, Memory>
         requires { self.old.applied < place }
-        ensures reply { IfOk result (IsStep place (Event.Kqueue pid number) (system_of self.old) (system_of self.new)) }
+        ensures reply { IfOk result
+            (IsStep place (Event.Kqueue pid number) (system_of self.old) (system_of self.new)) }
         ensures applied { self.new.applied ≤ place }
-        ensures impossible { IsImpossible place (Event.Kqueue pid number) (world_of self.old.world) → IsOk result }
+        ensures impossible { IsImpossible place (Event.Kqueue pid number) (world_of self.old.world)
+            → IsOk result }
         ensures memory { OnErr result (self.new ≡ self.old) }
     {
         if !self.world.is_live(pid) {
@@ -163,9 +163,12 @@ impl System {
         changes: &[Change],
         room: u32,
     ) -> Result<Reply, Memory>
-        ensures reply { (place : ℕ) → IfOk result (IsStep place (Event.Kevent pid number changes.now room) (system_of self.old) (system_of self.new)) }
+        ensures reply { (place : ℕ) → IfOk result
+            (IsStep place (Event.Kevent pid number changes.now room) (system_of self.old) (system_of self.new)) }
         ensures applied { self.new.applied ≡ self.old.applied }
-        ensures impossible { (place : ℕ) → IsImpossible place (Event.Kevent pid number changes.now room) (world_of self.old.world) → IsOk result }
+        ensures impossible { (place : ℕ)
+            → IsImpossible place (Event.Kevent pid number changes.now room) (world_of self.old.world)
+            → IsOk result }
         ensures memory { OnErr result (self.new ≡ self.old) }
     {
         if !self.world.is_live(pid) {
@@ -188,7 +191,8 @@ impl System {
         requires { IsLive kqueue self.old.live }
         ensures reply { (place : ℕ) → IfOk result (λ reply.
             let c : Call = record { kqueue = kqueue; changes = changes.now; room = room } in
-            IsCalled (moment_of self.old.version place (call_plan c) (world_of self.old.world)) c self.old.live self.new.live reply) }
+            IsCalled (moment_of self.old.version place (call_plan c) (world_of self.old.world)) c
+            self.old.live self.new.live reply) }
         ensures version { self.new.version ≡ self.old.version }
         ensures world { self.new.world ≡ self.old.world }
         ensures applied { self.new.applied ≡ self.old.applied }

@@ -1,12 +1,12 @@
 ghost use Rattle.std.specs.Prelude.{◌++◌, codes, decimal, false, OnOk};
 ghost use Rattle.serde_json.specs.Written.{comma_if, compact_text};
 ghost use Rattle.kq_model.specs.Report.{kevent_data, last_line, reply_line};
-ghost use Rattle.kq_merge.specs.Adds.{Adds};
+ghost use Rattle.kq_text.specs.Adds.{Adds};
 ghost use Rattle.kq_merge.specs.EventsText.{events_text};
 
 use super::event::put_event;
-use super::text::{put, put_number};
 use kq_model::{Errno, Kevent, Memory, Reply, Why};
+use kq_text::{put, put_number, put_u32, put_u64};
 
 /// Adds the line of the reply to the record at a place; of a record that was only done, nothing.
 pub fn put_reply(out: &mut Vec<u8>, at: u64, reply: &Reply) -> Result<(), Memory>
@@ -34,7 +34,7 @@ fn put_failed(out: &mut Vec<u8>, at: u64, error: Errno) -> Result<(), Memory>
 {
     put_place(out, at)?;
     put(out, ",\"failed\":")?;
-    put_number(out, error.code())?;
+    put_u32(out, error.code())?;
     put(out, "}\n")
 }
 
@@ -51,7 +51,7 @@ fn put_place(out: &mut Vec<u8>, at: u64) -> Result<(), Memory>
     ensures { OnOk result (Adds out.old.items (codes "{\"at\":" ++ decimal at) out.new.items) }
 {
     put(out, "{\"at\":")?;
-    put_number(out, at)
+    put_u64(out, at)
 }
 
 /// Adds the events of a list behind its bracket, and the bracket that closes it.
@@ -67,7 +67,8 @@ fn put_events(out: &mut Vec<u8>, events: &[Kevent]) -> Result<(), Memory>
 }
 
 fn put_item(out: &mut Vec<u8>, event: &Kevent, is_later: bool) -> Result<(), Memory>
-    ensures { OnOk result (Adds out.old.items (comma_if is_later ++ compact_text (kevent_data event.now)) out.new.items) }
+    ensures { OnOk result
+        (Adds out.old.items (comma_if is_later ++ compact_text (kevent_data event.now)) out.new.items) }
 {
     put(out, if is_later { "," } else { "" })?;
     put_event(out, event)
@@ -78,10 +79,10 @@ pub fn put_counts(out: &mut Vec<u8>, calls: u64, events: u128, records: u64) -> 
     ensures { OnOk result (Adds out.old.items (last_line calls events records) out.new.items) }
 {
     put(out, "{\"calls\":")?;
-    put_number(out, calls)?;
+    put_u64(out, calls)?;
     put(out, ",\"events\":")?;
     put_number(out, events)?;
     put(out, ",\"records\":")?;
-    put_number(out, records)?;
+    put_u64(out, records)?;
     put(out, "}\n")
 }

@@ -15,8 +15,11 @@ loop-first-preserved c =
     let second = c.in-Some-pop_front.second in
     let rest = c.pop_front-in-Some.new.self.items in
     let run = c.in_ok-join.field-0 in
-    let were : c.loop-first.runs.items ≡ first ∷ second ∷ rest = c.in-Some.ensures.items ∙ ap (λ l. first ∷ l) c.in-Some-pop_front.ensures.items in
+    let were : c.loop-first.runs.items ≡ first ∷ second ∷ rest = c.in-Some.ensures.items
+    ∙ ap (λ l. first ∷ l) c.in-Some-pop_front.ensures.items in
     let are : c.push_back.new.self.items ≡ rest ++ run ∷ [] = search rules in
-    IsPermutation-trans (flat c.args.runs.items) (flat c.loop-first.runs.items) (flat c.push_back.new.self.items) c.loop-first.invariant
+    IsPermutation-trans (flat c.args.runs.items) (flat c.loop-first.runs.items)
+    (flat c.push_back.new.self.items) c.loop-first.invariant
     (subst (λ l. IsPermutation (flat l) (flat c.push_back.new.self.items)) (sym were)
-    (subst (λ l. IsPermutation (flat (first ∷ second ∷ rest)) (flat l)) (sym are) (joined_behind first second run rest c.in_ok-join.ensures)))
+    (subst (λ l. IsPermutation (flat (first ∷ second ∷ rest)) (flat l)) (sym are)
+    (joined_behind first second run rest c.in_ok-join.ensures)))

@@ -7,7 +7,11 @@ use Rattle.kq_merge.proofs.run.join.Goals as goal
 pub loop-row-smaller : goal.loop-row-smaller
 loop-row-smaller c =
     let left = c.take_earliest.new.first ++ c.take_earliest.new.second in
-    omega (arith, length_permutation (c.loop-row.first ++ c.loop-row.second) (c.in-Some.row ∷ left) c.in-Some.ensures.taken)
+    omega (
+      arith,
+      length_permutation (c.loop-row.first ++ c.loop-row.second)
+          (c.in-Some.row ∷ left) c.in-Some.ensures.taken,
+    )
 
 pub loop-row-preserved : goal.loop-row-preserved
 loop-row-preserved c =
@@ -18,11 +22,13 @@ loop-row-preserved c =
     let grown : c.push_back.new.self.items ≡ rows ++ row ∷ [] = search rules in
     record {
       same = subst (λ l. IsPermutation (c.args.first ++ c.args.second) (l ++ others)) (sym grown)
-          (IsPermutation-pop_more (c.args.first ++ c.args.second) rows left others row c.loop-row.invariant.same c.in-Some.ensures.taken);
+          (IsPermutation-pop_more (c.args.first ++ c.args.second) rows left others row c.loop-row.invariant.same
+          c.in-Some.ensures.taken);
       lead = subst (λ l. Lead l others) (sym grown)
           (lead_more rows left others row c.in-Some.ensures.taken c.in-Some.ensures.earliest c.loop-row.invariant.lead);
     }
 
 pub invariant_of-result : goal.invariant_of-result
 invariant_of-result c =
-    lead_all c.loop-row.rows.items (c.loop-row.first ++ c.loop-row.second) c.in_default.ensures.none c.loop-row.invariant.lead
+    lead_all c.loop-row.rows.items (c.loop-row.first ++ c.loop-row.second) c.in_default.ensures.none
+    c.loop-row.invariant.lead

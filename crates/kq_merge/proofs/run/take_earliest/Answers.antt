@@ -12,7 +12,8 @@ returns-else-goes_first-clause-taken c =
     let falls : NeverFall first = subst NeverFall c.first.view_is c.first.invariant in
     let others : NeverFall second = subst NeverFall c.second.view_is c.second.invariant in
     IfSome_then popped.result
-    (second_gives first second popped.new.self.items popped.result falls others (sym c.goes_first.ensures ∙ c.if-goes_first.false)
+    (second_gives first second popped.new.self.items popped.result falls others
+    (sym c.goes_first.ensures ∙ c.if-goes_first.false)
     (sym c.second.view_is ∙ popped.ensures.items))
     (λ row p. p.taken)
 
@@ -24,6 +25,7 @@ returns-else-goes_first-clause-earliest c =
     let falls : NeverFall first = subst NeverFall c.first.view_is c.first.invariant in
     let others : NeverFall second = subst NeverFall c.second.view_is c.second.invariant in
     IfSome_then popped.result
-    (second_gives first second popped.new.self.items popped.result falls others (sym c.goes_first.ensures ∙ c.if-goes_first.false)
+    (second_gives first second popped.new.self.items popped.result falls others
+    (sym c.goes_first.ensures ∙ c.if-goes_first.false)
     (sym c.second.view_is ∙ popped.ensures.items))
     (λ row p. p.earliest)

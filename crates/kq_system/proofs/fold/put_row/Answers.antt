@@ -16,5 +16,6 @@ returns-in_default c =
     let old = c.args.rows.now.items in
     let row : Row = record { at = c.args.at; reply = c.in_default.reply } in
     let pushed : OnOk c.map_err.result (c.push.new.self.items ≡ old ++ row ∷ []) = search rules in
-    let other = row_of-other c.args.at c.args.reply c.in_default.not-Done ∙ ap (λ (r : Reply). let x : Row = record { at = c.args.at; reply = r } in x ∷ []) c.in_default.reply-is in
+    let other = row_of-other c.args.at c.args.reply c.in_default.not-Done
+    ∙ ap (λ (r : Reply). let x : Row = record { at = c.args.at; reply = r } in x ∷ []) c.in_default.reply-is in
     on_ok_weaker c.map_err.result (λ is. is ∙ ap (λ l. old ++ l) (sym other)) pushed

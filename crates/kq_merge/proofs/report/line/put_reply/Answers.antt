@@ -1,6 +1,6 @@
 use Rattle.std.proofs.Common.{subst, sym}
 use Rattle.kq_model.specs.Report.{reply_line}
-use Rattle.kq_merge.specs.Adds.{Adds}
+use Rattle.kq_text.specs.Adds.{Adds}
 use Rattle.kq_merge.proofs.ReportLines.{done_line}
 use Rattle.kq_merge.proofs.report.line.put_reply.Goals as goal
 

@@ -1,5 +1,5 @@
 use Rattle.std.proofs.lemmas.Result.{on_ok_weaker}
-use Rattle.kq_merge.proofs.Appends.{and_then, as_text}
+use Rattle.kq_text.proofs.Appends.{and_then, as_text}
 use Rattle.kq_merge.proofs.ReportLines.{returned_line}
 use Rattle.kq_merge.proofs.report.line.put_returned.Goals as goal
 

@@ -8,7 +8,8 @@ pub invariant_of-self : goal.invariant_of-self
 invariant_of-self c =
     let kept = c.self-2.invariant in
     let least : c.self-2.inside.applied ≤ c.self.inside.applied + 1 =
-    subst (λ n. n ≤ c.self.inside.applied + 1) (ap (λ (s : SystemState). s.applied) (sym c.self-2.view_is)) c.carry_out.ensures.applied in
+    subst (λ n. n ≤ c.self.inside.applied + 1) (ap (λ (s : SystemState). s.applied) (sym c.self-2.view_is))
+    c.carry_out.ensures.applied in
     record {
       version_one = kept.version_one;
       of_version = kept.of_version;

@@ -20,14 +20,17 @@ returns-clause-reply c = λ place.
     let v : NumberedKqueue = record { number = c.live.inside.number; kq = c.live.inside.kq } in
     let w : NumberedKqueue = record { number = c.live.inside.number; kq = c.call.new.self } in
     let writes = c.get_mut.follows.holds w in
-    let found : lookup (nat_eq c.args.kqueue) es ≡ Some v = sym c.in-Some.ensures.value ∙ ap Some (sym c.live.view_is) in
+    let found : lookup (nat_eq c.args.kqueue) es ≡ Some v = sym c.in-Some.ensures.value
+    ∙ ap Some (sym c.live.view_is) in
     let quiet = quiet_call c.self.inside.version place call (world_of c.self.inside.world) in
     let same = call_at c.self.inside.version place call (world_of c.self.inside.world) v
     (version_found c.self.inside.version c.args.kqueue es v found c.self.invariant.of_version) in
     IfOk-weaker c.call.result _ _ (λ r called.
-    subst (λ (s : SystemState). IsCalled (moment_of s.version place (call_plan call) (world_of s.world)) call s.live (map live_of (c.get_mut.follows.lender w).entries) r) c.self.view_is
+    subst (λ (s : SystemState). IsCalled (moment_of s.version place (call_plan call) (world_of s.world)) call s.live
+    (map live_of (c.get_mut.follows.lender w).entries) r) c.self.view_is
     (subst (λ es'. IsCalled m call (map live_of es) (map live_of es') r) (sym writes.0)
-    (called_some m call quiet (call_of c.self.inside.version place call (world_of c.self.inside.world)) es v w r c.get_mut.ensures.unique found refl c.call.ensures.owner
+    (called_some m call quiet (call_of c.self.inside.version place call (world_of c.self.inside.world)) es v w r
+    c.get_mut.ensures.unique found refl c.call.ensures.owner
     (ap (λ (done : Called). done.kq) (called ∙ same)) (ap (λ (done : Called). done.reply) (called ∙ same)))))
     c.call.ensures.called
 
@@ -37,9 +40,15 @@ returns-clause-memory c =
     let v : NumberedKqueue = record { number = c.live.inside.number; kq = c.live.inside.kq } in
     let w : NumberedKqueue = record { number = c.live.inside.number; kq = c.call.new.self } in
     let writes = c.get_mut.follows.holds w in
-    let found : lookup (nat_eq c.args.kqueue) es ≡ Some v = sym c.in-Some.ensures.value ∙ ap Some (sym c.live.view_is) in
+    let found : lookup (nat_eq c.args.kqueue) es ≡ Some v = sym c.in-Some.ensures.value
+    ∙ ap Some (sym c.live.view_is) in
     on_err_weaker c.call.result (λ same.
-    ap (λ (ls : List Live). let s : SystemState = record { version = c.self.inside.version; world = c.self.inside.world; live = ls; applied = c.self.inside.applied } in s)
+    ap (λ (ls : List Live). let s : SystemState = record {
+      version = c.self.inside.version;
+      world = c.self.inside.world;
+      live = ls;
+      applied = c.self.inside.applied;
+    } in s)
     (ap (map live_of) writes.0 ∙ kept c.args.kqueue es v w found refl c.call.ensures.owner same)
     ∙ c.self.view_is)
     c.call.ensures.err
@@ -47,7 +56,8 @@ returns-clause-memory c =
 pub unreachable-requires : goal.unreachable-requires
 unreachable-requires c =
     live_found c.args.kqueue c.self.inside.live.entries
-    (subst (IsLive c.args.kqueue) (sym (ap (λ (s : SystemState). s.live) c.self.view_is)) c.requires) (sym c.in_default.ensures.value)
+    (subst (IsLive c.args.kqueue) (sym (ap (λ (s : SystemState). s.live) c.self.view_is)) c.requires)
+    (sym c.in_default.ensures.value)
 
 pub invariant_of-self : goal.invariant_of-self
 invariant_of-self c =
@@ -55,11 +65,13 @@ invariant_of-self c =
     let v : NumberedKqueue = record { number = c.live.inside.number; kq = c.live.inside.kq } in
     let w : NumberedKqueue = record { number = c.live.inside.number; kq = c.call.new.self } in
     let writes = c.get_mut.follows.holds w in
-    let found : lookup (nat_eq c.args.kqueue) es ≡ Some v = sym c.in-Some.ensures.value ∙ ap Some (sym c.live.view_is) in
+    let found : lookup (nat_eq c.args.kqueue) es ≡ Some v = sym c.in-Some.ensures.value
+    ∙ ap Some (sym c.live.view_is) in
     let kept = c.self.invariant in
     subst (IsLawful c.self.inside.version c.self.inside.applied c.self.inside.world) (sym writes.0) (record {
       version_one = kept.version_one;
       of_version = version_kept c.self.inside.version c.args.kqueue es v w found c.call.ensures.version kept.of_version;
       born = subst (AreUpTo c.self.inside.applied) (sym (keys_kept c.args.kqueue es w)) kept.born;
-      all_live = named_kept c.args.kqueue es v w found refl c.call.ensures.owner c.self.inside.world.table kept.all_live;
+      all_live = named_kept c.args.kqueue es v w found refl c.call.ensures.owner c.self.inside.world.table
+          kept.all_live;
     })

@@ -7,7 +7,8 @@ use Rattle.kq_system.proofs.system.System.run.Goals as goal
 pub loop-event-init : goal.loop-event-init
 loop-event-init c =
     let es = c.as_slice-event-items.result.now in (
-      ap (λ l. l ++ rows_after 1 (system_of c.new-system.result) es) c.new-rows.ensures.items ∙ rows-begin c.args.trace.now.version es (system_of c.new-system.result) c.new-system.ensures.system,
+      ap (λ l. l ++ rows_after 1 (system_of c.new-system.result) es) c.new-rows.ensures.items
+          ∙ rows-begin c.args.trace.now.version es (system_of c.new-system.result) c.new-system.ensures.system,
       c.new-system.ensures.applied,
     )
 
@@ -16,8 +17,10 @@ loop-event-preserved c =
     let es = c.as_slice-event-items.result.now in
     let i = c.loop-event.event-index in
     let applied = c.in_ok-reply.ensures.applied ∙ ap (λ n. n + 1) c.loop-event.invariant.1 in (
-      kept_row es i c.event-item.result c.applied.result c.loop-event.system.applied (system_of c.loop-event.system) (system_of c.apply.new.self) c.in_ok-reply.reply
-          c.loop-event.rows.items c.put_row.new.rows.items c.loop-event-test.true c.event-item.is c.in_ok-reply.ensures.reply c.loop-event.invariant.1
+      kept_row es i c.event-item.result c.applied.result c.loop-event.system.applied (system_of c.loop-event.system)
+          (system_of c.apply.new.self) c.in_ok-reply.reply
+          c.loop-event.rows.items c.put_row.new.rows.items c.loop-event-test.true c.event-item.is
+          c.in_ok-reply.ensures.reply c.loop-event.invariant.1
           (c.applied.ensures ∙ applied) c.in_ok-put_row.ensures
           ∙ c.loop-event.invariant.0,
       applied,
@@ -25,5 +28,6 @@ loop-event-preserved c =
 
 pub returns : goal.returns
 returns c =
-    rows-end c.as_slice-event-items.result.now c.loop-event.event-index (c.loop-event.event-index + 1) (system_of c.loop-event.system) c.loop-event.rows.items c.loop-event-test.false
+    rows-end c.as_slice-event-items.result.now c.loop-event.event-index (c.loop-event.event-index + 1)
+    (system_of c.loop-event.system) c.loop-event.rows.items c.loop-event-test.false
     ∙ c.loop-event.invariant.0 ∙ ap (rows c.args.trace.now.version) c.as_slice-event-items.ensures

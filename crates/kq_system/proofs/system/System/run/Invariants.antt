@@ -5,5 +5,6 @@ use Rattle.kq_system.proofs.system.System.run.Given as goal
 
 abbrev pub invariant-loop-event : goal.invariant-loop-event
 invariant-loop-event l =
-    (l.rows.items ++ rows_after (l.event-index + 1) (system_of l.system) (drop l.event-index l.event-items) ≡ rows l.trace.version l.event-items)
+    (l.rows.items ++ rows_after (l.event-index + 1) (system_of l.system)
+    (drop l.event-index l.event-items) ≡ rows l.trace.version l.event-items)
     × (l.system.applied ≡ l.event-index)

@@ -15,5 +15,6 @@ returns-clause-done c =
     let absent = named_by-kept c.args.pid c.args.number old (world_of c.args.self.now) is ∙ c.requires in
     let table : map descriptor_of c.insert.new.self.entries
     ≡ with_kqueue c.args.place (Some (record { pid = c.args.pid; number = c.args.number })) c.args.self.now.table =
-    opened_kqueue c.args.place c.args.pid c.args.number old c.insert.new.self.entries c.args.self.now.table is absent entries in
+    opened_kqueue c.args.place c.args.pid c.args.number old c.insert.new.self.entries c.args.self.now.table is absent
+    entries in
     ap₂ world_with (ap (λ (w : WorldState). map live_process w.pids) c.self.view_is) table

@@ -13,6 +13,8 @@ returns-clause-done c =
     let is : processes ≡ map live_process old = ap (λ (w : WorldState). map live_process w.pids) (sym c.self.view_is) in
     let keys : c.insert.new.self.keys ≡ insert_key nat_cmp old c.args.pid = search rules in
     let grown : map live_process c.insert.new.self.keys ≡ with_process (Some (start_of c.args.pid)) processes =
-    begun c.args.pid old c.insert.new.self.keys processes is (was_used-kept c.args.pid old processes is ∙ c.requires) keys in
-    let table : map descriptor_of c.self.inside.table.entries ≡ c.args.self.now.table = ap (λ (w : WorldState). w.table) c.self.view_is in
+    begun c.args.pid old c.insert.new.self.keys processes is
+    (was_used-kept c.args.pid old processes is ∙ c.requires) keys in
+    let table : map descriptor_of c.self.inside.table.entries ≡ c.args.self.now.table = ap
+    (λ (w : WorldState). w.table) c.self.view_is in
     ap₂ world_with grown table
