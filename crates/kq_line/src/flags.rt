@@ -1,6 +1,6 @@
 //! Lists of names of flags.
 
-ghost use Rattle.std.specs.Prelude.{◌≡◌, ◌<◌, ◌∷◌, IfSome, Some, length};
+ghost use Rattle.std.specs.Prelude.{◌≡◌, ◌<◌, IfSome, Some, length};
 ghost use Rattle.bitflags.specs.Sets.{find_name};
 ghost use Rattle.kq_model.specs.FlagNames.{flag_table};
 ghost use Rattle.kq_line.specs.Values.{AreFlagNames};

@@ -1,6 +1,6 @@
 //! The members of an object, one after the other, in whatever order they stand.
 
-ghost use Rattle.std.specs.Prelude.{◌≡◌, ◌<◌, ℕ, IfSome, length};
+ghost use Rattle.std.specs.Prelude.{◌≡◌, ◌<◌, IfSome, length};
 ghost use Rattle.serde_json.specs.Data.{Members};
 ghost use Rattle.kq_line.specs.Shows.{Shows};
 ghost use Rattle.kq_line.specs.Spells.{AreMembers};

@@ -1,6 +1,6 @@
 //! Names in quotation marks.
 
-ghost use Rattle.std.specs.Prelude.{◌≡◌, ◌<◌, ◌≤◌, ◌∷◌, ◌++◌, IfSome, IsTrue, ◌↔◌, ◌⊎◌, List, ℕ, length, slice_index};
+ghost use Rattle.std.specs.Prelude.{◌≡◌, ◌<◌, ◌≤◌, ◌∷◌, ◌++◌, IfSome, IsTrue, ◌↔◌, List, ℕ, length, slice_index};
 ghost use Rattle.json.specs.Spaced.{IsGap};
 ghost use Rattle.kq_line.specs.Names.{IsLetter, IsName};
 

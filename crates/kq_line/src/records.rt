@@ -1,8 +1,12 @@
 //! A record by its kind: one function for each.
 //!
-//! A further kind has a function here, which looks up each of its members by type, tests that there are no
-//! others and makes the event, and a line in [`event_from`]; in `proofs/RecordKinds.antt` a lemma that says
-//! of which record these members are, and in `proofs/records/` an answer that cites it.
+//! To add a kind, write
+//! - a function here that looks up each member by its type, tests that there are no others (`width` counts `op`
+//!   too) and makes the event, under the contract of `kqueue` with the kind's name; and its branch in [`event_from`];
+//! - in `proofs/RecordKinds.antt` a lemma that says which record these members are, in `proofs/records/` an answer
+//!   that cites it, and one for the branch;
+//! - for a member of a type that is new, a look-up in `lookup.rt`, what it says in `specs/Typed.antt`, and a lemma in
+//!   `proofs/LookUps.antt`. A kind of more than `MOST_MEMBERS` members needs that number raised.
 
 ghost use Rattle.std.specs.Prelude.{◌≡◌, IfSome, Some, Ok, codes};
 ghost use Rattle.serde_json.specs.Data.{Members, object};

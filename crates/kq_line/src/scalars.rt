@@ -1,6 +1,6 @@
 //! Values that have no parts: numbers, names, true and false.
 
-ghost use Rattle.std.specs.Prelude.{◌≡◌, ◌<◌, ◌∷◌, ◌++◌, IfSome, length};
+ghost use Rattle.std.specs.Prelude.{◌≡◌, ◌<◌, ◌++◌, IfSome, length};
 ghost use Rattle.kq_line.specs.Values.{IsScalar};
 
 use crate::cursor::behind;

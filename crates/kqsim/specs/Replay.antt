@@ -10,7 +10,8 @@ use Rattle.kqsim.specs.declared.fault.Fault.TheVariants.{Usage, Read, Trace, Mem
 
 -- the text is the report of the trace that these bytes are, of the version that it names
 abbrev pub IsReport : List ℕ → List ℕ → Type 0
-IsReport bytes text = (version : ℕ) × (events : List Event) × (reading bytes ≡ Good version events) × (text ≡ report_of version events)
+IsReport bytes text =
+    (version : ℕ) × (events : List Event) × (reading bytes ≡ Good version events) × (text ≡ report_of version events)
 
 -- the fault can come from these bytes and so many workers; that memory was refused is no fact of either
 abbrev pub IsFault : List ℕ → ℕ → Fault → Type 0
