@@ -48,8 +48,6 @@ pub mod FileRows
 pub mod HeldObjects
 pub mod HeldNames
 pub mod CountedNotes
-pub mod CountedPlans
-pub mod FreePlaces
 pub mod ReleasedAll
 pub mod UntouchedViews
 pub mod SeenWorld

@@ -2,4 +2,3 @@ pub mod Making
 pub mod Ready
 pub mod Notes
 pub mod Releasing
-pub mod Counted
