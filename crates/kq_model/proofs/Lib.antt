@@ -54,3 +54,5 @@ pub mod SeenWorld
 pub mod WorldPlayed
 pub mod WorldDescriptors
 pub mod WorldObjects
+pub mod CountedPlans
+pub mod FreePlaces
