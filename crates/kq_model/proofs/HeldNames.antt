@@ -36,7 +36,7 @@ module _ (p q : ℕ) (fewer more : ℕ) (is : more ≡ fewer + one_if (q == p)) 
 pub as_often : (more fewer : ℕ) → more ≡ fewer + 0 → fewer ≡ more
 as_often more fewer e = omega arith
 
-no-kqueue : (m : Named) (p : ℕ) → is_same m (Kqueue p) ≡ false
+pub no-kqueue : (m : Named) (p : ℕ) → is_same m (Kqueue p) ≡ false
 unfolding is_same
 no-kqueue (Socket q) p = refl
 no-kqueue (PipeRead q) p = refl

@@ -56,3 +56,8 @@ pub mod WorldDescriptors
 pub mod WorldObjects
 pub mod CountedPlans
 pub mod FreePlaces
+pub mod CountedTables
+pub mod LiveProcesses
+pub mod CountedSteps
+pub mod CountedWorld
+pub mod CountedRecords
