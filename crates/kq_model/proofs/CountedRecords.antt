@@ -1,6 +1,6 @@
 -- Each record about sockets, pipes and files keeps that the objects count the descriptors that name them:
 -- what it makes is named by the descriptors that it opens.
-use Rattle.std.proofs.Common.{◌≡◌, ◌∙◌, ℕ, ◌+◌, ◌<◌, ◌==◌, pos, true, false, not, ◌&&◌, eqb, List, [], ◌∷◌, Option, Some, None, Ok, Err, refl, sym, ap, subst, arith, if◌then◌else◌}
+use Rattle.std.proofs.Common.{◌≡◌, ◌∙◌, ℕ, ◌+◌, ◌<◌, ◌==◌, pos, true, false, ◌&&◌, eqb, List, [], ◌∷◌, Option, Some, None, Ok, Err, refl, sym, ap, subst, arith, if◌then◌else◌}
 use Rattle.std.proofs.lemmas.Bool.Decides.{nat_tests}
 use Rattle.std.proofs.lemmas.List.Elements.{All-nil, All-cons}
 use Rattle.std.specs.Option.{is_some}

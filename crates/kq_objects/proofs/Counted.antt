@@ -1,9 +1,9 @@
 -- Where the objects are counted by the tables, a descriptor more or less of a name in them can be counted.
-use Rattle.std.proofs.Common.{◌≡◌, ◌<◌, ◌≤◌, ◌+◌, ◌^◌, ℕ, ℤ, pos, ◌+ℤ◌, ◌≤ℤ◌, ◌<ℤ◌, List, length, arith}
+use Rattle.std.proofs.Common.{◌≡◌, ◌<◌, ◌≤◌, ◌+◌, ◌^◌, ℕ, ℤ, pos, ◌≤ℤ◌, List, length, arith}
 use Rattle.std.proofs.lemmas.Int.{ints}
 use Rattle.kq_model.specs.declared.object.Named.{Named}
 use Rattle.kq_model.specs.declared.object.Named.TheVariants.{Socket, PipeRead, PipeWrite, Open, Kqueue}
-use Rattle.kq_model.specs.Holding.{times, IsCounted, IsNamed}
+use Rattle.kq_model.specs.Holding.{IsCounted, IsNamed}
 use Rattle.kq_model.specs.Objects.{Objects, counted}
 use Rattle.kq_model.proofs.HeldNames.{times-within}
 use Rattle.kq_objects.specs.Fits.{HasRoomToHold}
