@@ -61,3 +61,5 @@ pub mod LiveProcesses
 pub mod CountedSteps
 pub mod CountedWorld
 pub mod CountedRecords
+pub mod NamedWorld
+pub mod ListedObjects
