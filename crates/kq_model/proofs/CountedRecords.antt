@@ -23,12 +23,13 @@ use Rattle.kq_model.specs.Processes.{is_live, with_disposition, with_process, wi
 use Rattle.kq_model.specs.ProcessPlans.{names_of}
 use Rattle.kq_model.specs.World.{World, Planned, Impossible, Possible, carried_out, clock_after, idle, named_by, with_kqueue}
 use Rattle.kq_model.proofs.CountedPlans.{counted-plan}
-use Rattle.kq_model.proofs.CountedSteps.{below-here, further, on_descriptor-keeps, unless}
+use Rattle.kq_model.proofs.CountedSteps.{below-here, further, impossible}
 use Rattle.kq_model.proofs.CountedTables.{AreNew, named_among-with, times-with_descriptors, with_descriptors-rising, without_closed-nothing}
 use Rattle.kq_model.proofs.Descriptors.{with_descriptors-all}
 use Rattle.kq_model.proofs.FreePlaces.{held-all_done}
 use Rattle.kq_model.proofs.HeldNames.{times-append}
 use Rattle.kq_model.proofs.KnoteLaws.{by_test}
+use Rattle.kq_model.proofs.PlanReasons.{if_live-holds, on_descriptor-holds, unless, unless_open-holds}
 
 -- ---- records about objects
 
@@ -85,30 +86,7 @@ counted-act place a w none = act-keeps place w a [] (opens_none place w a none)
 pub counted-at : (place pid fd : ℕ) (at : Named → Act) (w : World counted) → ((n : Named) → made_names place (at n) ≡ []) → KeepsCounts place w (plan_at place pid fd at w)
 unfolding plan_at
 counted-at place pid fd at w none =
-    on_descriptor-keeps place w pid fd (λ n. plan_act place [] (at n) w) (λ n live found. counted-act place (at n) w (none n))
-
-if_live-keeps : (place : ℕ) (w : World counted) (pid : ℕ) (planned : Planned) → (is_live pid w.processes ≡ true → KeepsCounts place w planned)
-    → KeepsCounts place w (if_live pid w planned)
-unfolding if_live
-if_live-keeps place w pid planned keeps =
-    by_test (λ b. KeepsCounts place w (if b then planned else Impossible NoProcess)) (is_live pid w.processes) keeps (λ _. record { keeps = λ c. tt })
-
-is_none : (x : Option Named) → is_some x ≡ false → x ≡ None
-is_none None none = refl
-is_none (Some n) none = absurd (cc)
-
--- the numbers are not open
-abbrev AreClosed : ℕ → List ℕ → World counted → Type 0
-AreClosed pid [] w = Unit {0}
-AreClosed pid (number ∷ numbers) w = (named_among pid number w.table ≡ None) × AreClosed pid numbers w
-
-unless_open-keeps : (place : ℕ) (w : World counted) (pid : ℕ) (numbers : List ℕ) (planned : Planned) → (AreClosed pid numbers w → KeepsCounts place w planned)
-    → KeepsCounts place w (unless_open pid numbers w planned)
-unfolding unless_open named_by
-unless_open-keeps place w pid [] planned keeps = keeps tt
-unless_open-keeps place w pid (number ∷ numbers) planned keeps =
-    unless place w (is_some (named_among pid number w.table)) UsedDescriptor (unless_open pid numbers w planned)
-    (λ none. unless_open-keeps place w pid numbers planned (λ closed. keeps (is_none (named_among pid number w.table) none, closed)))
+    on_descriptor-holds (KeepsCounts place w) (impossible place w) w pid fd (λ n. plan_act place [] (at n) w) (λ n live found. counted-act place (at n) w (none n))
 
 opens_one : (place pid fd : ℕ) (n : Named) (w : World counted) (a : Act) → made_names place a ≡ n ∷ [] → place_named n ≡ place
     → is_live pid w.processes ≡ true → named_among pid fd w.table ≡ None → Opens place w a (descriptor pid fd n ∷ [])
@@ -124,7 +102,7 @@ unfolding plan_socket made_names
 counted-socket place pid fd receive send w =
     let ds : List Descriptor = descriptor pid fd (named.Socket place) ∷ [] in
     let made : Planned = plan_act place ds (act.Socket receive send) w in
-    if_live-keeps place w pid (unless_open pid (fd ∷ []) w made) (λ live. unless_open-keeps place w pid (fd ∷ []) made
+    if_live-holds (KeepsCounts place w) (impossible place w) w pid (unless_open pid (fd ∷ []) w made) (λ live. unless_open-holds (KeepsCounts place w) (impossible place w) w pid (fd ∷ []) made
     (λ closed. act-keeps place w (act.Socket receive send) ds (opens_one place pid fd (named.Socket place) w (act.Socket receive send) refl refl live closed.0)))
 
 pub counted-accept : (place pid fd to receive send : ℕ) (w : World counted) → KeepsCounts place w (plan_accept place pid fd to receive send w)
@@ -132,7 +110,7 @@ unfolding plan_accept made_names
 counted-accept place pid fd to receive send w =
     let ds : List Descriptor = descriptor pid to (named.Socket place) ∷ [] in
     let made : Named → Planned = λ n. plan_act place ds (act.Accept n receive send) w in
-    on_descriptor-keeps place w pid fd (λ n. unless_open pid (to ∷ []) w (made n)) (λ n live found. unless_open-keeps place w pid (to ∷ []) (made n)
+    on_descriptor-holds (KeepsCounts place w) (impossible place w) w pid fd (λ n. unless_open pid (to ∷ []) w (made n)) (λ n live found. unless_open-holds (KeepsCounts place w) (impossible place w) w pid (to ∷ []) (made n)
     (λ closed. act-keeps place w (act.Accept n receive send) ds (opens_one place pid to (named.Socket place) w (act.Accept n receive send) refl refl live closed.0)))
 
 pub counted-open : (place pid fd file : ℕ) (mode : Mode) (w : World counted) → KeepsCounts place w (plan_open place pid fd file mode w)
@@ -140,7 +118,7 @@ unfolding plan_open made_names
 counted-open place pid fd file mode w =
     let ds : List Descriptor = descriptor pid fd (named.Open place file) ∷ [] in
     let made : Planned = plan_act place ds (act.Open file mode) w in
-    if_live-keeps place w pid (unless_open pid (fd ∷ []) w made) (λ live. unless_open-keeps place w pid (fd ∷ []) made
+    if_live-holds (KeepsCounts place w) (impossible place w) w pid (unless_open pid (fd ∷ []) w made) (λ live. unless_open-holds (KeepsCounts place w) (impossible place w) w pid (fd ∷ []) made
     (λ closed. act-keeps place w (act.Open file mode) ds (opens_one place pid fd (named.Open place file) w (act.Open file mode) refl refl live closed.0)))
 
 other_number : (a b c d : ℕ) → eqb b d ≡ false → (eqb a c && eqb b d) ≡ false
@@ -166,8 +144,8 @@ unfolding plan_pipe
 counted-pipe place pid read_fd write_fd cap w =
     let made : Planned = plan_act place (pipe_ends place pid read_fd write_fd) (act.Pipe cap) w in
     let unless_used : Planned = unless_open pid (read_fd ∷ write_fd ∷ []) w made in
-    if_live-keeps place w pid (if read_fd == write_fd then Impossible UsedDescriptor else unless_used)
-    (λ live. unless place w (read_fd == write_fd) UsedDescriptor unless_used
-    (λ apart. unless_open-keeps place w pid (read_fd ∷ write_fd ∷ []) made
+    if_live-holds (KeepsCounts place w) (impossible place w) w pid (if read_fd == write_fd then Impossible UsedDescriptor else unless_used)
+    (λ live. unless (KeepsCounts place w) (impossible place w) w (read_fd == write_fd) UsedDescriptor unless_used
+    (λ apart. unless_open-holds (KeepsCounts place w) (impossible place w) w pid (read_fd ∷ write_fd ∷ []) made
     (λ closed. act-keeps place w (act.Pipe cap) (pipe_ends place pid read_fd write_fd)
     (opens_ends place pid read_fd write_fd cap w live apart closed.0 closed.1.0))))

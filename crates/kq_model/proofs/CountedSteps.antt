@@ -36,37 +36,8 @@ counted-empty = record {
   below = All-nil (NamesBelow 1);
 }
 
--- ---- reasons come first
-
-pub unless : (place : ℕ) (w : World counted) (refused : Bool) (why : Why) (planned : Planned) → (refused ≡ false → KeepsCounts place w planned)
-    → KeepsCounts place w (if refused then Impossible why else planned)
-unless place w refused why planned keeps =
-    by_test (λ b. KeepsCounts place w (if b then Impossible why else planned)) refused (λ _. record { keeps = λ c. tt }) keeps
-
-not_not : (b : Bool) → not b ≡ false → b ≡ true
-not_not true e = refl
-not_not false e = absurd (cc)
-
--- of a live process
-pub unless_gone : (place : ℕ) (w : World counted) (pid : ℕ) (planned : Planned) → (is_live pid w.processes ≡ true → KeepsCounts place w planned)
-    → KeepsCounts place w (if not (is_live pid w.processes) then Impossible NoProcess else planned)
-unless_gone place w pid planned keeps =
-    unless place w (not (is_live pid w.processes)) NoProcess planned (λ live. keeps (not_not (is_live pid w.processes) live))
-
--- of a number that is open
-on_named-keeps : (place : ℕ) (w : World counted) (planned : Named → Planned) (found : Option Named)
-    → ((n : Named) → found ≡ Some n → KeepsCounts place w (planned n)) → KeepsCounts place w (on_named planned found)
-unfolding on_named
-on_named-keeps place w planned None keeps = record { keeps = λ c. tt }
-on_named-keeps place w planned (Some n) keeps = keeps n refl
-
-pub on_descriptor-keeps : (place : ℕ) (w : World counted) (pid number : ℕ) (planned : Named → Planned)
-    → ((n : Named) → is_live pid w.processes ≡ true → named_among pid number w.table ≡ Some n → KeepsCounts place w (planned n))
-    → KeepsCounts place w (on_descriptor pid number planned w)
-unfolding on_descriptor named_by
-on_descriptor-keeps place w pid number planned keeps =
-    unless_gone place w pid (on_named planned (named_among pid number w.table))
-    (λ live. on_named-keeps place w planned (named_among pid number w.table) (λ n found. keeps n live found))
+pub impossible : (place : ℕ) (w : World counted) (why : Why) → KeepsCounts place w (Impossible why)
+impossible place w why = record { keeps = λ c. tt }
 
 -- ---- nothing is opened, closed or noted
 

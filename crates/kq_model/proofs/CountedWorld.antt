@@ -19,47 +19,48 @@ use Rattle.kq_model.specs.Objects.{Objects, counted, all_done}
 use Rattle.kq_model.specs.Processes.{Process, Start, Exit, Disposition, ignored_by, ignores_none, is_live, process_of, was_used, with_disposition, with_process, with_start, without_process}
 use Rattle.kq_model.specs.ProcessPlans.{delivery, descriptors_of, hold_all, inherited, is_signal, names_of, noted, pairs_of, plan_clock, plan_exec, plan_exit, plan_fork, plan_proc, plan_sig, plan_sigset}
 use Rattle.kq_model.specs.World.{World, Plan, Planned, Impossible, Possible, carried_out, clock_after, idle, named_by, with_kqueue}
-use Rattle.kq_model.proofs.CountedSteps.{below-here, further, on_descriptor-keeps, one_higher, quiet, same_processes, unless, unless_gone}
+use Rattle.kq_model.proofs.CountedSteps.{below-here, further, impossible, one_higher, quiet, same_processes}
 use Rattle.kq_model.proofs.CountedTables.{inherited-all, inherited-new, inherited-owned, named_among-all, named_among-closed, named_among-none, one_pair, times-parts, times-with_descriptor, times-with_descriptors, times-without, with_descriptors-rising, without_closed-nothing, without_closed-process}
 use Rattle.kq_model.proofs.Descriptors.{with_descriptor-all, with_descriptor-rising, with_descriptors-all, without_closed-rising}
 use Rattle.kq_model.proofs.FreePlaces.{held-all_done}
 use Rattle.kq_model.proofs.HeldNames.{counted-more, counted-fewer, counted-all_held, counted-all_released, no-kqueue}
 use Rattle.kq_model.proofs.KnoteLaws.{by_test}
 use Rattle.kq_model.proofs.LiveProcesses.{live-started, live-with_disposition, live-with_start, owned-without_process, unused-live}
+use Rattle.kq_model.proofs.PlanReasons.{no_name, on_descriptor-holds, unless, unless_gone}
 use Rattle.kq_model.proofs.ReleasedAll.{all_done-append, release-counted, release_all-done}
 
 pub counted-proc : (place pid : ℕ) (w : World counted) → KeepsCounts place w (plan_proc pid w)
 unfolding plan_proc carried_out with_kqueue with_descriptors with_process without_process with_disposition clock_after all_done
 counted-proc place pid w =
     let s : Start = record { pid = pid; ignores = ignores_none } in
-    unless place w (was_used pid w.processes) UsedPid (Possible (record idle { started = Some s }))
+    unless (KeepsCounts place w) (impossible place w) w (was_used pid w.processes) UsedPid (Possible (record idle { started = Some s }))
     (λ _. record { keeps = quiet place w (with_start s w.processes) w.now (λ p. live-with_start s p w.processes) })
 
 pub counted-exec : (place pid : ℕ) (w : World counted) → KeepsCounts place w (plan_exec pid w)
 unfolding plan_exec carried_out with_kqueue with_descriptors with_process without_process with_disposition clock_after all_done
 counted-exec place pid w =
-    unless_gone place w pid (Possible (record idle { hints = noted pid exec_note ∷ [] })) (λ live. record { keeps = same_processes place w w.now })
+    unless_gone (KeepsCounts place w) (impossible place w) w pid (Possible (record idle { hints = noted pid exec_note ∷ [] })) (λ live. record { keeps = same_processes place w w.now })
 
 pub counted-sigset : (place pid signal : ℕ) (ignore : Bool) (w : World counted) → KeepsCounts place w (plan_sigset pid signal ignore w)
 unfolding plan_sigset carried_out with_kqueue with_descriptors with_process without_process clock_after all_done
 counted-sigset place pid signal ignore w =
     let d : Disposition = record { pid = pid; signal = signal; ignore = ignore } in
     let does : Planned = Possible (record idle { disposed = Some d }) in
-    unless_gone place w pid (if not (is_signal signal) then Impossible TooMany else does)
-    (λ _. unless place w (not (is_signal signal)) TooMany does
+    unless_gone (KeepsCounts place w) (impossible place w) w pid (if not (is_signal signal) then Impossible TooMany else does)
+    (λ _. unless (KeepsCounts place w) (impossible place w) w (not (is_signal signal)) TooMany does
     (λ _. record { keeps = quiet place w (with_disposition (Some d) w.processes) w.now (λ p live. live-with_disposition p d w.processes ∙ live) }))
 
 pub counted-sig : (place pid signal : ℕ) (w : World counted) → KeepsCounts place w (plan_sig pid signal w)
 unfolding plan_sig carried_out with_kqueue with_descriptors with_process without_process with_disposition clock_after all_done
 counted-sig place pid signal w =
     let heard : Planned = Possible (record idle { hints = delivery pid signal (ignored_by (process_of pid w.processes) signal) }) in
-    unless_gone place w pid (if not (is_signal signal) then Impossible TooMany else heard)
-    (λ _. unless place w (not (is_signal signal)) TooMany heard (λ _. record { keeps = same_processes place w w.now }))
+    unless_gone (KeepsCounts place w) (impossible place w) w pid (if not (is_signal signal) then Impossible TooMany else heard)
+    (λ _. unless (KeepsCounts place w) (impossible place w) w (not (is_signal signal)) TooMany heard (λ _. record { keeps = same_processes place w w.now }))
 
 pub counted-clock : (place moment : ℕ) (w : World counted) → KeepsCounts place w (plan_clock moment w)
 unfolding plan_clock carried_out with_kqueue with_descriptors with_process without_process with_disposition clock_after all_done
 counted-clock place moment w =
-    unless place w (nat_lt moment w.now) ClockBack (Possible (record idle { clock = Some (record { from = w.now; to = moment }) }))
+    unless (KeepsCounts place w) (impossible place w) w (nat_lt moment w.now) ClockBack (Possible (record idle { clock = Some (record { from = w.now; to = moment }) }))
     (λ _. record { keeps = same_processes place w moment })
 
 idle-keeps : (place : ℕ) (w : World counted) → KeepsCounts place w (Possible idle)
@@ -69,20 +70,16 @@ idle-keeps place w = record { keeps = same_processes place w w.now }
 call-keeps : (place : ℕ) (w : World counted) (changes : List Change) (room : ℕ) (n : Named) → KeepsCounts place w (plan_call changes room n)
 unfolding plan_call carried_out with_kqueue with_descriptors with_process without_process with_disposition clock_after all_done
 call-keeps place w changes room (named.Kqueue at) =
-    unless place w (nat_lt most_changes (length changes) || nat_lt most_room room) TooMany
+    unless (KeepsCounts place w) (impossible place w) w (nat_lt most_changes (length changes) || nat_lt most_room room) TooMany
     (Possible (record idle { call = Some (record { kqueue = at; changes = changes; room = room }) })) (λ _. record { keeps = same_processes place w w.now })
 call-keeps place w changes room _ = record { keeps = λ c. tt }
 
 pub counted-kevent : (place pid fd : ℕ) (changes : List Change) (room : ℕ) (w : World counted) → KeepsCounts place w (plan_kevent pid fd changes room w)
 unfolding plan_kevent
 counted-kevent place pid fd changes room w =
-    on_descriptor-keeps place w pid fd (plan_call changes room) (λ n live found. call-keeps place w changes room n)
+    on_descriptor-holds (KeepsCounts place w) (impossible place w) w pid fd (plan_call changes room) (λ n live found. call-keeps place w changes room n)
 
 -- ---- a kqueue is made, which no object counts
-
-no_name : (x : Option Named) → is_some x ≡ false → x ≡ None
-no_name None none = refl
-no_name (Some n) none = absurd (cc)
 
 zero_more : (k : ℕ) → k + 0 ≡ k
 zero_more k = omega arith
@@ -113,8 +110,8 @@ module _ (place pid fd : ℕ) (w : World counted) where
 pub counted-kqueue : (place pid fd : ℕ) (w : World counted) → KeepsCounts place w (plan_kqueue pid fd w)
 unfolding plan_kqueue named_by
 counted-kqueue place pid fd w =
-    unless_gone place w pid (if is_some (named_among pid fd w.table) then Impossible UsedDescriptor else born place pid fd w)
-    (λ live. unless place w (is_some (named_among pid fd w.table)) UsedDescriptor (born place pid fd w)
+    unless_gone (KeepsCounts place w) (impossible place w) w pid (if is_some (named_among pid fd w.table) then Impossible UsedDescriptor else born place pid fd w)
+    (λ live. unless (KeepsCounts place w) (impossible place w) w (is_some (named_among pid fd w.table)) UsedDescriptor (born place pid fd w)
     (λ none. record { keeps = born-keeps place pid fd w live (no_name (named_among pid fd w.table) none) }))
 
 -- ---- descriptors are closed and shared
@@ -144,7 +141,7 @@ module _ (place pid fd : ℕ) (w : World counted) where
 pub counted-close : (place pid fd : ℕ) (w : World counted) → KeepsCounts place w (plan_close pid fd w)
 unfolding plan_close
 counted-close place pid fd w =
-    on_descriptor-keeps place w pid fd (closing place pid fd w) (λ n live found. record { keeps = close-keeps place pid fd w n found })
+    on_descriptor-holds (KeepsCounts place w) (impossible place w) w pid fd (closing place pid fd w) (λ n live found. record { keeps = close-keeps place pid fd w n found })
 
 -- one more number names what a number names; the one that it was is closed before
 module _ (place pid to : ℕ) (n : Named) (w : World counted) where
@@ -231,11 +228,11 @@ module _ (place pid fd to : ℕ) (w : World counted) where
 pub counted-dup : (place pid fd to : ℕ) (w : World counted) → KeepsCounts place w (plan_dup pid fd to w)
 unfolding plan_dup
 counted-dup place pid fd to w =
-    on_descriptor-keeps place w pid fd (duplicated pid fd to w) (duplicated-keeps place pid fd to w)
+    on_descriptor-holds (KeepsCounts place w) (impossible place w) w pid fd (duplicated pid fd to w) (duplicated-keeps place pid fd to w)
 
 -- ---- all descriptors of a process
 
-hold_all-done : (ns : List Named) (o : Objects counted) → all_done (hold_all ns) o ≡ all_held ns o
+pub hold_all-done : (ns : List Named) (o : Objects counted) → all_done (hold_all ns) o ≡ all_held ns o
 unfolding hold_all all_held hold all_done
 hold_all-done [] o = refl
 hold_all-done (n ∷ ns) o = all_done-append (hold_doings n) (hold_all ns) o ∙ hold_all-done ns (all_done (hold_doings n) o)
@@ -286,8 +283,8 @@ module _ (place pid child : ℕ) (w : World counted) where
 pub counted-fork : (place pid child : ℕ) (w : World counted) → KeepsCounts place w (plan_fork pid child w)
 unfolding plan_fork
 counted-fork place pid child w =
-    unless_gone place w pid (if was_used child w.processes then Impossible UsedPid else forks place pid child w)
-    (λ live. unless place w (was_used child w.processes) UsedPid (forks place pid child w) (λ unused. record { keeps = fork-keeps place pid child w unused }))
+    unless_gone (KeepsCounts place w) (impossible place w) w pid (if was_used child w.processes then Impossible UsedPid else forks place pid child w)
+    (λ live. unless (KeepsCounts place w) (impossible place w) w (was_used child w.processes) UsedPid (forks place pid child w) (λ unused. record { keeps = fork-keeps place pid child w unused }))
 
 module _ (place pid status : ℕ) (w : World counted) where
   abbrev end : Exit
@@ -323,4 +320,4 @@ module _ (place pid status : ℕ) (w : World counted) where
 
 pub counted-exit : (place pid status : ℕ) (w : World counted) → KeepsCounts place w (plan_exit pid status w)
 unfolding plan_exit
-counted-exit place pid status w = unless_gone place w pid (exits place pid status w) (λ live. record { keeps = exit-keeps place pid status w })
+counted-exit place pid status w = unless_gone (KeepsCounts place w) (impossible place w) w pid (exits place pid status w) (λ live. record { keeps = exit-keeps place pid status w })

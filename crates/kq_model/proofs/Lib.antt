@@ -63,3 +63,6 @@ pub mod CountedWorld
 pub mod CountedRecords
 pub mod NamedWorld
 pub mod ListedObjects
+pub mod ListedPlans
+pub mod PlanReasons
+pub mod ListedWorld

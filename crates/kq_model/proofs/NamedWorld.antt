@@ -29,7 +29,7 @@ once : (p : ℕ) → one_if (p == p) ≡ 1
 unfolding one_if
 once p = ap (λ b. cond b 1 0) (eq-eqb p p refl)
 
-named_first : (n : Named) (ms : List Named) → IsNamed n (n ∷ ms)
+pub named_first : (n : Named) (ms : List Named) → IsNamed n (n ∷ ms)
 unfolding times is_same
 named_first (Socket p) ms = let one = once p in omega arith
 named_first (PipeRead p) ms = let one = once p in omega arith
