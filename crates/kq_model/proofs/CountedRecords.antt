@@ -1,34 +1,32 @@
 -- Each record about sockets, pipes and files keeps that the objects count the descriptors that name them:
 -- what it makes is named by the descriptors that it opens.
-use Rattle.std.proofs.Common.{◌≡◌, ◌∙◌, ℕ, ◌+◌, ◌<◌, ◌==◌, pos, true, false, ◌&&◌, eqb, List, [], ◌∷◌, Option, Some, None, Ok, Err, refl, sym, ap, subst, arith, if◌then◌else◌}
+use Rattle.std.proofs.Common.{◌≡◌, ◌∙◌, ℕ, ◌+◌, ◌<◌, ◌==◌, pos, true, false, ◌&&◌, eqb, List, [], ◌∷◌, None, Ok, Err, refl, sym, ap, subst, arith, if◌then◌else◌}
 use Rattle.std.proofs.lemmas.Bool.Decides.{nat_tests}
 use Rattle.std.proofs.lemmas.List.Elements.{All-nil, All-cons}
-use Rattle.std.specs.Option.{is_some}
 use Rattle.std.specs.Prelude.{All}
 use Rattle.kq_model.specs.declared.act.Act.{Act}
 use Rattle.kq_model.specs.declared.act.Act.TheVariants as act
 use Rattle.kq_model.specs.declared.mode.Mode.{Mode}
 use Rattle.kq_model.specs.declared.object.Named.{Named}
 use Rattle.kq_model.specs.declared.object.Named.TheVariants as named
-use Rattle.kq_model.specs.declared.why.Why.TheVariants.{NoProcess, UsedDescriptor}
+use Rattle.kq_model.specs.declared.why.Why.TheVariants.{UsedDescriptor}
 use Rattle.kq_model.specs.CountedWorld.{place_named, NamesBelow, IsOwned, IsCountedWorld, Keeps, KeepsCounts}
 use Rattle.kq_model.specs.Descriptors.{Descriptor, named_among, with_descriptors}
 use Rattle.kq_model.specs.Holding.{made_names, times}
 use Rattle.kq_model.specs.ObjectPlan as object
 use Rattle.kq_model.specs.ObjectPlan.{ObjectPlan}
-use Rattle.kq_model.specs.ObjectRecordPlans.{descriptor, if_live, pipe_ends, plan_accept, plan_act, plan_at, plan_open, plan_pipe, plan_socket, unless_open, with_objects}
+use Rattle.kq_model.specs.ObjectRecordPlans.{descriptor, pipe_ends, plan_accept, plan_act, plan_at, plan_open, plan_pipe, plan_socket, unless_open, with_objects}
 use Rattle.kq_model.specs.Objects.{counted, all_done}
 use Rattle.kq_model.specs.Planning as object_planning
 use Rattle.kq_model.specs.Processes.{is_live, with_disposition, with_process, without_process}
 use Rattle.kq_model.specs.ProcessPlans.{names_of}
-use Rattle.kq_model.specs.World.{World, Planned, Impossible, Possible, carried_out, clock_after, idle, named_by, with_kqueue}
+use Rattle.kq_model.specs.World.{World, Planned, Impossible, Possible, carried_out, clock_after, idle, with_kqueue}
 use Rattle.kq_model.proofs.CountedPlans.{counted-plan}
 use Rattle.kq_model.proofs.CountedSteps.{below-here, further, impossible}
 use Rattle.kq_model.proofs.CountedTables.{AreNew, named_among-with, times-with_descriptors, with_descriptors-rising, without_closed-nothing}
 use Rattle.kq_model.proofs.Descriptors.{with_descriptors-all}
 use Rattle.kq_model.proofs.FreePlaces.{held-all_done}
 use Rattle.kq_model.proofs.HeldNames.{times-append}
-use Rattle.kq_model.proofs.KnoteLaws.{by_test}
 use Rattle.kq_model.proofs.PlanReasons.{if_live-holds, on_descriptor-holds, unless, unless_open-holds}
 
 -- ---- records about objects

@@ -1,22 +1,18 @@
 -- How it is shown that a record keeps the world counted: reasons come first, and where nothing is opened,
 -- closed or noted, the table and the objects are as before.
-use Rattle.std.proofs.Common.{◌≡◌, ℕ, ◌+◌, ◌<◌, Bool, true, false, not, List, [], Option, Some, None, refl, sym, subst, arith, if◌then◌else◌}
+use Rattle.std.proofs.Common.{◌≡◌, ℕ, ◌+◌, ◌<◌, true, List, [], refl, sym, subst, arith}
 use Rattle.std.proofs.lemmas.List.Elements.{All-nil, All-weaker}
 use Rattle.std.specs.Prelude.{All}
-use Rattle.kq_model.specs.declared.object.Named.{Named}
 use Rattle.kq_model.specs.declared.object.Named.TheVariants as named
 use Rattle.kq_model.specs.declared.why.Why.{Why}
-use Rattle.kq_model.specs.declared.why.Why.TheVariants.{NoProcess}
 use Rattle.kq_model.specs.CountedWorld.{place_named, NamesBelow, IsOwned, IsCountedWorld, KeepsCounts}
-use Rattle.kq_model.specs.Descriptors.{Descriptor, named_among, without_closed}
-use Rattle.kq_model.specs.DescriptorPlans.{on_descriptor, on_named}
+use Rattle.kq_model.specs.Descriptors.{Descriptor, without_closed}
 use Rattle.kq_model.specs.Holding.{holders_of, times, IsCounted}
 use Rattle.kq_model.specs.Objects.{counted, no_objects}
 use Rattle.kq_model.specs.Processes.{Process, is_live}
-use Rattle.kq_model.specs.World.{World, Planned, Impossible, empty_world, named_by}
+use Rattle.kq_model.specs.World.{World, Impossible, empty_world}
 use Rattle.kq_model.proofs.CountedTables.{without_closed-nothing}
 use Rattle.kq_model.proofs.FreePlaces.{held-none}
-use Rattle.kq_model.proofs.KnoteLaws.{by_test}
 
 -- at first there is nothing
 counts_nothing : IsCounted (no_objects counted) []

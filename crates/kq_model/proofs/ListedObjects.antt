@@ -11,7 +11,6 @@ use Rattle.std.specs.List.{list_any}
 use Rattle.std.specs.Prelude.{All}
 use Rattle.kq_model.specs.declared.doing.DescriptionRecord.{DescriptionRecord}
 use Rattle.kq_model.specs.declared.doing.DescriptionRecord.TheVariants as description
-use Rattle.kq_model.specs.declared.doing.Doing.{Doing}
 use Rattle.kq_model.specs.declared.doing.Doing.TheVariants.{ToSocket, ToPipe, ToDescription, ToFile}
 use Rattle.kq_model.specs.declared.doing.FileRecord.{FileRecord}
 use Rattle.kq_model.specs.declared.doing.FileRecord.TheVariants as file
@@ -20,11 +19,13 @@ use Rattle.kq_model.specs.declared.doing.SocketRecord.{SocketRecord}
 use Rattle.kq_model.specs.declared.mode.Mode.{Mode}
 use Rattle.kq_model.specs.declared.object.Named.{Named}
 use Rattle.kq_model.specs.declared.object.Named.TheVariants.{Socket, PipeRead, PipeWrite, Open, Kqueue}
+use Rattle.kq_model.specs.declared.object.Target.TheVariants as target
 use Rattle.kq_model.specs.Books.{instead}
 use Rattle.kq_model.specs.Files.{DescriptionState, FileState, description_after, file_after, file_of, opened, is_description_held}
 use Rattle.kq_model.specs.Holding.{description_holders, holders_of, hold, hold_doings, leaving, left, release, release_doings, all_held, all_released, is_last, times, IsCounted, IsNamed}
 use Rattle.kq_model.specs.ListedFiles.{is_listed, AreListed}
 use Rattle.kq_model.specs.Objects.{Objects, counted, done, all_done, kept, no_objects, told_of}
+use Rattle.kq_model.specs.Touching.{is_on, touches}
 use Rattle.kq_model.proofs.HeldNames.{counted-more}
 use Rattle.kq_model.proofs.KnoteLaws.{by_test}
 use Rattle.kq_model.proofs.NamedWorld.{more_named}
@@ -260,3 +261,16 @@ pub listed-all_released : (ns : List Named) (o : Objects counted) → AreListed 
 unfolding all_released
 listed-all_released [] o l = l
 listed-all_released (n ∷ ns) o l = listed-all_released ns (release n o) (listed-release n o l)
+
+-- ---- whose view a file's record can change
+
+on_list : (o : Objects counted) (place n : ℕ) (x : Option DescriptionState) → o.description place ≡ x → AreListed o → is_on n x ≡ true → is_listed place (o.file n) ≡ true
+unfolding is_on
+on_list o place n None is l on = absurd (true≢false (sym on))
+on_list o place n (Some s) is l on = ap (λ k. is_listed place (o.file k)) (eqb-true n s.file on) ∙ l.listed place s is
+
+-- the descriptions that what is noted of a file touches are those on its list
+pub touches-listed : (o : Objects counted) (place n : ℕ) (r : FileRecord) → AreListed o → touches (target.Open place) (ToFile n r) o ≡ true
+    → is_listed place (o.file n) ≡ true
+unfolding touches
+touches-listed o place n r l touched = on_list o place n (o.description place) refl l touched

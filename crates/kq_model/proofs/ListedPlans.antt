@@ -1,5 +1,5 @@
 -- Every plan of a record about objects keeps each file's list of its open descriptions whole.
-use Rattle.std.proofs.Common.{◌≡◌, ◌+◌, ◌-◌, ◌==◌, ◌&&◌, not, nat_lt, ℕ, ℤ, Bool, true, false, List, [], ◌∷◌, Option, None, Some, Result, Ok, Err, refl, subst, if◌then◌else◌}
+use Rattle.std.proofs.Common.{◌≡◌, ◌+◌, ◌-◌, ◌==◌, ◌&&◌, not, nat_lt, ℕ, ℤ, Bool, true, false, [], ◌∷◌, Option, None, Some, Result, Ok, Err, refl, subst, if◌then◌else◌}
 use Rattle.std.specs.Option.{is_some}
 use Rattle.kq_model.specs.declared.act.Act.{Act}
 use Rattle.kq_model.specs.declared.act.Act.TheVariants as act

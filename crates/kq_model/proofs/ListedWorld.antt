@@ -19,14 +19,14 @@ use Rattle.kq_model.specs.Descriptors.{Descriptor, named_among, without_closed}
 use Rattle.kq_model.specs.DescriptorPlans.{close_doings, close_hints, closes, duplicated, plan_call, plan_close, plan_dup, plan_kevent, plan_kqueue}
 use Rattle.kq_model.specs.Holding.{hold, hold_doings, release, release_all, release_doings, release_hint, release_hints, option_list, IsNamed}
 use Rattle.kq_model.specs.Limits.{most_changes, most_room}
-use Rattle.kq_model.specs.ListedFiles.{AreListed, StaysListed, KeepsLists}
+use Rattle.kq_model.specs.ListedFiles.{AreListed, KeepsLists}
 use Rattle.kq_model.specs.ObjectPlan as object
 use Rattle.kq_model.specs.ObjectRecordPlans.{descriptor, pipe_ends, plan_accept, plan_act, plan_at, plan_open, plan_pipe, plan_socket, unless_open, with_objects}
-use Rattle.kq_model.specs.Objects.{Objects, counted, all_done}
+use Rattle.kq_model.specs.Objects.{counted, all_done}
 use Rattle.kq_model.specs.Planning as object_planning
 use Rattle.kq_model.specs.Processes.{ignored_by, ignores_none, process_of, was_used}
 use Rattle.kq_model.specs.ProcessPlans.{delivery, descriptors_of, hold_all, inherited, is_signal, names_of, noted, pairs_of, plan_clock, plan_exec, plan_exit, plan_fork, plan_proc, plan_sig, plan_sigset}
-use Rattle.kq_model.specs.World.{World, Plan, Planned, Impossible, Possible, carried_out, empty_world, idle, named_by}
+use Rattle.kq_model.specs.World.{World, Planned, Impossible, Possible, carried_out, empty_world, idle, named_by}
 use Rattle.kq_model.proofs.CountedTables.{has_pair-one, inherited-all, one_pair, times-without}
 use Rattle.kq_model.proofs.CountedWorld.{hold_all-done}
 use Rattle.kq_model.proofs.HeldNames.{counted-fewer}
