@@ -1,5 +1,5 @@
 -- Sockets, files, signals and the clock by example, as the records of a trace give them.
-use Rattle.std.specs.Prelude.{◌≡◌, ℕ, ℤ, pos, ◌^◌, Bool, true, false, List, [], ◌∷◌, Option, Some, None}
+use Rattle.std.specs.Prelude.{◌≡◌, ℕ, ℤ, pos, negsuc, ◌^◌, Bool, true, false, List, [], ◌∷◌, Option, Some, None}
 use Rattle.std.proofs.Common.{refl}
 use Rattle.kq_model.specs.declared.act.Act.TheVariants as act
 use Rattle.kq_model.specs.declared.mode.Mode.{Mode}
@@ -161,9 +161,10 @@ signals =
     ∷ (λ place w. plan_sig 1 20 w)
     ∷ (λ place w. plan_sig 1 0 w)
     ∷ (λ place w. plan_sigset 1 129 true w)
-    ∷ (λ place w. plan_clock 5 w)
-    ∷ (λ place w. plan_clock 4 w)
-    ∷ (λ place w. plan_clock 5 w)
+    ∷ (λ place w. plan_clock (negsuc 0) w)
+    ∷ (λ place w. plan_clock (pos 5) w)
+    ∷ (λ place w. plan_clock (pos 4) w)
+    ∷ (λ place w. plan_clock (pos 5) w)
     ∷ (λ place w. plan_exit 1 256 w)
     ∷ (λ place w. plan_sig 1 15 w) ∷ []
 
@@ -176,6 +177,7 @@ pub signals_outcomes : outcomes signals ≡
     ∷ Done [] ((target.Signal 1 20, Delivered) ∷ [])
     ∷ Refused TooMany
     ∷ Refused TooMany
+    ∷ Refused ClockBack
     ∷ Done [] []
     ∷ Refused ClockBack
     ∷ Done [] []

@@ -1,7 +1,7 @@
 -- The plans of the records about processes, signals and the clock, each with its reasons in their order.
 -- Source: fork(2), execve(2), exit(3), sigaction(2), kill(2); NOTE_FORK, NOTE_EXEC and NOTE_EXIT of
 -- kqueue(2). What is impossible is this project's choice.
-use Rattle.std.specs.Prelude.{ℕ, ◌==◌, Bool, true, false, not, ◌&&◌, List, [], ◌∷◌, ◌++◌, map, nat_lt, Option, Some, None, if◌then◌else◌}
+use Rattle.std.specs.Prelude.{ℕ, ℤ, pos, negsuc, ◌==◌, Bool, true, false, not, ◌&&◌, List, [], ◌∷◌, ◌++◌, map, nat_lt, Option, Some, None, if◌then◌else◌}
 use Rattle.std.specs.List.{filter}
 use Rattle.kq_model.specs.declared.doing.Doing.{Doing}
 use Rattle.kq_model.specs.declared.object.Hint.TheVariants as hint
@@ -113,8 +113,9 @@ plan_sig pid signal w =
 
 -- ---- the clock
 
--- to a moment in ns; it may stay where it is
-unfoldable pub plan_clock : ℕ → World counted → Planned
-plan_clock moment w =
+-- To a moment in ns; it may stay where it is. The clock begins at 0, so every moment below 0 is behind it.
+unfoldable pub plan_clock : ℤ → World counted → Planned
+plan_clock (pos moment) w =
     if nat_lt moment w.now then Impossible ClockBack
     else Possible (record idle { clock = Some (record { from = w.now; to = moment }) })
+plan_clock (negsuc _) w = Impossible ClockBack
