@@ -1,5 +1,5 @@
 -- Records about files by example: each effect, each hint and each reason.
-use Rattle.std.specs.Prelude.{◌≡◌, pos, negsuc, true, false, [], ◌∷◌, ◌++◌, None, Some, Ok}
+use Rattle.std.specs.Prelude.{◌≡◌, pos, negsuc, [], ◌∷◌, None, Some, Ok}
 use Rattle.std.proofs.Common.{refl}
 use Rattle.kq_model.specs.declared.act.Act.TheVariants.{Socket, Read, Write, File, Open, Seek, Truncate, Note}
 use Rattle.kq_model.specs.declared.mode.Mode.TheVariants as mode

@@ -1,5 +1,5 @@
 -- One descriptor more, one less and many of them keep that the objects are counted by the tables.
-use Rattle.std.proofs.Common.{◌≡◌, ◌∙◌, ◌==◌, ◌≤◌, ℕ, ◌+◌, length, eq-eqb, nat_eq, ℤ, pos, ◌+ℤ◌, ◌-ℤ◌, Bool, true, false, List, [], ◌∷◌, ◌++◌, Option, None, Some, refl, sym, ap, arith, if◌then◌else◌}
+use Rattle.std.proofs.Common.{◌≡◌, ◌∙◌, ◌==◌, ◌≤◌, ℕ, ◌+◌, length, eq-eqb, ℤ, pos, ◌+ℤ◌, ◌-ℤ◌, Bool, true, false, List, [], ◌∷◌, ◌++◌, Option, None, Some, refl, sym, ap, arith, if◌then◌else◌}
 use Rattle.std.proofs.lemmas.Int.{ints}
 use Rattle.kq_model.specs.declared.doing.DescriptionRecord.TheVariants as description
 use Rattle.kq_model.specs.declared.doing.Doing.TheVariants.{ToDescription}

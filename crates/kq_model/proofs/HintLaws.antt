@@ -16,11 +16,11 @@ use Rattle.kq_model.specs.Knote.{Knote, key_eq, has_key, without_key, find_knote
 use Rattle.kq_model.specs.Kqueue.{Kqueue, AreOnce, HaveOwnKeys, is_waiting, IsSound}
 use Rattle.kq_model.specs.Look.{Seen, look}
 use Rattle.kq_model.specs.Registration.{queue_for}
-use Rattle.kq_model.specs.RegistrationLaws.{keys_of, is_there}
+use Rattle.kq_model.specs.RegistrationLaws.{keys_of}
 use Rattle.kq_model.specs.Targets.{Posted}
 use Rattle.kq_model.specs.Views.{Views}
 use Rattle.kq_model.proofs.KeyLaws.{same_key, key_eq-refl, key_eq-sym, has_key-append, has_key-without_other}
-use Rattle.kq_model.proofs.KeyLists.{and_off, and_false, or_false, or_there, without_key-absent, has_key-filter, AreOnce-filter, AreOnce-append, filter_agree_among, filter_both, filter_true}
+use Rattle.kq_model.proofs.KeyLists.{and_off, and_false, or_false, without_key-absent, has_key-filter, AreOnce-filter, AreOnce-append, filter_agree_among, filter_both, filter_true}
 use Rattle.kq_model.proofs.KnoteLaws.{by_test, found_or, find_knote-none, find_knote-key, find_knote-head, find_knote-tail, find_knote-here, find_knote-later, find_knote-append}
 
 -- ---- tests
