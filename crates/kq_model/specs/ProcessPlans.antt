@@ -113,9 +113,14 @@ plan_sig pid signal w =
 
 -- ---- the clock
 
--- To a moment in ns; it may stay where it is. The clock begins at 0, so every moment below 0 is behind it.
-unfoldable pub plan_clock : ℤ → World counted → Planned
-plan_clock (pos moment) w =
+-- to a moment in ns; it may stay where it is
+unfoldable pub plan_clock : ℕ → World counted → Planned
+plan_clock moment w =
     if nat_lt moment w.now then Impossible ClockBack
     else Possible (record idle { clock = Some (record { from = w.now; to = moment }) })
-plan_clock (negsuc _) w = Impossible ClockBack
+
+-- The moment of a record is a number with a sign. Text has none below 0, but a trace that was made in code may; the
+-- clock begins at 0, so each of those is behind it.
+unfoldable pub plan_clock_at : ℤ → World counted → Planned
+plan_clock_at (pos moment) w = plan_clock moment w
+plan_clock_at (negsuc _) w = Impossible ClockBack
