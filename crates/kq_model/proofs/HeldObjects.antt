@@ -11,7 +11,7 @@ use Rattle.kq_model.specs.Pipes as pipes
 use Rattle.kq_model.specs.Files as files
 use Rattle.kq_model.specs.Sockets.{SocketState}
 use Rattle.kq_model.specs.Pipes.{PipeState}
-use Rattle.kq_model.specs.Files.{DescriptionState}
+use Rattle.kq_model.specs.Files.{DescriptionState, FileState}
 use Rattle.kq_model.specs.Objects.{counted, kept, told_of}
 use Rattle.kq_model.specs.Holding.{socket_holders, readers, writers, description_holders}
 

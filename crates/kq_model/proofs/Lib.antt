@@ -56,3 +56,10 @@ pub mod SeenWorld
 pub mod WorldPlayed
 pub mod WorldDescriptors
 pub mod WorldObjects
+pub mod CountedPlans
+pub mod FreePlaces
+pub mod CountedTables
+pub mod LiveProcesses
+pub mod CountedSteps
+pub mod CountedWorld
+pub mod CountedRecords

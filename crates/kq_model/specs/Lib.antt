@@ -50,6 +50,7 @@ pub mod ProcessPlans
 pub mod DescriptorPlans
 pub mod ObjectRecordPlans
 pub mod Plans
+pub mod CountedWorld
 pub mod Moment
 pub mod System
 pub mod Subjects
