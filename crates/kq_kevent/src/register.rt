@@ -66,7 +66,7 @@ impl Kq {
         ensures error { result
             ≡ number_of (register (caller (V.sees views.now) self.old) change.now self.old.kq).error }
         // What this comes to for a user: other knotes and their order stay, ADD makes no second one,
-        // and a refused change changes nothing.
+        // and a change that is refused leaves the knotes and the queue as they are.
         ensures laws { IsRegistered change.now self.old.kq self.new.kq result }
 
         // The same in the words of the definitions, which keep all that was heard.

@@ -7,18 +7,29 @@ use kq_table::Keyed;
 use std::marker::Model;
 
 /// What a kqueue keeps of one registered kevent (kqueue(2)).
+// Fields lie in memory in the order of the source, so the wide ones stand first: there may be many knotes.
 #[derive(Debug, Drop, Clone, Copy)]
 pub struct Knote {
     /// Which knote of its kqueue it is.
     pub key: Key,
     /// What is watched; none where the change named nothing that is there.
     pub target: Option<Target>,
-    /// The filter's own flags, of the last change that set them.
-    pub fflags: u32,
+    /// What was heard since the last reset.
+    pub tally: Tally,
     /// The filter's own number, of the last change that set it.
     pub datum: i64,
     /// The caller's own, of the last change.
     pub udata: u64,
+    /// Of a timer, the moment at which it was started, in nanoseconds.
+    pub start: u64,
+    /// Of a timer, in nanoseconds.
+    pub period: u64,
+    /// The filter's own flags, of the last change that set them.
+    pub fflags: u32,
+    /// Of a user event, its low 24 bits.
+    pub bits: u32,
+    /// Of a user event: triggered since it was reset.
+    pub triggered: bool,
     /// Deleted when it is retrieved.
     pub oneshot: bool,
     /// Reset when it is retrieved.
@@ -27,18 +38,8 @@ pub struct Knote {
     pub dispatch: bool,
     /// May be returned.
     pub enabled: bool,
-    /// Its condition held when it was looked at last.
+    /// Its condition was seen to hold, and nothing has taken that back.
     pub active: bool,
-    /// What was heard since the last reset.
-    pub tally: Tally,
-    /// Of a timer, the moment at which it was started, in nanoseconds.
-    pub start: u64,
-    /// Of a timer, in nanoseconds.
-    pub period: u64,
-    /// Of a user event, its low 24 bits.
-    pub bits: u32,
-    /// Of a user event: triggered since it was reset.
-    pub triggered: bool,
 }
 
 impl Model for Knote {

@@ -1,6 +1,6 @@
 -- Each record about processes, signals, the clock and descriptors keeps that the objects count the
 -- descriptors that name them: its plan, carried out in such a world, leads to such a world.
-use Rattle.std.proofs.Common.{◌≡◌, ◌∙◌, ℕ, ◌+◌, ◌<◌, ◌==◌, nat_lt, pos, Bool, true, false, not, ◌||◌, eqb, length, List, [], ◌∷◌, ◌++◌, filter, Option, Some, None, refl, sym, ap, subst, arith, if◌then◌else◌}
+use Rattle.std.proofs.Common.{◌≡◌, ◌∙◌, ℕ, ℤ, ◌+◌, ◌<◌, ◌==◌, nat_lt, pos, negsuc, Bool, true, false, not, ◌||◌, eqb, length, List, [], ◌∷◌, ◌++◌, filter, Option, Some, None, refl, sym, ap, subst, arith, if◌then◌else◌}
 use Rattle.std.proofs.lemmas.Bool.{eqb-true}
 use Rattle.std.proofs.lemmas.List.Elements.{All-filter, All-weaker}
 use Rattle.std.specs.Option.{is_some}
@@ -17,7 +17,7 @@ use Rattle.kq_model.specs.Holding.{hold, hold_doings, is_same, one_if, option_li
 use Rattle.kq_model.specs.Limits.{most_changes, most_room}
 use Rattle.kq_model.specs.Objects.{Objects, counted, all_done}
 use Rattle.kq_model.specs.Processes.{Process, Start, Exit, Disposition, ignored_by, ignores_none, is_live, process_of, was_used, with_disposition, with_process, with_start, without_process}
-use Rattle.kq_model.specs.ProcessPlans.{delivery, descriptors_of, hold_all, inherited, is_signal, names_of, noted, pairs_of, plan_clock, plan_exec, plan_exit, plan_fork, plan_proc, plan_sig, plan_sigset}
+use Rattle.kq_model.specs.ProcessPlans.{delivery, descriptors_of, hold_all, inherited, is_signal, names_of, noted, pairs_of, plan_clock, plan_clock_at, plan_exec, plan_exit, plan_fork, plan_proc, plan_sig, plan_sigset}
 use Rattle.kq_model.specs.World.{World, Plan, Planned, Impossible, Possible, carried_out, clock_after, idle, named_by, with_kqueue}
 use Rattle.kq_model.proofs.CountedSteps.{below-here, further, impossible, one_higher, quiet, same_processes}
 use Rattle.kq_model.proofs.CountedTables.{inherited-all, inherited-new, inherited-owned, named_among-all, named_among-closed, named_among-none, one_pair, times-parts, times-with_descriptor, times-with_descriptors, times-without, with_descriptors-rising, without_closed-nothing, without_closed-process}
@@ -62,6 +62,11 @@ unfolding plan_clock carried_out with_kqueue with_descriptors with_process witho
 counted-clock place moment w =
     unless (KeepsCounts place w) (impossible place w) w (nat_lt moment w.now) ClockBack (Possible (record idle { clock = Some (record { from = w.now; to = moment }) }))
     (λ _. record { keeps = same_processes place w moment })
+
+pub counted-clock_at : (place : ℕ) (moment : ℤ) (w : World counted) → KeepsCounts place w (plan_clock_at moment w)
+unfolding plan_clock_at
+counted-clock_at place (pos moment) w = counted-clock place moment w
+counted-clock_at place (negsuc n) w = record { keeps = λ _. tt }
 
 idle-keeps : (place : ℕ) (w : World counted) → KeepsCounts place w (Possible idle)
 unfolding carried_out with_kqueue with_descriptors with_process without_process with_disposition clock_after all_done

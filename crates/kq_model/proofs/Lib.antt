@@ -1,6 +1,8 @@
 pub mod ListLaws
 pub mod KeyLaws
 pub mod KnoteLaws
+pub mod KeyLists
+pub mod HintLaws
 pub mod Subjects
 pub mod SubjectsCall
 pub mod CloseLaw

@@ -1,5 +1,5 @@
 -- Sockets, files, signals and the clock by example, as the records of a trace give them.
-use Rattle.std.specs.Prelude.{◌≡◌, ℕ, pos, ◌^◌, true, false, List, [], ◌∷◌, Some}
+use Rattle.std.specs.Prelude.{◌≡◌, ℕ, pos, negsuc, ◌^◌, true, false, List, [], ◌∷◌, Some}
 use Rattle.std.proofs.Common.{refl}
 use Rattle.kq_model.specs.declared.act.Act.TheVariants as act
 use Rattle.kq_model.specs.declared.mode.Mode.{Mode}
@@ -12,7 +12,7 @@ use Rattle.kq_model.specs.declared.side.Side.TheVariants as side
 use Rattle.kq_model.specs.declared.why.Why.TheVariants.{NoProcess, UsedDescriptor, WrongKind, Absent, UsedFile, ClockBack, TooMany}
 use Rattle.kq_model.specs.DescriptorPlans.{plan_close}
 use Rattle.kq_model.specs.ObjectRecordPlans.{plan_act, plan_at, plan_accept, plan_open, plan_socket}
-use Rattle.kq_model.specs.ProcessPlans.{plan_proc, plan_exit, plan_sigset, plan_sig, plan_clock}
+use Rattle.kq_model.specs.ProcessPlans.{plan_proc, plan_exit, plan_sigset, plan_sig, plan_clock_at}
 use Rattle.kq_model.specs.World.{view_in}
 use Rattle.kq_model.proofs.WorldPlayed.{Done, Refused, Planning, outcomes, world_after, world_opened}
 
@@ -159,9 +159,10 @@ signals =
     ∷ (λ place w. plan_sig 1 20 w)
     ∷ (λ place w. plan_sig 1 0 w)
     ∷ (λ place w. plan_sigset 1 129 true w)
-    ∷ (λ place w. plan_clock 5 w)
-    ∷ (λ place w. plan_clock 4 w)
-    ∷ (λ place w. plan_clock 5 w)
+    ∷ (λ place w. plan_clock_at (negsuc 0) w)
+    ∷ (λ place w. plan_clock_at (pos 5) w)
+    ∷ (λ place w. plan_clock_at (pos 4) w)
+    ∷ (λ place w. plan_clock_at (pos 5) w)
     ∷ (λ place w. plan_exit 1 256 w)
     ∷ (λ place w. plan_sig 1 15 w) ∷ []
 
@@ -174,6 +175,7 @@ pub signals_outcomes : outcomes signals ≡
     ∷ Done [] ((target.Signal 1 20, Delivered) ∷ [])
     ∷ Refused TooMany
     ∷ Refused TooMany
+    ∷ Refused ClockBack
     ∷ Done [] []
     ∷ Refused ClockBack
     ∷ Done [] []

@@ -70,7 +70,7 @@ unfolding on_named on_descriptor plan_close closes close_doings close_hints dupl
     pipes.pipe_state pipes.pipe_after pipes.pipe_view
     planning.plan_read planning.plan_write planning.plan
     processes.was_used processes.is_live processes.process_of processes.ignored_by processes.with_start processes.with_process processes.without_process processes.with_disposition
-    process_plans.is_kqueue process_plans.hold_all process_plans.plan_proc process_plans.plan_fork process_plans.plan_exec process_plans.plan_exit process_plans.is_signal process_plans.plan_sigset process_plans.delivery process_plans.plan_sig process_plans.plan_clock
+    process_plans.is_kqueue process_plans.hold_all process_plans.plan_proc process_plans.plan_fork process_plans.plan_exec process_plans.plan_exit process_plans.is_signal process_plans.plan_sigset process_plans.delivery process_plans.plan_sig process_plans.plan_clock process_plans.plan_clock_at
     socket_plans.plan_socket socket_plans.socket_found socket_plans.socket_at socket_plans.socket_plan socket_plans.step_of socket_plans.plan_at_socket socket_plans.accepted socket_plans.plan_accept
     socket_steps.is_capacity socket_steps.hint_on socket_steps.capacity_of socket_steps.listen socket_steps.arrive socket_steps.accept socket_steps.connect socket_steps.receive socket_steps.transmit socket_steps.shut socket_steps.low_water socket_steps.read_socket socket_steps.write_socket
     sockets.socket_state sockets.socket_after sockets.socket_view

@@ -1,5 +1,5 @@
--- A change in a record: an object with ident, filter and flags, and where they are not 0 with fflags,
--- data and udata.
+-- A change in a record: an object with ident, filter and flags, and any of fflags, data and udata; each of
+-- these three is 0 where it is missing.
 use Rattle.std.specs.Prelude.{ℕ, ◌+◌, ◌==◌, ℤ, pos, Bool, true, false, ◌&&◌, List, [], ◌∷◌, codes, Option, Some, None, option_and_then, if◌then◌else◌}
 use Rattle.std.specs.Option.{is_some}
 use Rattle.std.specs.Int.RustNames.{bit_or}
@@ -51,7 +51,14 @@ is_change d =
 -- the change with these parts, where all are there
 unfoldable pub change_with : Option ℕ → Option Filter → Option ℕ → Option ℕ → Option ℤ → Option ℕ → Option Change
 change_with (Some ident) (Some filter) (Some flags) (Some fflags) (Some datum) (Some udata) =
-    Some (record { ident = ident; filter = filter; flags = record { 0 = flags }; fflags = fflags; datum = datum; udata = udata })
+    Some (record {
+      ident = ident;
+      filter = filter;
+      flags = record { 0 = flags };
+      fflags = fflags;
+      datum = datum;
+      udata = udata;
+    })
 change_with _ _ _ _ _ _ = None
 
 -- the change, where its numbers are in range

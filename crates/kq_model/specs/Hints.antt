@@ -33,7 +33,7 @@ kept wanted Readable = Some Readable
 kept wanted Writable = Some Writable
 kept wanted Delivered = Some Delivered
 
--- the process has exited
+-- a PROC knote is told that its process exits
 unfoldable pub is_exit : Filter → Hint → Bool
 is_exit Proc (Note bits) = has_note bits exit_note
 is_exit _ _ = false
@@ -43,7 +43,8 @@ module _ {S : Type 0} {h : Hearing S} where
 
   -- the hints for this knote's target that its filter takes, in their order
   abbrev pub hints_for : Knote h → List Posted → List Hint
-  hints_for k posted = filter (takes k.key.filter) (map (λ (p : Posted). p.1) (filter (λ (p : Posted). is_target k.target p.0) posted))
+  hints_for k posted =
+      filter (takes k.key.filter) (map (λ (p : Posted). p.1) (filter (λ (p : Posted). is_target k.target p.0) posted))
 
   unfoldable pub added : Option Hint → Knote h → Knote h
   added None k = k
@@ -53,7 +54,7 @@ module _ {S : Type 0} {h : Hearing S} where
   heard_by [] k = k
   heard_by (hint ∷ hints) k = heard_by hints (added (kept k.fflags hint) k)
 
-  -- a PROC knote hears of the exit, which it may not have asked for
+  -- one of the hints is the exit, whether or not the knote asked for it
   abbrev pub hears_exit : List Hint → Knote h → Bool
   hears_exit hints k = list_any (is_exit k.key.filter) hints
 

@@ -65,11 +65,14 @@ pub record Knote {S : Type 0} (h : Hearing S) : Type 0 where
   pub fflags : ℕ
   pub datum : ℤ
   pub udata : ℕ
-  -- the actions, of the first ADD
+  -- the actions, of the change that made the knote; PROC, SIGNAL and TIMER have CLEAR always, and a PROC gets
+  -- ONESHOT when its process exits
   pub oneshot : Bool
   pub clear : Bool
   pub dispatch : Bool
+  -- it may be returned
   pub enabled : Bool
+  -- its condition was seen to hold, and nothing has taken that back
   pub active : Bool
   -- what was heard since the last reset
   pub seen : S

@@ -1,7 +1,7 @@
 -- The plans of the records about sockets, pipes and files: first the reasons that concern processes and
 -- descriptors, then those of the object.
 -- Source: socket(2), accept(2), pipe(2), open(2). What is impossible is this project's choice.
-use Rattle.std.specs.Prelude.{ℕ, ℤ, ◌==◌, Bool, not, ◌||◌, List, [], ◌∷◌, Option, Some, None, Ok, Err, if◌then◌else◌}
+use Rattle.std.specs.Prelude.{ℕ, ◌==◌, List, [], ◌∷◌, Ok, Err, if◌then◌else◌}
 use Rattle.std.specs.Option.{is_some}
 use Rattle.kq_model.specs.declared.act.Act.{Act}
 use Rattle.kq_model.specs.declared.act.Act.TheVariants as act

@@ -1,7 +1,7 @@
 -- The plans of the records about processes, signals and the clock, each with its reasons in their order.
 -- Source: fork(2), execve(2), exit(3), sigaction(2), kill(2); NOTE_FORK, NOTE_EXEC and NOTE_EXIT of
 -- kqueue(2). What is impossible is this project's choice.
-use Rattle.std.specs.Prelude.{ℕ, ◌==◌, Bool, true, false, not, ◌&&◌, List, [], ◌∷◌, ◌++◌, map, nat_lt, Option, Some, None, if◌then◌else◌}
+use Rattle.std.specs.Prelude.{ℕ, ℤ, pos, negsuc, ◌==◌, Bool, true, false, not, ◌&&◌, List, [], ◌∷◌, ◌++◌, map, nat_lt, Some, if◌then◌else◌}
 use Rattle.std.specs.List.{filter}
 use Rattle.kq_model.specs.declared.doing.Doing.{Doing}
 use Rattle.kq_model.specs.declared.object.Hint.TheVariants as hint
@@ -118,3 +118,9 @@ unfoldable pub plan_clock : ℕ → World counted → Planned
 plan_clock moment w =
     if nat_lt moment w.now then Impossible ClockBack
     else Possible (record idle { clock = Some (record { from = w.now; to = moment }) })
+
+-- The moment of a record is a number with a sign. Text has none below 0, but a trace that was made in code may; the
+-- clock begins at 0, so each of those is behind it.
+unfoldable pub plan_clock_at : ℤ → World counted → Planned
+plan_clock_at (pos moment) w = plan_clock moment w
+plan_clock_at (negsuc _) w = Impossible ClockBack

@@ -15,6 +15,7 @@ use Rattle.kq_model.specs.declared.object.View.TheVariants as view
 use Rattle.kq_model.specs.Bits.{asks, enable, disable, has_note, track_note}
 use Rattle.kq_model.specs.Caller.{Caller}
 use Rattle.kq_model.specs.Knote.{watches_number}
+use Rattle.kq_model.specs.Limits.{most_signal}
 use Rattle.kq_model.specs.Look.{is_simulated}
 use Rattle.kq_model.specs.Ticks.{period_of}
 
@@ -50,20 +51,21 @@ unfoldable pub is_live_process : Option View → Bool
 is_live_process (Some (view.Process None)) = true
 is_live_process _ = false
 
--- NOTE_TRACK is not known; only a live process can come to be watched
+-- NOTE_TRACK is not simulated; a new knote needs a process that has not exited, and one that is there does not
 unfoldable pub process_refusal : Caller → Bool → Change → Option Errno
 process_refusal caller is_new c =
     if has_note c.fflags track_note then Some EINVAL
     else if is_new && not (is_live_process (caller.views.view (Process c.ident))) then Some ESRCH
     else None
 
--- whether the change would make a new knote comes after the caller
+-- READ and WRITE need a number of their side, VNODE one of a file, SIGNAL the number of a signal, and TIMER a
+-- period; a USER is never refused. `is_new`: the change would make a knote
 unfoldable pub own_refusal : Filter → Caller → Bool → Change → Option Errno
 own_refusal Read caller is_new c = invalid_if (not (is_readable (caller.views.descriptor caller.owner c.ident)))
 own_refusal Write caller is_new c = invalid_if (not (is_writable (caller.views.descriptor caller.owner c.ident)))
 own_refusal Vnode caller is_new c = invalid_if (not (is_file (caller.views.descriptor caller.owner c.ident)))
 own_refusal Proc caller is_new c = process_refusal caller is_new c
-own_refusal Signal caller is_new c = invalid_if (nat_lt c.ident 1 || nat_lt 128 c.ident)
+own_refusal Signal caller is_new c = invalid_if (nat_lt c.ident 1 || nat_lt most_signal c.ident)
 own_refusal Timer caller is_new c = invalid_if (is_none (period_of c.datum c.fflags))
 own_refusal User caller is_new c = None
 own_refusal _ caller is_new c = None

@@ -1,4 +1,4 @@
--- The plans of the records about sockets. `place` is that of the record.
+-- The plans of the records about sockets. `place` is that of the socket: where a record makes one, its own.
 use Rattle.std.specs.Prelude.{ℕ, not, ◌&&◌, [], ◌∷◌, Option, Some, None, Result, Ok, Err, if◌then◌else◌}
 use Rattle.kq_model.specs.declared.doing.Doing.TheVariants.{ToSocket}
 use Rattle.kq_model.specs.declared.doing.SocketRecord.TheVariants.{Made, Connected}

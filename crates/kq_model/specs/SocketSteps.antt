@@ -20,7 +20,7 @@ SocketStep = Result (SocketRecord × Option Hint) Why
 unfoldable pub is_capacity : ℕ → Bool
 is_capacity n = nat_lt 0 n && nat_le n most_capacity
 
--- who is told that something changed on this side
+-- the hint that something changed on this side
 unfoldable pub hint_on : Side → Hint
 hint_on side.Read = Readable
 hint_on side.Write = Writable

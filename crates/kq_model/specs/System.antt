@@ -14,7 +14,7 @@ use Rattle.kq_model.specs.Objects.{Keeping}
 use Rattle.kq_model.specs.Plans.{plan}
 use Rattle.kq_model.specs.World.{World, empty_world, seen_world, Call, Planned, Impossible, Possible, carried_out}
 
--- a kqueue by the place of its birth, with the process and the number that own it
+-- a kqueue with the place of the record that made it, the pid of its owner and the number that names it there
 pub record Live {S : Type 0} (h : Hearing S) : Type 0 where
   pub place : ℕ
   pub owner : ℕ

@@ -72,7 +72,8 @@ in_order first (x ∷ xs) = placed first x (in_order first xs)
 abbrev pub walked_at_once : {X Key : Type 0} → Alarms X Key → (X → ℕ) → ℕ → ℕ → Waiting X Key → Waiting X Key
 walked_at_once a first from n w = record {
   items = map (λ x. rung_times a (counted (a.expires x) from n) x) w.items;
-  queue = w.queue ++ map a.key (in_order first (filter (λ x. nat_le (first x) (from + n) && is_fresh a w.queue x) w.items));
+  queue = w.queue
+      ++ map a.key (in_order first (filter (λ x. nat_le (first x) (from + n) && is_fresh a w.queue x) w.items));
 }
 
 -- the same from `from` to `to`: each item gets its ticks, and those with a tick go to the queue's back in
@@ -80,7 +81,9 @@ walked_at_once a first from n w = record {
 abbrev pub tickers_at_once : {X Key : Type 0} → Alarms X Key → ℕ → ℕ → Waiting X Key → Waiting X Key
 tickers_at_once a from to w = record {
   items = map (λ x. rung_times a (ticks_between (a.expires x) from to) x) w.items;
-  queue = w.queue ++ map a.key (in_order (λ x. next_tick (a.expires x) from) (filter (λ x. nat_lt 0 (ticks_between (a.expires x) from to) && is_fresh a w.queue x) w.items));
+  queue = w.queue
+      ++ map a.key (in_order (λ x. next_tick (a.expires x) from)
+      (filter (λ x. nat_lt 0 (ticks_between (a.expires x) from to) && is_fresh a w.queue x) w.items));
 }
 
 -- an expiration changes neither an item's key nor when it expires, nor whether it is enabled

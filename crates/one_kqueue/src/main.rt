@@ -4,12 +4,10 @@
 use bitflags::Flags;
 use kq_filters::NothingThere;
 use kq_kevent::Kq;
+use kq_model::notes::NOTE_TRIGGER;
 use kq_model::{Change, EvFlags, Filter, Memory, Reply};
 use std::alloc::Global;
 use std::io;
-
-/// NOTE_TRIGGER of kqueue(2): the user event happens now.
-const TRIGGER: u32 = 0x0100_0000;
 
 /// A change of the doorbell, which its user numbers 7.
 fn change(flags: EvFlags, fflags: u32) -> Change {
@@ -28,7 +26,7 @@ fn change(flags: EvFlags, fflags: u32) -> Change {
 fn rung(alloc: Global) -> Result<(Reply, Reply), Memory> {
     let mut kqueue = Kq::new(alloc, 1);
     let made = change(EvFlags::ADD.union(EvFlags::CLEAR), 0);
-    let ring = change(EvFlags::from_bits_retain(0), TRIGGER);
+    let ring = change(EvFlags::from_bits_retain(0), NOTE_TRIGGER);
     kqueue.call(&[made], 0, &NothingThere)?;
     kqueue.call(&[ring], 0, &NothingThere)?;
     let first = kqueue.call(&[], 4, &NothingThere)?;

@@ -3,14 +3,12 @@
 
 use bitflags::Flags;
 use kq_merge::report_text;
+use kq_model::notes::NOTE_TRIGGER;
 use kq_model::{Change, EvFlags, Event, Filter, Memory, Series, Trace};
 use kq_system::System;
 use std::alloc::Global;
 use std::io;
 use std::io::Write;
-
-/// NOTE_TRIGGER of kqueue(2): the user event happens now.
-const TRIGGER: u32 = 0x0100_0000;
 
 /// The process whose kqueue it is.
 const PID: u32 = 1;
@@ -48,7 +46,7 @@ fn doorbell(alloc: Global) -> Result<Trace, Memory> {
         Event::Proc { pid: PID },
         Event::Kqueue { pid: PID, fd: FD },
         call(alloc, Some((EvFlags::ADD.union(EvFlags::CLEAR), 0)), 0)?,
-        call(alloc, Some((ring, TRIGGER)), 0)?,
+        call(alloc, Some((ring, NOTE_TRIGGER)), 0)?,
         call(alloc, None, 4)?,
         call(alloc, None, 4)?,
         Event::Kevent {
