@@ -5,6 +5,14 @@ pub mod Subjects
 pub mod SubjectsCall
 pub mod CloseLaw
 pub mod NamedTargets
+pub mod ListFilters
+pub mod QueueKeys
+pub mod SameTarget
+pub mod PrivateParts
+pub mod PrivateStep
+pub mod PrivateReplay
+pub mod HistoryViews
+pub mod FoldAlone
 pub mod RegistrationLaws
 pub mod Descriptors
 pub mod LiveKqueues
