@@ -11,7 +11,7 @@ use Rattle.kq_model.specs.World.{World, Planned, Impossible, Possible, seen_worl
 
 module _ {A B C D : Type 0} {k : Keeping A B C D} (version : ℕ) where
   -- at this place or a later one, with what is seen there
-  abbrev IsAt : ℕ → World k → List Planned → Moment → Type 0
+  abbrev pub IsAt : ℕ → World k → List Planned → Moment → Type 0
   IsAt place w qs m = (place ≤ m.place) × (m.version ≡ version) × (m.views ≡ views_at place w qs m.place)
 
   world-now : (place : ℕ) (w : World k) (qs : List Planned) → world_at place (place + 1) w qs ≡ w

@@ -13,6 +13,11 @@ pub mod PrivateStep
 pub mod PrivateReplay
 pub mod HistoryViews
 pub mod FoldAlone
+pub mod Distinct
+pub mod MergedRows
+pub mod FoldRows
+pub mod PlannedCalls
+pub mod Projection
 pub mod RegistrationLaws
 pub mod Descriptors
 pub mod LiveKqueues

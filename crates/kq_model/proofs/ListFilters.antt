@@ -56,3 +56,8 @@ module _ {A : Type 0} (P : A → Type 0) where
   pub All-right : (xs ys : List A) → All P (xs ++ ys) → All P ys
   All-right [] ys all = all
   All-right (x ∷ xs) ys all = All-right xs ys (All-tail P x (xs ++ ys) all)
+
+pub All-both : {A : Type 0} (P Q R : A → Type 0) → ((x : A) → P x → Q x → R x) → (xs : List A) → All P xs → All Q xs → All R xs
+All-both P Q R both [] ps qs = All-nil R
+All-both P Q R both (x ∷ xs) ps qs =
+    All-cons R x xs (both x (All-head P x xs ps) (All-head Q x xs qs)) (All-both P Q R both xs (All-tail P x xs ps) (All-tail Q x xs qs))

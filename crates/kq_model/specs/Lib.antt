@@ -62,6 +62,7 @@ pub mod PrivateList
 pub mod Replayed
 pub mod OwnedRows
 pub mod LiveCalls
+pub mod Projection
 pub mod Tallied
 pub mod Recast
 pub mod Report
