@@ -67,3 +67,6 @@ pub mod SeenWorld
 pub mod WorldPlayed
 pub mod WorldDescriptors
 pub mod WorldObjects
+pub mod ProjectionOpened
+pub mod ProjectionRuns
+pub mod PrivateRows
