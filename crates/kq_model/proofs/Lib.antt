@@ -7,6 +7,19 @@ pub mod Subjects
 pub mod SubjectsCall
 pub mod CloseLaw
 pub mod NamedTargets
+pub mod ListFilters
+pub mod QueueKeys
+pub mod SameTarget
+pub mod PrivateParts
+pub mod PrivateStep
+pub mod PrivateReplay
+pub mod HistoryViews
+pub mod FoldAlone
+pub mod Distinct
+pub mod MergedRows
+pub mod FoldRows
+pub mod PlannedCalls
+pub mod Projection
 pub mod RegistrationLaws
 pub mod Descriptors
 pub mod LiveKqueues
@@ -68,3 +81,6 @@ pub mod ListedObjects
 pub mod ListedPlans
 pub mod PlanReasons
 pub mod ListedWorld
+pub mod ProjectionOpened
+pub mod ProjectionRuns
+pub mod PrivateRows

@@ -24,7 +24,7 @@ use Rattle.kq_model.specs.Targets.{object_of, file_of, target_of}
 
 -- ---- what is not refused names something
 
-valid : (b : Bool) → invalid_if (not b) ≡ None → b ≡ true
+pub valid : (b : Bool) → invalid_if (not b) ≡ None → b ≡ true
 unfolding invalid_if
 valid true e = refl
 valid false e = absurd (none-some EINVAL (sym e))
@@ -91,7 +91,7 @@ module _ {S : Type 0} (h : Hearing S) (caller : Caller) (c : Change) where
       cond_both (asks c.flags delete) _ _ Unrefused (λ _. tt)
       (λ _. cond_both (asks c.flags add) _ _ Unrefused (λ _. modify-unrefused (own_refusal c.filter caller false c) k) (λ _. tt))
 
-  decision-unrefused : (present : Option (Knote h)) → Unrefused (decision caller present c)
+  pub decision-unrefused : (present : Option (Knote h)) → Unrefused (decision caller present c)
   unfolding decision
   decision-unrefused present =
       cond_both (is_malformed c) _ _ Unrefused (λ _. tt)

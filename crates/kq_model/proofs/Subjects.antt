@@ -129,7 +129,7 @@ module _ {S : Type 0} (h : Hearing S) (P : Filter → ℕ → Option Target → 
       cond_both (asks c.flags delete) _ _ Decides (λ _. tt)
       (λ _. cond_both (asks c.flags add) _ _ Decides (λ _. unless_refused-subject (own_refusal c.filter caller false c) (Modify k) has) (λ _. has))
 
-  decision-subject : (caller : Caller) (present : Option (Knote h)) (c : Change) → IfIs present → Decides (decision caller present c)
+  pub decision-subject : (caller : Caller) (present : Option (Knote h)) (c : Change) → IfIs present → Decides (decision caller present c)
   unfolding decision
   decision-subject caller present c has =
       cond_both (is_malformed c) _ _ Decides (λ _. tt)

@@ -65,7 +65,7 @@ module _ {S : Type 0} (h : Hearing S) (P : Filter → ℕ → Option Target → 
   turned_at-subjects views kq None has all = all
   turned_at-subjects views kq (Some k) has all = turned_at_look-subjects k kq (look views k) has all
 
-  turned-subjects : (views : Views) (key : Key) (kq : Kqueue h) → Are kq.knotes → Are (turned views key kq).kq.knotes
+  pub turned-subjects : (views : Views) (key : Key) (kq : Kqueue h) → Are kq.knotes → Are (turned views key kq).kq.knotes
   unfolding turned
   turned-subjects views key kq all =
       turned_at-subjects views kq (find_knote key kq.knotes) (find_knote-subject h P key kq.knotes all) all
@@ -150,7 +150,7 @@ module _ {S : Type 0} (h : Hearing S) (P : Filter → ℕ → Option Target → 
   unless_silent-subject false k has = has
   unless_silent-subject true k has = cond_both (h.is_empty k.seen) _ _ IfIs (λ _. tt) (λ _. has)
 
-  noticed-subject : (views : Views) (hints : List Hint) (k : Knote h) → Is k → IfIs (noticed views hints k)
+  pub noticed-subject : (views : Views) (hints : List Hint) (k : Knote h) → Is k → IfIs (noticed views hints k)
   unfolding noticed
   noticed-subject views [] k has = has
   noticed-subject views (hint ∷ hints) k has =
@@ -183,7 +183,7 @@ module _ {S : Type 0} (h : Hearing S) (P : Filter → ℕ → Option Target → 
       (cond_both (expires_at k moment) (expired k) k Is (λ _. All-head Is k ks all) (λ _. All-head Is k ks all))
       (rung_at-subjects moment ks (All-tail Is k ks all))
 
-  walked-subjects : (from n : ℕ) (w : Waiting (Knote h) Key) → Are w.items → Are (walked timers from n w).items
+  pub walked-subjects : (from n : ℕ) (w : Waiting (Knote h) Key) → Are w.items → Are (walked timers from n w).items
   unfolding walked
   walked-subjects from zero w all = all
   walked-subjects from (suc n) w all =

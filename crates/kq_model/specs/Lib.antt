@@ -58,6 +58,14 @@ pub mod Subjects
 pub mod RegistrationLaws
 pub mod NamedTargets
 pub mod LiveKqueues
+pub mod Births
+pub mod Moments
+pub mod References
+pub mod PrivateList
+pub mod Replayed
+pub mod OwnedRows
+pub mod LiveCalls
+pub mod Projection
 pub mod Tallied
 pub mod Recast
 pub mod Report

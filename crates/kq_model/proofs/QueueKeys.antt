@@ -1,0 +1,244 @@
+-- Every operation on one kqueue keeps what holds of the filter and ident of its knotes and of the keys in its
+-- queue, since only a knote's key comes into the queue.
+use Rattle.std.proofs.Common.{◌≡◌, ℕ, zero, suc, ◌+◌, ◌-◌, Bool, true, false, cond, not, ◌&&◌, ltb, length, List, [], ◌∷◌, ◌++◌, map, Option, Some, None, refl}
+use Rattle.std.proofs.lemmas.Bool.{cond_both}
+use Rattle.std.proofs.lemmas.List.Elements.{All-nil, All-head, All-tail, All-append, All-filter, All-push}
+use Rattle.std.specs.List.{All}
+use Rattle.kq_model.specs.declared.change.Change.{Change}
+use Rattle.kq_model.specs.declared.errno.Errno.{Errno}
+use Rattle.kq_model.specs.declared.filter.Filter.{Filter}
+use Rattle.kq_model.specs.declared.kevent.Kevent.{Kevent}
+use Rattle.kq_model.specs.declared.key.Key.{Key}
+use Rattle.kq_model.specs.declared.object.Hint.{Hint}
+use Rattle.kq_model.specs.declared.object.Target.{Target}
+use Rattle.kq_model.specs.declared.reply.Reply.{Reply}
+use Rattle.kq_model.specs.Call.{Processed, entry_of, is_answered, after, process, returned, by_entries, by_answer, concluded, call}
+use Rattle.kq_model.specs.Caller.{Caller}
+use Rattle.kq_model.specs.ChangedKnote.{key_of, made, modified}
+use Rattle.kq_model.specs.Clock.{Span, timers, waiting_of, clock_from, clocked}
+use Rattle.kq_model.specs.Close.{Pair, is_closed, closed}
+use Rattle.kq_model.specs.Hearing.{Hearing}
+use Rattle.kq_model.specs.Hints.{hints_for, noticed, queue_with, queue_noticing, queue_after_all, notified}
+use Rattle.kq_model.specs.Knote.{Knote, key_eq, has_key, without_key, queued, find_knote}
+use Rattle.kq_model.specs.Kqueue.{Kqueue}
+use Rattle.kq_model.specs.Look.{Seen, look}
+use Rattle.kq_model.specs.Moment.{Moment, happened}
+use Rattle.kq_model.specs.Registration.{Decision, Refuse, Remove, Make, Modify, Registered, is_restart, without_restarted, queue_for, decision, carried_out, register}
+use Rattle.kq_model.specs.Retrieval.{Retrieved, stays, back_after, turned_at_look, turned_at, turned, delivered, after_turn, retrieve, retrieval}
+use Rattle.kq_model.specs.Subjects.{HasSubject, HaveSubjects, MakesSubject, MakeSubjects}
+use Rattle.kq_model.specs.Targets.{Posted, target_of}
+use Rattle.kq_model.specs.TimerWalk.{Waiting, is_fresh, queue_at, walked}
+use Rattle.kq_model.specs.Views.{Views}
+use Rattle.kq_model.proofs.Subjects.{find_knote-subject, made-subject, modified-subject, decision-subject, register-subjects}
+use Rattle.kq_model.proofs.SubjectsCall.{turned-subjects, noticed-subject, walked-subjects, closed-subjects, notified-subjects, clocked-subjects}
+
+module _ {S : Type 0} (h : Hearing S) (R : Filter → ℕ → Type 0) where
+  abbrev P : Filter → ℕ → Option Target → Type 0
+  P filter ident target = R filter ident
+
+  abbrev Is : Knote h → Type 0
+  Is k = HasSubject P k
+
+  abbrev Are : List (Knote h) → Type 0
+  Are ks = HaveSubjects P ks
+
+  abbrev IsKey : Key → Type 0
+  IsKey key = R key.filter key.ident
+
+  abbrev AreKeys : List Key → Type 0
+  AreKeys keys = All IsKey keys
+
+  -- of knotes and queue
+  abbrev pub Hold : Kqueue h → Type 0
+  Hold kq = Are kq.knotes × AreKeys kq.queue
+
+  abbrev IfIs : Option (Knote h) → Type 0
+  IfIs None = Unit {0}
+  IfIs (Some k) = Is k
+
+  abbrev Decides : Decision h → Type 0
+  Decides (Refuse e) = Unit {0}
+  Decides Remove = Unit {0}
+  Decides Make = Unit {0}
+  Decides (Modify k) = Is k
+
+  -- ---- the queue of one knote
+
+  without_key-keys : (key : Key) (queue : List Key) → AreKeys queue → AreKeys (without_key key queue)
+  without_key-keys key queue all = All-filter (λ other. not (key_eq key other)) IsKey queue all
+
+  queued-keys : (key : Key) (queue : List Key) → IsKey key → AreKeys queue → AreKeys (queued key queue)
+  queued-keys key queue has all =
+      cond_both (has_key key queue) queue (queue ++ key ∷ []) AreKeys (λ _. all) (λ _. All-push IsKey queue key all has)
+
+  queue_for-keys : (k : Knote h) (queue : List Key) → Is k → AreKeys queue → AreKeys (queue_for k queue)
+  unfolding queue_for
+  queue_for-keys k queue has all =
+      cond_both k.enabled _ _ AreKeys
+      (λ _. cond_both k.active _ _ AreKeys (λ _. queued-keys k.key queue has all) (λ _. all))
+      (λ _. without_key-keys k.key queue all)
+
+  -- ---- a registration
+
+  without_restarted-keys : (c : Change) (queue : List Key) → AreKeys queue → AreKeys (without_restarted c queue)
+  without_restarted-keys c queue all =
+      cond_both (is_restart c) _ _ AreKeys (λ _. without_key-keys (key_of c) queue all) (λ _. all)
+
+  carried_out-keys : (caller : Caller) (c : Change) (kq : Kqueue h) (d : Decision h) → AreKeys kq.queue → Decides d
+      → (d ≡ Make → R c.filter c.ident) → AreKeys (carried_out caller c kq d).kq.queue
+  unfolding carried_out
+  carried_out-keys caller c kq (Refuse e) all fine new = all
+  carried_out-keys caller c kq Remove all fine new = without_key-keys (key_of c) kq.queue all
+  carried_out-keys caller c kq Make all fine new =
+      queue_for-keys (made caller c) kq.queue (made-subject h P caller c (new refl)) all
+  carried_out-keys caller c kq (Modify k) all fine new =
+      queue_for-keys (modified caller c k) (without_restarted c kq.queue) (modified-subject h P caller c k fine) (without_restarted-keys c kq.queue all)
+
+  register-keys : (caller : Caller) (c : Change) (kq : Kqueue h) → Hold kq → MakesSubject P caller c kq → AreKeys (register caller c kq).kq.queue
+  unfolding register
+  register-keys caller c kq held new =
+      carried_out-keys caller c kq (decision caller (find_knote (key_of c) kq.knotes) c) held.1
+      (decision-subject h P caller (find_knote (key_of c) kq.knotes) c (find_knote-subject h P (key_of c) kq.knotes held.0)) new
+
+  register-hold : (caller : Caller) (c : Change) (kq : Kqueue h) → Hold kq → MakesSubject P caller c kq → Hold (register caller c kq).kq
+  register-hold caller c kq held new = (register-subjects h P caller c kq held.0 new, register-keys caller c kq held new)
+
+  -- ---- a retrieval
+
+  back_after-keys : (k : Knote h) (back : List Key) → Is k → AreKeys back → AreKeys (back_after k back)
+  unfolding back_after
+  back_after-keys k back has all = cond_both (stays k) _ _ AreKeys (λ _. All-push IsKey back k.key all has) (λ _. all)
+
+  turned_at_look-keys : (k : Knote h) (kq : Kqueue h) (seen : Option Seen) → Is k → AreKeys kq.queue → AreKeys (turned_at_look k kq seen).kq.queue
+  unfolding turned_at_look
+  turned_at_look-keys k kq None has all = all
+  turned_at_look-keys k kq (Some seen) has all = back_after-keys k kq.queue has all
+
+  turned_at-keys : (views : Views) (kq : Kqueue h) (found : Option (Knote h)) → IfIs found → AreKeys kq.queue → AreKeys (turned_at views kq found).kq.queue
+  unfolding turned_at
+  turned_at-keys views kq None has all = all
+  turned_at-keys views kq (Some k) has all = turned_at_look-keys k kq (look views k) has all
+
+  turned-hold : (views : Views) (key : Key) (kq : Kqueue h) → Hold kq → Hold (turned views key kq).kq
+  unfolding turned
+  turned-hold views key kq held = (
+    turned-subjects h P views key kq held.0,
+    turned_at-keys views kq (find_knote key kq.knotes) (find_knote-subject h P key kq.knotes held.0) held.1,
+  )
+
+  after_turn-hold : (rest : ℕ → Kqueue h → Retrieved h) → ((room : ℕ) (kq : Kqueue h) → Hold kq → Hold (rest room kq).kq)
+      → (room : ℕ) (kq : Kqueue h) (event : Option Kevent) → Hold kq → Hold (after_turn rest room kq event).kq
+  unfolding after_turn delivered
+  after_turn-hold rest keeps room kq None held = keeps (suc room) kq held
+  after_turn-hold rest keeps room kq (Some event) held = keeps room kq held
+
+  retrieve-hold : (views : Views) (keys : List Key) (room : ℕ) (kq : Kqueue h) → AreKeys keys → Hold kq → Hold (retrieve views keys room kq).kq
+  unfolding retrieve
+  retrieve-hold views [] room kq waiting held = held
+  retrieve-hold views (key ∷ keys) zero kq waiting held = (held.0, All-append IsKey (key ∷ keys) kq.queue waiting held.1)
+  retrieve-hold views (key ∷ keys) (suc room) kq waiting held =
+      after_turn-hold (retrieve views keys) (λ more q has. retrieve-hold views keys more q (All-tail IsKey key keys waiting) has)
+      room (turned views key kq).kq (turned views key kq).event (turned-hold views key kq held)
+
+  retrieval-hold : (views : Views) (room : ℕ) (kq : Kqueue h) → Hold kq → Hold (retrieval views room kq).kq
+  unfolding retrieval
+  retrieval-hold views room kq held = retrieve-hold views kq.queue room (record kq { queue = [] }) held.1 (held.0, All-nil IsKey)
+
+  -- ---- a call
+
+  after-hold : (rest : List Kevent → Kqueue h → Processed h) → ((placed : List Kevent) (kq : Kqueue h) → Hold kq → Hold (rest placed kq).kq)
+      → (room : ℕ) (c : Change) (placed : List Kevent) (r : Registered h) → Hold r.kq → Hold (after rest room c placed r).kq
+  unfolding after
+  after-hold rest keeps room c placed r held =
+      cond_both (is_answered c r.error) _ _ Fine
+      (λ _. cond_both (ltb (length placed) room) _ _ Fine (λ _. keeps (placed ++ entry_of c r.error ∷ []) r.kq held) (λ _. held))
+      (λ _. keeps placed r.kq held)
+    where
+      Fine : Processed h → Type 0
+      Fine p = Hold p.kq
+
+  process-hold : (caller : Caller) (room : ℕ) (changes : List Change) (placed : List Kevent) (kq : Kqueue h) → MakeSubjects h P caller changes
+      → Hold kq → Hold (process caller room changes placed kq).kq
+  unfolding process
+  process-hold caller room [] placed kq new held = held
+  process-hold caller room (c ∷ changes) placed kq new held =
+      after-hold (process caller room changes)
+      (λ more q has. process-hold caller room changes more q (All-tail (λ x. (qq : Kqueue h) → MakesSubject P caller x qq) c changes new) has)
+      room c placed (register caller c kq)
+      (register-hold caller c kq held (All-head (λ x. (qq : Kqueue h) → MakesSubject P caller x qq) c changes new kq))
+
+  by_entries-hold : (views : Views) (room : ℕ) (placed : List Kevent) (kq : Kqueue h) → Hold kq → Hold (by_entries views room placed kq).kq
+  unfolding by_entries returned
+  by_entries-hold views room [] kq held = retrieval-hold views room kq held
+  by_entries-hold views room (entry ∷ entries) kq held = held
+
+  by_answer-hold : (views : Views) (room : ℕ) (p : Processed h) (answer : Option Reply) → Hold p.kq → Hold (by_answer views room p answer).kq
+  unfolding by_answer
+  by_answer-hold views room p (Some reply) held = held
+  by_answer-hold views room p None held = by_entries-hold views room p.placed p.kq held
+
+  pub call-hold : (caller : Caller) (room : ℕ) (changes : List Change) (kq : Kqueue h) → MakeSubjects h P caller changes → Hold kq
+      → Hold (call caller room changes kq).kq
+  unfolding call concluded
+  call-hold caller room changes kq new held =
+      let p = process caller room changes [] kq in
+      by_answer-hold caller.views room p p.answer (process-hold caller room changes [] kq new held)
+
+  -- ---- closes, hints and the clock
+
+  closed-hold : (owner : ℕ) (pairs : List Pair) (kq : Kqueue h) → Hold kq → Hold (closed owner pairs kq)
+  unfolding closed
+  closed-hold owner pairs kq held =
+      (closed-subjects h P owner pairs kq held.0, All-filter (λ key. not (is_closed owner pairs key)) IsKey kq.queue held.1)
+
+  queue_with-keys : (key : Key) (found : Option (Knote h)) (queue : List Key) → IfIs found → AreKeys queue → AreKeys (queue_with key found queue)
+  unfolding queue_with
+  queue_with-keys key None queue has all = without_key-keys key queue all
+  queue_with-keys key (Some k) queue has all = queue_for-keys k queue has all
+
+  queue_noticing-keys : (views : Views) (hints : List Hint) (k : Knote h) (queue : List Key) → Is k → AreKeys queue → AreKeys (queue_noticing views hints k queue)
+  unfolding queue_noticing
+  queue_noticing-keys views [] k queue has all = all
+  queue_noticing-keys views (hint ∷ hints) k queue has all =
+      queue_with-keys k.key (noticed views (hint ∷ hints) k) queue (noticed-subject h P views (hint ∷ hints) k has) all
+
+  queue_after_all-keys : (views : Views) (posted : List Posted) (ks : List (Knote h)) (queue : List Key) → Are ks → AreKeys queue
+      → AreKeys (queue_after_all views posted ks queue)
+  unfolding queue_after_all
+  queue_after_all-keys views posted [] queue have all = all
+  queue_after_all-keys views posted (k ∷ ks) queue have all =
+      queue_after_all-keys views posted ks (queue_noticing views (hints_for k posted) k queue) (All-tail Is k ks have)
+      (queue_noticing-keys views (hints_for k posted) k queue (All-head Is k ks have) all)
+
+  notified-hold : (views : Views) (posted : List Posted) (kq : Kqueue h) → Hold kq → Hold (notified views posted kq)
+  unfolding notified
+  notified-hold views posted kq held =
+      (notified-subjects h P views posted kq held.0, queue_after_all-keys views posted kq.knotes kq.queue held.0 held.1)
+
+  queue_at-keys : (moment : ℕ) (ks : List (Knote h)) (queue : List Key) → Are ks → AreKeys queue → AreKeys (queue_at timers moment ks queue)
+  unfolding queue_at
+  queue_at-keys moment [] queue have all = all
+  queue_at-keys moment (k ∷ ks) queue have all =
+      queue_at-keys moment ks _ (All-tail Is k ks have)
+      (cond_both (timers.expires k moment && is_fresh timers queue k) (queue ++ k.key ∷ []) queue AreKeys
+      (λ _. All-push IsKey queue k.key all (All-head Is k ks have)) (λ _. all))
+
+  walked-keys : (from n : ℕ) (w : Waiting (Knote h) Key) → Are w.items → AreKeys w.queue → AreKeys (walked timers from n w).queue
+  unfolding walked
+  walked-keys from zero w have all = all
+  walked-keys from (suc n) w have all =
+      queue_at-keys (from + suc n) (walked timers from n w).items (walked timers from n w).queue
+      (walked-subjects h P from n w have) (walked-keys from n w have all)
+
+  clocked-keys : (span : Option Span) (kq : Kqueue h) → Hold kq → AreKeys (clocked span kq).queue
+  unfolding clocked clock_from
+  clocked-keys None kq held = held.1
+  clocked-keys (Some span) kq held = walked-keys span.from (span.to - span.from) (waiting_of kq) held.0 held.1
+
+  clocked-hold : (span : Option Span) (kq : Kqueue h) → Hold kq → Hold (clocked span kq)
+  clocked-hold span kq held = (clocked-subjects h P span kq held.0, clocked-keys span kq held)
+
+  pub happened-hold : (owner : ℕ) (m : Moment) (kq : Kqueue h) → Hold kq → Hold (happened owner m kq)
+  unfolding happened
+  happened-hold owner m kq held =
+      clocked-hold m.clock _ (notified-hold m.views m.hints _ (closed-hold owner m.closed kq held))
