@@ -5,19 +5,31 @@ import sys
 
 
 class Measure:
-    """The shortest time, in seconds, and the greatest peak memory, in bytes, of some runs of one program."""
+    """The shortest time, in seconds, and the greatest peak memory, in bytes, of some runs of one program.
+
+    What a timed run writes goes to /dev/null: to put it on a disk is no work of the program's.
+    """
 
     def __init__(self, words, given, taken):
         self.words, self.given, self.taken = words, given, taken
         self.seconds, self.peak = float("inf"), 0
 
-    def run(self):
-        with open(self.given, "rb") as source, open(self.taken, "wb") as sink:
+    def _ended(self, taken):
+        with open(self.given, "rb") as source, open(taken, "wb") as sink:
             child = subprocess.Popen(self.words, stdin=source, stdout=sink)
             _, status, used = os.wait4(child.pid, 0)
         child.returncode = os.waitstatus_to_exitcode(status)
         if child.returncode:
             sys.exit(f"{self.words[0]} ended with status {child.returncode}")
+        return used
+
+    def write(self):
+        """Runs the program once untimed, and leaves what it writes in the file."""
+        self._ended(self.taken)
+
+    def run(self):
+        """Runs the program once more, timed."""
+        used = self._ended(os.devnull)
         self.seconds = min(self.seconds, used.ru_utime + used.ru_stime)
         self.peak = max(self.peak, used.ru_maxrss * 1024)
 

@@ -1,31 +1,49 @@
 //! Names in quotation marks.
 
-ghost use Rattle.std.specs.Prelude.{◌≡◌, ◌<◌, ◌≤◌, ◌∷◌, ◌++◌, IfSome, IsTrue, ◌↔◌, List, ℕ, length, slice_index};
+ghost use Rattle.std.specs.Prelude.{◌≡◌, ◌<◌, ◌≤◌, ◌∷◌, ◌++◌, IfSome, List, ℕ, length, slice_index};
 ghost use Rattle.json.specs.Spaced.{IsGap};
 ghost use Rattle.kq_line.specs.Names.{IsLetter, IsName};
 
 use crate::cursor::{behind, without_blank};
 
-/// Whether a byte is a letter of ASCII: the names of a trace have no other.
+/// How many small letters of ASCII a text begins with.
 #[inline(always)]
-fn is_letter(byte: u8) -> bool
-    ensures { IsTrue result ↔ IsLetter byte }
+fn small_letters(text: &[u8]) -> usize
+    ensures within { result ≤ length text.now }
+    ensures each { (k : ℕ) → k < result → IsLetter (slice_index text.now k) }
 {
-    matches!(byte, b'a'..=b'z' | b'A'..=b'Z')
+    for (count, byte) in text.iter().enumerate() {
+        if !matches!(*byte, b'a'..=b'z') {
+            return count;
+        }
+    }
+    text.len()
 }
 
-/// How many letters a text begins with.
+/// How many capital letters of ASCII a text begins with.
+#[inline(always)]
+fn capital_letters(text: &[u8]) -> usize
+    ensures within { result ≤ length text.now }
+    ensures each { (k : ℕ) → k < result → IsLetter (slice_index text.now k) }
+{
+    for (count, byte) in text.iter().enumerate() {
+        if !matches!(*byte, b'A'..=b'Z') {
+            return count;
+        }
+    }
+    text.len()
+}
+
+/// How many letters of one case a text begins with: no name of a trace has both.
 #[inline(always)]
 fn letters(text: &[u8]) -> usize
     ensures within { result ≤ length text.now }
     ensures each { (k : ℕ) → k < result → IsLetter (slice_index text.now k) }
 {
-    for (count, byte) in text.iter().enumerate() {
-        if !is_letter(*byte) {
-            return count;
-        }
+    match text.first() {
+        Some(b'A'..=b'Z') => capital_letters(text),
+        _ => small_letters(text),
     }
-    text.len()
 }
 
 /// A name in quotation marks, and the text behind it.

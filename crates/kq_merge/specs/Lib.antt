@@ -1,3 +1,4 @@
 pub mod ByPlace
 pub mod Joined
 pub mod EventsText
+pub mod Written

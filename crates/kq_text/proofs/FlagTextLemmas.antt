@@ -1,5 +1,6 @@
 -- The list of the names of flags, name by name.
-use Rattle.std.proofs.Common.{◌≡◌, ◌∙◌, ℕ, Bool, true, false, List, [], ◌∷◌, ◌++◌, map, refl, sym, ap, append_assoc, ◌+◌, ◌<◌, ◌≤◌, length, drop, get_or, add-one, drop-cons, drop_of_length-le}
+use Rattle.std.proofs.Common.{◌≡◌, ◌∙◌, ℕ, Bool, true, false, List, [], ◌∷◌, ◌++◌, map, refl, sym, ap, append_assoc, eqb, ◌+◌, ◌<◌, ◌≤◌, length, drop, get_or, add-one, drop-cons, drop_of_length-le}
+use Rattle.std.proofs.lemmas.Bool.{eqb-true}
 use Rattle.std.specs.Prelude.{filter, if◌then◌else◌}
 use Rattle.json.specs.Print.{escape, escape_byte}
 use Rattle.serde_json.specs.Data.{Data, string}
@@ -75,3 +76,11 @@ names_ended flags later items i first before out new past table begin kept end =
     let none : drop i items ≡ [] = drop_of_length-le items past in
     let closed : names_text flags later (rows_of (drop i items)) ≡ 93 ∷ [] = rw none refl in
     record { is = end.is ∙ ap (λ l. out ++ l) (sym closed) ∙ kept ∙ rw (begin.is, table, flags_text) (simp append_assoc) }
+
+-- where no flag is set, there is no name
+unset : (flags : EvFlags) (n : ℕ) → flags.0 ≡ n → n ≡ 0 → names_text flags false flag_table ≡ 93 ∷ []
+unfolding names_text
+unset flags n is zero = rw (is, zero) refl
+
+pub no_names : (flags : EvFlags) → eqb flags.0 0 ≡ true → compact_text (flags_data flags) ≡ 91 ∷ 93 ∷ []
+no_names flags none = flags_text flags ∙ ap (λ rest. 91 ∷ rest) (unset flags flags.0 refl (eqb-true flags.0 0 none))

@@ -12,6 +12,9 @@ use kq_model::{EvFlags, Memory};
 pub fn put_flags(out: &mut Vec<u8>, flags: EvFlags) -> Result<(), Memory>
     ensures { OnOk result (Adds out.old.items (compact_text (flags_data flags)) out.new.items) }
 {
+    if flags.is_empty() {
+        return put(out, "[]");
+    }
     put(out, "[")?;
     let mut is_later = false;
     for flag in EvFlags::flags() {

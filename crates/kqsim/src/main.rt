@@ -4,6 +4,7 @@
 
 mod command_line;
 mod fault;
+mod folding;
 mod input;
 mod order;
 mod output;

@@ -3,9 +3,8 @@ ghost use Rattle.kqsim.specs.Replay.{IsFault, IsReport};
 ghost use Rattle.kqsim.specs.Workers.{IsWorkerCount};
 
 use crate::fault::Fault;
+use crate::folding::folded;
 use crate::workers::is_worker_count;
-use kq_merge::report_text;
-use kq_system::System;
 use kq_trace::{TraceError, read_trace};
 
 /// The report of the trace that the bytes are, replayed by so many workers, 1 to 256; any other
@@ -27,7 +26,5 @@ pub fn replay<R: AllocGlobal>(rt: &R, bytes: &[u8], workers: u32) -> Result<Vec<
         Err(TraceError::Memory) => return Err(Fault::Memory),
         Err(TraceError::Bad { line, fault }) => return Err(Fault::Trace { line, fault }),
     };
-    let records = trace.events.len() as u64;
-    let rows = System::run(rt.alloc(), &trace).map_err(|_| Fault::Memory)?;
-    report_text(rt.alloc(), rows.as_slice(), records).map_err(|_| Fault::Memory)
+    folded(rt.alloc(), &trace).map_err(|_| Fault::Memory)
 }
