@@ -67,7 +67,8 @@ fn put_events(out: &mut Vec<u8>, events: &[Kevent]) -> Result<(), Memory>
 }
 
 fn put_item(out: &mut Vec<u8>, event: &Kevent, is_later: bool) -> Result<(), Memory>
-    ensures { OnOk result (Adds out.old.items (comma_if is_later ++ compact_text (kevent_data event.now)) out.new.items) }
+    ensures { OnOk result
+        (Adds out.old.items (comma_if is_later ++ compact_text (kevent_data event.now)) out.new.items) }
 {
     put(out, if is_later { "," } else { "" })?;
     put_event(out, event)
