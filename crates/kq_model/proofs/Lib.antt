@@ -18,6 +18,9 @@ pub mod MergedRows
 pub mod FoldRows
 pub mod PlannedCalls
 pub mod Projection
+pub mod ProjectionOpened
+pub mod ProjectionRuns
+pub mod PrivateRows
 pub mod RegistrationLaws
 pub mod Descriptors
 pub mod LiveKqueues
@@ -67,6 +70,3 @@ pub mod SeenWorld
 pub mod WorldPlayed
 pub mod WorldDescriptors
 pub mod WorldObjects
-pub mod ProjectionOpened
-pub mod ProjectionRuns
-pub mod PrivateRows
