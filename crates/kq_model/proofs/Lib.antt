@@ -20,6 +20,9 @@ pub mod MergedRows
 pub mod FoldRows
 pub mod PlannedCalls
 pub mod Projection
+pub mod ProjectionOpened
+pub mod ProjectionRuns
+pub mod PrivateRows
 pub mod RegistrationLaws
 pub mod Descriptors
 pub mod LiveKqueues
@@ -81,6 +84,3 @@ pub mod ListedObjects
 pub mod ListedPlans
 pub mod PlanReasons
 pub mod ListedWorld
-pub mod ProjectionOpened
-pub mod ProjectionRuns
-pub mod PrivateRows

@@ -23,7 +23,7 @@ use Rattle.kq_model.specs.Knote.{Knote, find_knote}
 use Rattle.kq_model.specs.Kqueue.{Kqueue}
 use Rattle.kq_model.specs.Moment.{Moment, caller_at, happened, called_at, after_call, kqueue_step}
 use Rattle.kq_model.specs.PrivateList.{Concern, own_call, own_closed, own_hints, own_clock, concern_of, has_item, concerns}
-use Rattle.kq_model.specs.References.{Reference, Names, written_to, named_target, reference_of, references_in}
+use Rattle.kq_model.specs.References.{Reference, Names, unless_file, named_target, reference_of, references_in}
 use Rattle.kq_model.specs.Refusals.{own_refusal, is_writable, invalid_if}
 use Rattle.kq_model.specs.Registration.{Decision, Refuse, Remove, Make, Modify, decision}
 use Rattle.kq_model.specs.Replayed.{moment_with, own_reply}
@@ -40,8 +40,8 @@ use Rattle.kq_model.proofs.SubjectsCall.{call-subjects, closed-subjects, notifie
 
 -- ---- a knote is made only of a target that its change names
 
-writable-target : (n : Option Named) → is_writable n ≡ true → written_to n ≡ object_of n
-unfolding is_writable written_to
+writable-target : (n : Option Named) → is_writable n ≡ true → unless_file (object_of n) ≡ object_of n
+unfolding is_writable object_of unless_file
 writable-target (Some (named.Open description file)) e = absurd (true≢false (sym e))
 writable-target (Some (named.Socket place)) e = refl
 writable-target (Some (named.PipeRead place)) e = refl
@@ -52,7 +52,7 @@ writable-target None e = refl
 unrefused-target : (filter : Filter) (caller : Caller) (c : Change) → own_refusal filter caller true c ≡ None
     → named_target caller.views caller.owner filter c.ident ≡ target_of caller.views caller.owner filter c.ident
 unfolding own_refusal named_target target_of
-unrefused-target Write caller c e = writable-target (caller.views.descriptor caller.owner c.ident) (valid _ e)
+unrefused-target Write caller c e = writable-target _ (valid _ e)
 unrefused-target _ caller c e = refl
 
 module _ {S : Type 0} (h : Hearing S) where

@@ -5,12 +5,11 @@ use Rattle.std.specs.List.{list_any}
 use Rattle.kq_model.specs.declared.change.Change.{Change}
 use Rattle.kq_model.specs.declared.filter.Filter.{Filter}
 use Rattle.kq_model.specs.declared.filter.Filter.TheVariants.{Write}
-use Rattle.kq_model.specs.declared.object.Named.{Named}
-use Rattle.kq_model.specs.declared.object.Named.TheVariants as named
 use Rattle.kq_model.specs.declared.object.Target.{Target}
+use Rattle.kq_model.specs.declared.object.Target.TheVariants as target
 use Rattle.kq_model.specs.Knote.{watches_number, is_timer}
 use Rattle.kq_model.specs.Moment.{Moment}
-use Rattle.kq_model.specs.Targets.{object_of, target_of, is_target}
+use Rattle.kq_model.specs.Targets.{target_of, is_target}
 use Rattle.kq_model.specs.Views.{Views}
 use Rattle.kq_model.specs.World.{Call}
 
@@ -20,13 +19,13 @@ pub record Reference : Type 0 where
   pub target : Option Target
 
 -- WRITE watches no file
-unfoldable pub written_to : Option Named → Option Target
-written_to (Some (named.Open description file)) = None
-written_to n = object_of n
+unfoldable pub unless_file : Option Target → Option Target
+unless_file (Some (target.Open description)) = None
+unless_file found = found
 
 -- the target that a change of this process names; none where its number names nothing that the filter watches
 unfoldable pub named_target : Views → ℕ → Filter → ℕ → Option Target
-named_target views owner Write ident = written_to (views.descriptor owner ident)
+named_target views owner Write ident = unless_file (target_of views owner Write ident)
 named_target views owner filter ident = target_of views owner filter ident
 
 abbrev pub reference_of : Views → ℕ → Change → Reference
