@@ -1,0 +1,4 @@
+pub mod Fitting
+pub mod Replaying
+pub mod Telling
+pub mod Copying
