@@ -45,7 +45,11 @@ impl Model for Live {
 impl Live {
     /// The empty system of this version of the trace's format, which is 1, with `seats` seats, 1 to 64 of them. It
     /// takes as many calls as a trace has events at most, 2^31 - 1. `Memory` comes only where a growth was refused.
-    pub fn new(alloc: Global, version: u32, seats: usize) -> Result<(Live, Vec<LiveSeat>), LiveError>
+    pub fn new(
+        alloc: Global,
+        version: u32,
+        seats: usize,
+    ) -> Result<(Live, Vec<LiveSeat>), LiveError>
         requires version { version ≡ 1 }
         requires seats { (1 ≤ seats) × (seats ≤ 64) }
         ensures live { IfOk result (λ r. (r.0.version ≡ version) × (r.0.lock.last ≡ 2 ^ 31 - 1)) }
@@ -84,7 +88,12 @@ impl Live {
     /// Applies one event, and gives the reply to it. It may wait for the calls that were begun before. An event that
     /// is impossible is a call like any other. `WornOut` comes where all calls were made, and `Memory` where a
     /// growth was refused; `Busy` never comes.
-    pub fn call<R: Wait>(&self, rt: &R, seat: &mut LiveSeat, event: Event) -> Result<LiveReceipt, LiveError>
+    pub fn call<R: Wait>(
+        &self,
+        rt: &R,
+        seat: &mut LiveSeat,
+        event: Event,
+    ) -> Result<LiveReceipt, LiveError>
         requires { seat.old.lock ≡ self.now.lock }
         ensures kept { (seat.new.lock ≡ seat.old.lock) × (seat.new.number ≡ seat.old.number) }
         ensures stride { seat.new.stride ≡ seat.old.stride }

@@ -57,7 +57,8 @@ impl Served for LiveMachine {
 
     fn owner_of(event: &Event) -> u64 {
         match event {
-            Event::Proc { pid } | Event::Kqueue { pid, .. } | Event::Kevent { pid, .. } => u64::from(*pid),
+            Event::Proc { pid } | Event::Kqueue { pid, .. } | Event::Kevent { pid, .. } =>
+                u64::from(*pid),
         }
     }
 

@@ -69,8 +69,14 @@ fn seats_share_one_system(rt: HostRuntime) -> Result<(), Fail> {
     let (live, mut seats) = Live::new(alloc, 1, 2)?;
     let mut one = next_seat(&live, &mut seats).ok_or("a seat")?;
     let mut two = next_seat(&live, &mut seats).ok_or("a second seat")?;
-    assert_eq!(rt; told(live.call(&rt, &mut one, Event::Proc { pid: 1 })), Ok((1, 0, 0)));
-    assert_eq!(rt; told(live.call(&rt, &mut one, Event::Kqueue { pid: 1, fd: 9 })), Ok((2, 1, 0)));
+    assert_eq!(rt;
+        told(live.call(&rt, &mut one, Event::Proc { pid: 1 })),
+        Ok((1, 0, 0))
+    );
+    assert_eq!(rt;
+        told(live.call(&rt, &mut one, Event::Kqueue { pid: 1, fd: 9 })),
+        Ok((2, 1, 0))
+    );
     let change = add(alloc, 1, 0).map_err(|_| "memory")?;
     assert_eq!(rt; told(live.call(&rt, &mut one, change)), Ok((3, 2, 0)));
     let change = add(alloc, 1, TRIGGER).map_err(|_| "memory")?;
@@ -78,7 +84,10 @@ fn seats_share_one_system(rt: HostRuntime) -> Result<(), Fail> {
     let part = live.split(&mut one);
     live.join(&mut two, part);
     assert_eq!(rt; Live::seen_len(&two), 4);
-    assert_eq!(rt; told(live.call(&rt, &mut two, poll(alloc, 1))), Ok((5, 4, 1)));
+    assert_eq!(rt;
+        told(live.call(&rt, &mut two, poll(alloc, 1))),
+        Ok((5, 4, 1))
+    );
     let book = live.close(one)?;
     assert_eq!(rt; book.len(), 5);
     let trace = book.trace().map_err(|_| "memory")?;
@@ -93,8 +102,14 @@ fn seats_share_one_system(rt: HostRuntime) -> Result<(), Fail> {
 fn a_live_system_wears_out(rt: HostRuntime) -> Result<(), Fail> {
     let (live, mut seats) = Live::with_last(rt.alloc(), 1, 1, 2)?;
     let mut seat = next_seat(&live, &mut seats).ok_or("a seat")?;
-    assert_eq!(rt; told(live.call(&rt, &mut seat, Event::Proc { pid: 1 })), Ok((1, 0, 0)));
-    assert_eq!(rt; told(live.call(&rt, &mut seat, Event::Proc { pid: 1 })), Ok((2, 1, 0)));
+    assert_eq!(rt;
+        told(live.call(&rt, &mut seat, Event::Proc { pid: 1 })),
+        Ok((1, 0, 0))
+    );
+    assert_eq!(rt;
+        told(live.call(&rt, &mut seat, Event::Proc { pid: 1 })),
+        Ok((2, 1, 0))
+    );
     let third = live.call(&rt, &mut seat, Event::Proc { pid: 2 });
     assert_eq!(rt; told(third), Err(LiveError::WornOut));
     let book = live.close(seat)?;
