@@ -1,44 +1,31 @@
 -- The reply to an event has at most as many events as the room of its call.
-use Rattle.std.proofs.Common.{◌≡◌, ℕ, zero, suc, ◌<◌, ◌≤◌, Bool, true, false, not, is_some, cond, ◌||◌, eqb, List, [], ◌∷◌, ◌++◌, length, nat_lt, Option, Some, None, refl, sym, ap, ◌∙◌, subst, arith}
+use Rattle.std.proofs.Common.{◌≡◌, ℕ, zero, suc, ◌<◌, ◌≤◌, Bool, true, cond, eqb, List, [], ◌∷◌, ◌++◌, length, nat_lt, Option, Some, None, refl, sym, subst, arith}
 use Rattle.std.proofs.lemmas.List.{length_push}
-use borrow.Author.Tests.{ltb-true, ltb-false}
+use borrow.Author.Tests.{ltb-true}
 use Rattle.kq_model.specs.declared.change.Change.{Change}
 use Rattle.kq_model.specs.declared.errno.Errno.{Errno}
 use Rattle.kq_model.specs.declared.event.Event.{Event}
-use Rattle.kq_model.specs.declared.event.Event.TheVariants as event
 use Rattle.kq_model.specs.declared.kevent.Kevent as kevents
 use Rattle.kq_model.specs.declared.key.Key.{Key}
-use Rattle.kq_model.specs.declared.object.Named.{Named}
-use Rattle.kq_model.specs.declared.object.Named.TheVariants as named
 use Rattle.kq_model.specs.declared.reply.Reply.{Reply}
 use Rattle.kq_model.specs.declared.reply.Reply.TheVariants as reply
-use Rattle.kq_model.specs.declared.why.Why.{Why}
-use Rattle.kq_model.specs.declared.why.Why.TheVariants.{TooMany}
 use Rattle.kq_model.specs.Call.{Called, Processed, after, by_answer, by_entries, call, concluded, ended, entry_of, is_answered, process, returned}
 use Rattle.kq_model.specs.Caller.{Caller}
-use Rattle.kq_model.specs.DescriptorPlans.{on_descriptor, on_named, plan_call, plan_kevent, plan_kqueue}
 use Rattle.kq_model.specs.Hearing.{Hearing}
 use Rattle.kq_model.specs.Kqueue.{Kqueue}
-use Rattle.kq_model.specs.Limits.{most_changes, most_room}
 use Rattle.kq_model.specs.Moment.{Moment, called_at, caller_at, happened, moment_of}
-use Rattle.kq_model.specs.Objects.{Keeping, counted}
+use Rattle.kq_model.specs.Objects.{Keeping}
 use Rattle.kq_model.specs.Plans.{plan}
-use Rattle.kq_model.specs.Processes.{is_live}
-use Rattle.kq_model.specs.ProcessPlans.{plan_proc}
 use Rattle.kq_model.specs.Registration.{Registered, register}
 use Rattle.kq_model.specs.Retrieval.{Retrieved, after_turn, delivered, retrieval, retrieve, turned}
 use Rattle.kq_model.specs.System.{Live, System, answer, reply_to, step, step_by}
 use Rattle.kq_model.specs.Tallied as system
 use Rattle.kq_model.specs.Views.{Views}
-use Rattle.kq_model.specs.World.{Call, Impossible, Plan, Planned, Possible, World, idle, named_by, seen_world}
+use Rattle.kq_model.specs.World.{Call, Impossible, Planned, Possible, seen_world}
 use Rattle.kq_model.proofs.KnoteLaws.{by_test}
 use Rattle.kq_system.specs.SystemState.{IsStep}
 use Rattle.kq_live.specs.Rooms.{HasAtMost, room_of}
-
--- a call with at most this room
-abbrev CallsWithin : ℕ → Option Call → Type 0
-CallsWithin room None = Unit {0}
-CallsWithin room (Some c) = c.room ≤ room
+use Rattle.kq_live.proofs.Calling.{CallsWithin, PlansWithin, plan_within}
 
 weaker : (small large : ℕ) (r : Reply) → small ≤ large → HasAtMost small r → HasAtMost large r
 weaker small large reply.Done le fits = tt
@@ -150,86 +137,6 @@ module _ {S : Type 0} {h : Hearing S} where
   unfolding reply_to
   reply_to_fits room m None ls within = tt
   reply_to_fits room m (Some c) ls within = weaker c.room room (answer m c ls) within (answer_fits m c ls)
-
--- ---- the plans
-
-abbrev call_in : Planned → Option Call
-call_in (Impossible why) = None
-call_in (Possible p) = p.call
-
--- a plan whose call has at most this room
-record PlansWithin (room : ℕ) (p : Planned) : Type 0 where
-  calls : CallsWithin room (call_in p)
-
-refused : (room : ℕ) (why : Why) → PlansWithin room (Impossible why)
-refused room why = record { calls = tt }
-
-calls_none : (room : ℕ) (p : Plan) → p.call ≡ None → PlansWithin room (Possible p)
-calls_none room p none = record { calls = subst (λ (c : Option Call). CallsWithin room c) (sym none) tt }
-
-either_within : (room : ℕ) (b : Bool) (p q : Planned) → PlansWithin room p → PlansWithin room q
-    → PlansWithin room (cond b p q)
-either_within room true p q one other = one
-either_within room false p q one other = other
-
-proc_within : (pid : ℕ) (w : World counted) → PlansWithin 0 (plan_proc pid w)
-unfolding plan_proc
-proc_within pid w = either_within 0 _ _ _ (refused 0 _) (calls_none 0 _ refl)
-
-kqueue_within : (pid fd : ℕ) (w : World counted) → PlansWithin 0 (plan_kqueue pid fd w)
-unfolding plan_kqueue
-kqueue_within pid fd w =
-    either_within 0 (not (is_live pid w.processes)) _ _ (refused 0 _)
-    (either_within 0 (is_some (named_by pid fd w)) _ _ (refused 0 _) (calls_none 0 _ refl))
-
-on_named_within : (room : ℕ) (planned : Named → Planned) (o : Option Named)
-    → ((n : Named) → PlansWithin room (planned n)) → PlansWithin room (on_named planned o)
-unfolding on_named
-on_named_within room planned None all = refused room _
-on_named_within room planned (Some n) all = all n
-
-on_descriptor_within : (room pid number : ℕ) (planned : Named → Planned) (w : World counted)
-    → ((n : Named) → PlansWithin room (planned n)) → PlansWithin room (on_descriptor pid number planned w)
-unfolding on_descriptor
-on_descriptor_within room pid number planned w all =
-    either_within room _ _ _ (refused room _) (on_named_within room planned (named_by pid number w) all)
-
-abbrev planned_call : ℕ → List Change → ℕ → Bool → Bool → Planned
-planned_call place changes room many wide = cond (many || wide) (Impossible TooMany)
-    (Possible (record idle { call = Some (record { kqueue = place; changes = changes; room = room }) }))
-
--- the room of a call
-abbrev room_for : ℕ → Bool → ℕ
-room_for room wide = cond wide 0 room
-
-planned_call_within : (place : ℕ) (changes : List Change) (room : ℕ) (many wide : Bool)
-    → PlansWithin (room_for room wide) (planned_call place changes room many wide)
-planned_call_within place changes room true wide = refused (room_for room wide) TooMany
-planned_call_within place changes room false true = refused 0 TooMany
-planned_call_within place changes room false false = record { calls = omega arith }
-
-call_within : (changes : List Change) (room : ℕ) (n : Named)
-    → PlansWithin (room_for room (nat_lt most_room room)) (plan_call changes room n)
-unfolding plan_call
-call_within changes room (named.Kqueue place) =
-    planned_call_within place changes room (nat_lt most_changes (length changes)) (nat_lt most_room room)
-call_within changes room (named.Socket place) = refused (room_for room (nat_lt most_room room)) _
-call_within changes room (named.PipeRead place) = refused (room_for room (nat_lt most_room room)) _
-call_within changes room (named.PipeWrite place) = refused (room_for room (nat_lt most_room room)) _
-call_within changes room (named.Open description file) = refused (room_for room (nat_lt most_room room)) _
-
-kevent_within : (pid fd : ℕ) (changes : List Change) (room : ℕ) (w : World counted)
-    → PlansWithin (room_for room (nat_lt most_room room)) (plan_kevent pid fd changes room w)
-unfolding plan_kevent
-kevent_within pid fd changes room w =
-    on_descriptor_within (room_for room (nat_lt most_room room)) pid fd (plan_call changes room) w
-    (call_within changes room)
-
-plan_within : (place : ℕ) (e : Event) (w : World counted) → PlansWithin (room_of e) (plan place e w)
-unfolding plan
-plan_within place (event.Proc pid) w = proc_within pid w
-plan_within place (event.Kqueue pid fd) w = kqueue_within pid fd w
-plan_within place (event.Kevent pid fd changes room) w = kevent_within pid fd changes room w
 
 -- ---- the step
 

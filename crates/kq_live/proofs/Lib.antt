@@ -1,3 +1,4 @@
+pub mod Calling
 pub mod Fitting
 pub mod Replaying
 pub mod Telling
