@@ -1,0 +1,5 @@
+pub mod Calling
+pub mod Fitting
+pub mod Replaying
+pub mod Telling
+pub mod Copying
