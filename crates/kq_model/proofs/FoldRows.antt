@@ -1,5 +1,5 @@
 -- The rows of the fold: that they rise, whose they are, and which have no kqueue.
-use Rattle.std.proofs.Common.{◌≡◌, ℕ, ◌+◌, ◌<◌, ◌≤◌, Bool, true, false, not, eqb, ◌||◌, List, [], ◌∷◌, ◌++◌, map, filter, Option, Some, None, refl, sym, ap, ap₂, subst, ◌∙◌, arith}
+use Rattle.std.proofs.Common.{◌≡◌, ℕ, ◌+◌, ◌<◌, ◌≤◌, Bool, true, false, cond, not, eqb, ◌||◌, List, [], ◌∷◌, ◌++◌, map, filter, Option, Some, None, refl, sym, ap, ap₂, subst, ◌∙◌, arith}
 use Rattle.std.proofs.lemmas.Bool.{eqb-true, false≢true}
 use Rattle.std.proofs.lemmas.List.{map-append}
 use Rattle.std.proofs.lemmas.List.Elements.{All-nil, All-cons, All-head, All-tail, All-append, All-filter, All-map, All-weaker}
@@ -22,7 +22,7 @@ use Rattle.kq_model.specs.World.{Call, Planned, Impossible, Possible, seen_world
 use Rattle.kq_model.proofs.Distinct.{IsOf}
 use Rattle.kq_model.proofs.FoldAlone.{rows_of-append, rows_of-none}
 use Rattle.kq_model.proofs.KnoteLaws.{by_test}
-use Rattle.kq_model.proofs.ListFilters.{All-left, All-right}
+use Rattle.kq_model.proofs.ListFilters.{All-left, All-right, All-unmap}
 
 all-owned : (tag : Option ℕ) (rows : List Row) → all_rows (owned_by tag rows) ≡ rows
 all-owned tag [] = refl
@@ -52,6 +52,19 @@ row-rises place answer rest rising = by_answer answer
     by_answer (reply.Events events) = one (record { at = place; reply = reply.Events events }) refl
     by_answer (reply.Failed e) = one (record { at = place; reply = reply.Failed e }) refl
     by_answer (reply.Impossible why) = one (record { at = place; reply = reply.Impossible why }) refl
+
+-- some of rising rows rise
+pub part-rises : (who : Option ℕ) (rows : List OwnedRow) → Rise (all_rows rows) → Rise (rows_of who rows)
+part-rises who [] rise = tt
+part-rises who (r ∷ rows) rise =
+    let later = All-unmap (λ (x : Row). r.row.at < x.at) (λ (x : OwnedRow). x.row) rows rise.0 in
+    by_test (λ b. Rise (map (λ (x : OwnedRow). x.row) (cond b (r ∷ filter (λ (x : OwnedRow). same_kqueue who x.kqueue) rows) (filter (λ (x : OwnedRow). same_kqueue who x.kqueue) rows)))) (same_kqueue who r.kqueue)
+    (λ _. (
+      All-map (λ (x : Row). r.row.at < x.at) (λ (x : OwnedRow). x.row) (filter (λ (x : OwnedRow). same_kqueue who x.kqueue) rows)
+          (All-filter (λ (x : OwnedRow). same_kqueue who x.kqueue) (λ (x : OwnedRow). r.row.at < x.row.at) rows later),
+      part-rises who rows rise.1,
+    ))
+    (λ _. part-rises who rows rise.1)
 
 module _ {S : Type 0} {h : Hearing S} where
   quiet-row : (place : ℕ) (m : Moment) (c : Option Call) (live : List (Live h)) → rows_of None (owned_by (kqueue_of c) (row_of place (reply_to m c live))) ≡ []

@@ -20,6 +20,10 @@ pub mod MergedRows
 pub mod FoldRows
 pub mod PlannedCalls
 pub mod Projection
+pub mod UntouchedNumbers
+pub mod UntouchedTargets
+pub mod HistoryPushed
+pub mod PrivateItems
 pub mod ProjectionOpened
 pub mod ProjectionRuns
 pub mod PrivateRows

@@ -167,7 +167,7 @@ module _ {S : Type 0} (h : Hearing S) where
 
   -- ---- a moment without an item
 
-  no_items : (pairs : List Pair) (posted : List Posted) (span : Option Span) (c : Option Call) → has_item pairs posted span c ≡ false
+  pub no_items : (pairs : List Pair) (posted : List Posted) (span : Option Span) (c : Option Call) → has_item pairs posted span c ≡ false
       → (pairs ≡ []) × (posted ≡ []) × (span ≡ None) × (c ≡ None)
   unfolding has_item
   no_items [] [] None None e = (refl, refl, refl, refl)

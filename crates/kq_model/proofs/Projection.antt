@@ -17,13 +17,13 @@ use Rattle.kq_model.specs.Moments.{plans_from, moments_from, views_at}
 use Rattle.kq_model.specs.Objects.{Keeping}
 use Rattle.kq_model.specs.OwnedRows.{OwnedRow, owned_rows, rows_of, all_rows, plain_from, Rise}
 use Rattle.kq_model.specs.PrivateList.{private_list}
-use Rattle.kq_model.specs.Projection.{plans, moments, history, kqueues, plain_rows, replayed, folded, AreProjected, AreMerged}
+use Rattle.kq_model.specs.Projection.{plans, moments, history, kqueues, plain_rows, replayed, folded, AreProjected, AreMerged, AreRising}
 use Rattle.kq_model.specs.Replayed.{rows_alone, rows_over}
 use Rattle.kq_model.specs.System.{Live, System, empty_system, rows_by}
 use Rattle.kq_model.specs.World.{World, empty_world, Planned}
 use Rattle.kq_model.proofs.Distinct.{places_of, births-rising, one-owner, each-of}
 use Rattle.kq_model.proofs.FoldAlone.{fold-alone}
-use Rattle.kq_model.proofs.FoldRows.{fold-rises, fold-rows, fold-plain, fold-of}
+use Rattle.kq_model.proofs.FoldRows.{part-rises, fold-rises, fold-rows, fold-plain, fold-of}
 use Rattle.kq_model.proofs.HistoryViews.{IsAt, moments-at}
 use Rattle.kq_model.proofs.LiveKqueues.{empty-live}
 use Rattle.kq_model.proofs.MergedRows.{rows-split}
@@ -99,4 +99,15 @@ module _ {S A B C D : Type 0} (h : Hearing S) (k : Keeping A B C D) (version : �
     subst (IsPermutation (flat_map (replayed k version h es) (kqueues k version es) ++ plain_rows k version es)) (sym all-rows)
         (plans-merged h k version (plans k version es) calls),
     subst Rise (sym all-rows) (fold-rises 1 (empty_system {h = h} {k = k} version) (plans k version es)).1,
+  )
+
+  whole-rises : Rise (all_rows (folded k version h es))
+  whole-rises = (fold-rises 1 (empty_system {h = h} {k = k} version) (plans k version es)).1
+
+  -- as a merge by place wants them
+  pub rising : AreRising k version h es
+  rising = (
+    All-weaker (λ (b : Birth). replayed k version h es b ≡ rows_of (Some b.place) (folded k version h es)) (λ b. Rise (replayed k version h es b))
+        (λ b same. subst Rise (sym same) (part-rises (Some b.place) (folded k version h es) whole-rises)) (kqueues k version es) projected,
+    subst Rise (fold-plain 1 (empty_system {h = h} {k = k} version) (plans k version es)) (part-rises None (folded k version h es) whole-rises),
   )

@@ -66,6 +66,9 @@ pub mod Replayed
 pub mod OwnedRows
 pub mod LiveCalls
 pub mod Projection
+pub mod TouchedNumbers
+pub mod TouchedTargets
+pub mod Items
 pub mod Tallied
 pub mod Recast
 pub mod Report

@@ -35,6 +35,11 @@ module _ {A B C D : Type 0} {k : Keeping A B C D} where
   world_at last place w [] = w
   world_at last place w (q ∷ qs) = if nat_lt last place then w else world_at last (place + 1) (world_by place q w) qs
 
-  -- what is seen of it
+  -- the world after all these records
+  unfoldable pub world_after : ℕ → World k → List Planned → World k
+  world_after place w [] = w
+  world_after place w (q ∷ qs) = world_after (place + 1) (world_by place q w) qs
+
+  -- what is seen of the world after the record at `last`
   abbrev pub views_at : ℕ → World k → List Planned → ℕ → Views
   views_at place w qs last = views_of (seen_world (world_at last place w qs))

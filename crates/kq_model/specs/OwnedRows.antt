@@ -27,7 +27,8 @@ module _ {S A B C D : Type 0} {h : Hearing S} {k : Keeping A B C D} where
   -- of the records with these plans, the first of which stands at `place`
   unfoldable pub owned_rows : ℕ → System h k → List Planned → List OwnedRow
   owned_rows place s [] = []
-  owned_rows place s (q ∷ qs) = owned_in place (step_by place q s) ++ owned_rows (place + 1) (step_by place q s).system qs
+  owned_rows place s (q ∷ qs) =
+      owned_in place (step_by place q s) ++ owned_rows (place + 1) (step_by place q s).system qs
 
 -- those of one kqueue, or of none, in their order
 abbrev pub rows_of : Option ℕ → List OwnedRow → List Row

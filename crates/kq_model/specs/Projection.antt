@@ -64,3 +64,7 @@ module _ {A B C D : Type 0} (k : Keeping A B C D) (version : ℕ) where
     AreMerged es =
         IsPermutation (flat_map (replayed es) (kqueues es) ++ plain_rows es) (rows_by h k version es)
         × Rise (rows_by h k version es)
+
+    -- the rows of each kqueue alone, and the plain rows, stand by rising place
+    abbrev pub AreRising : List Event → Type 0
+    AreRising es = All (λ b. Rise (replayed es b)) (kqueues es) × Rise (plain_rows es)
