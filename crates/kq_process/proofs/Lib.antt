@@ -6,3 +6,10 @@ pub mod Closing
 pub mod Opening
 pub mod Told
 pub mod Planned
+pub mod Sums
+pub mod Sound
+pub mod CountedSteps
+pub mod Shared
+pub mod Acted
+pub mod Undone
+pub mod Still

@@ -1,12 +1,19 @@
-//! The world of processes and descriptors.
+//! The world: processes, their descriptors, the objects that these name, and the clock.
 #![tactic(auto)]
 
+mod acts;
+mod counting;
 mod effect;
 mod ignored;
 mod process;
 mod processes;
 mod records;
+mod sharing;
 mod shelf;
+mod steps;
+mod uses;
+mod world;
 
 pub use effect::Effect;
-pub use processes::Processes;
+pub use uses::Use;
+pub use world::World;

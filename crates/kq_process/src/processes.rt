@@ -1,4 +1,4 @@
-ghost use Rattle.std.specs.Prelude.{◌≡◌, ◌∷◌, ◌≤◌, [], true, false, None, Some, IfOk, OnOk, OnErr};
+ghost use Rattle.std.specs.Prelude.{◌≡◌, ◌==◌, ◌∷◌, ◌≤◌, [], true, false, None, Some, IfOk, OnOk, OnErr};
 ghost use Rattle.kq_model.specs.Limits.{most_signal};
 ghost use Rattle.kq_model.specs.Descriptors.{named_among, with_descriptor, with_descriptors, without_closed};
 ghost use Rattle.kq_model.specs.DescriptorPlans.{closes};
@@ -22,7 +22,7 @@ pub struct Processes {
 }
 
 impl Processes {
-    ghost use Rattle.kq_process.specs.Processes.{processes_of, table_of, descriptors_in, descriptor_in};
+    ghost use Rattle.kq_process.specs.Processes.{processes_of, table_of, descriptors_in, descriptor_in, descriptor_there, AreOnce};
 
     pub fn new(alloc: Global) -> Self
         ensures processes { processes_of result ≡ [] }
@@ -75,10 +75,23 @@ impl Processes {
 
     /// What an open descriptor names.
     pub fn named(&self, pid: u32, number: u32) -> Option<Named>
-        ensures { result ≡ named_among pid number (table_of self.now) }
+        ensures named { result ≡ named_among pid number (table_of self.now) }
+        ensures once { AreOnce (descriptor_there pid number result) (table_of self.now) }
     {
         let process = self.shelf.get(pid)?;
         process.descriptors.get(number).copied()
+    }
+
+    /// The open descriptors of a process, in rising order of their numbers; none where there is no
+    /// such process.
+    pub fn descriptors(&self, pid: u32) -> &[(u32, Named)]
+        ensures all { descriptors_in pid result.now ≡ descriptors_of pid (table_of self.now) }
+        ensures once { AreOnce (descriptors_of pid (table_of self.now)) (table_of self.now) }
+    {
+        match self.shelf.get(pid) {
+            Some(process) => process.descriptors.entries(),
+            None => &[],
+        }
     }
 
     /// A process starts, with no descriptors and no ignored signals.
@@ -106,6 +119,8 @@ impl Processes {
             ≡ with_process (Some (record { pid = child; ignores = ignores })) (processes_of self.old)) }
         ensures table { OnOk result (table_of self.new
             ≡ with_descriptors (inherited pid child (table_of self.old)) (table_of self.old)) }
+        ensures copies { OnOk result (descriptors_of child (table_of self.new)
+            ≡ inherited pid child (table_of self.old)) }
         ensures err_processes { OnErr result (processes_of self.new ≡ processes_of self.old) }
         ensures err_table { OnErr result (table_of self.new ≡ table_of self.old) }
     {
@@ -175,5 +190,29 @@ impl Processes {
             unreachable!()
         };
         process.descriptors.insert(number, named)
+    }
+
+    /// Two numbers that are not open name these from now on.
+    pub fn name_both(
+        &mut self,
+        pid: u32,
+        first: (u32, Named),
+        second: (u32, Named),
+    ) -> Result<(), Memory>
+        requires live { is_live pid (processes_of self.old) ≡ true }
+        requires first { named_among pid first.0 (table_of self.old) ≡ None }
+        requires second { named_among pid second.0 (table_of self.old) ≡ None }
+        requires differ { (first.0 == second.0) ≡ false }
+        ensures table { OnOk result (table_of self.new
+            ≡ with_descriptors (descriptor_in pid first ∷ descriptor_in pid second ∷ []) (table_of self.old)) }
+        ensures processes { processes_of self.new ≡ processes_of self.old }
+        ensures err { OnErr result (table_of self.new ≡ table_of self.old) }
+    {
+        self.name(pid, first.0, first.1)?;
+        if let Err(memory) = self.name(pid, second.0, second.1) {
+            let _ = self.close(pid, first.0);
+            return Err(memory);
+        }
+        Ok(())
     }
 }
