@@ -176,10 +176,11 @@ once-more n names m = refl
 pub can-hold_each : (ns : List Named) (o : Objects counted) (names : List Named) → IsCounted o names → AreNamed ns names
     → length names + length ns < 2 ^ 64 → CanHoldEach ns o
 can-hold_each [] o names c there room = tt
-can-hold_each (n ∷ ns) o names c there room =
-    (can_hold-counted n o names c there.0 (omega arith),
-    can-hold_each ns (hold n o) (n ∷ names) (counted-more n o names (n ∷ names) (once-more n names) c)
-    (named-more n ns names there.1) (omega arith))
+can-hold_each (n ∷ ns) o names c there room = (
+  can_hold-counted n o names c there.0 (omega arith),
+  can-hold_each ns (hold n o) (n ∷ names) (counted-more n o names (n ∷ names) (once-more n names) c)
+      (named-more n ns names there.1) (omega arith),
+)
 
 first-named : (n : Named) (ns before after : List Named) → ((m : Named) → times m before ≡ times m after + times m (n ∷ ns))
     → IsNamed n before
@@ -190,12 +191,13 @@ pub can-release_each : (ns : List Named) (o : Objects counted) (before after : L
     → ((m : Named) → times m before ≡ times m after + times m ns) → CanReleaseEach ns o
 unfolding times
 can-release_each [] o before after c is = tt
-can-release_each (n ∷ ns) o before after c is =
-    (can_release-counted n o before c (first-named n ns before after is),
-    can-release_each ns (release n o) (ns ++ after) after
-    (counted-fewer n o before (ns ++ after)
-    (λ m. let e : times m before ≡ times m after + (times m ns + one_if (is_same m n)) = is m in let a = times-append m ns after in omega arith) c)
-    (λ m. let a = times-append m ns after in omega arith))
+can-release_each (n ∷ ns) o before after c is = (
+  can_release-counted n o before c (first-named n ns before after is),
+  can-release_each ns (release n o) (ns ++ after) after
+      (counted-fewer n o before (ns ++ after)
+      (λ m. let e : times m before ≡ times m after + (times m ns + one_if (is_same m n)) = is m in let a = times-append m ns after in omega arith) c)
+      (λ m. let a = times-append m ns after in omega arith),
+)
 
 -- ---- what a child's descriptors name, its parent's do
 
@@ -235,7 +237,6 @@ sound-new t o none nothing = rw (none, nothing) (record { counted = nobody; held
 apart : (b : Bool) (n m k : ℕ) → (n == m) ≡ false → (m == k) ≡ true → (b && (k == n)) ≡ false
 apart true n m k other same = grind (arith, nat_tests)
 apart false n m k other same = refl
-
 
 module _ (pid n : ℕ) where
   pub named-there : (t : List Descriptor) (v : Named) → named_among pid n t ≡ Some v → IsNamed v (names_of t)
@@ -357,7 +358,7 @@ module _ (t : List Descriptor) (o : Objects counted) (number : ℕ) (s : IsSound
 
   -- all descriptors of a process go
   module _ (pid : ℕ) (entries : List (ℕ × Named)) (is : descriptors_in pid entries ≡ descriptors_of pid t)
-    (once : AreOnce (descriptors_of pid t) t) where
+      (once : AreOnce (descriptors_of pid t) t) where
     pub exit-names : names_in entries ≡ names_of (descriptors_of pid t)
     exit-names = names-same pid entries ∙ ap names_of is
 
@@ -388,7 +389,7 @@ module _ (t : List Descriptor) (o : Objects counted) (number : ℕ) (s : IsSound
 
 -- a number is closed, and then names what another one names
 module _ (pid fd to : ℕ) (before n : Named) (t : List Descriptor) (o : Objects counted) (number : ℕ) (s : IsSound t o number)
-  (once : AreOnce (descriptor_in pid (to, before) ∷ []) t) where
+    (once : AreOnce (descriptor_in pid (to, before) ∷ []) t) where
   abbrev closed_to : List Descriptor
   closed_to = without_closed (record { pid = pid; number = to } ∷ []) t
 

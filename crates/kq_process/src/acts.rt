@@ -162,7 +162,14 @@ impl World {
     /// A file is opened, under a number that is not open (open(2)). NoProcess; UsedDescriptor: the
     /// number is open; then Absent: there is no such file.
     #[tactic(auto, unfolding(kq_model::specs::Holding::made_names, kq_model::specs::ObjectRecordPlans::plan_open, kq_model::specs::ObjectRecordPlans::if_live, kq_model::specs::ObjectRecordPlans::unless_open, kq_model::specs::World::named_by))]
-    pub fn open(&mut self, place: u64, pid: u32, fd: u32, file: u32, mode: Mode) -> Result<Effect, Memory>
+    pub fn open(
+        &mut self,
+        place: u64,
+        pid: u32,
+        fd: u32,
+        file: u32,
+        mode: Mode,
+    ) -> Result<Effect, Memory>
         requires { IsCountedWorld place (world_of self.old) }
         ensures effect { IfOk result (IsEffectBy (plan_open place pid fd file mode) self.old) }
         ensures world { OnOk result (IsNext place (plan_open place pid fd file mode) self.old self.new) }
@@ -185,7 +192,14 @@ impl World {
     /// A pipe is made, under two numbers that are not open (pipe(2)). NoProcess; UsedDescriptor: one of
     /// them is open, or both are the same; TooMany: its capacity.
     #[tactic(auto, unfolding(kq_model::specs::ObjectRecordPlans::plan_pipe, kq_model::specs::ObjectRecordPlans::if_live, kq_model::specs::ObjectRecordPlans::unless_open, kq_model::specs::World::named_by))]
-    pub fn pipe(&mut self, place: u64, pid: u32, read_fd: u32, write_fd: u32, cap: u32) -> Result<Effect, Memory>
+    pub fn pipe(
+        &mut self,
+        place: u64,
+        pid: u32,
+        read_fd: u32,
+        write_fd: u32,
+        cap: u32,
+    ) -> Result<Effect, Memory>
         requires { IsCountedWorld place (world_of self.old) }
         ensures effect { IfOk result (IsEffectBy (plan_pipe place pid read_fd write_fd cap) self.old) }
         ensures world { OnOk result (IsNext place (plan_pipe place pid read_fd write_fd cap) self.old self.new) }
@@ -209,7 +223,14 @@ impl World {
 
     // A pipe, whose ends these two new numbers name.
     #[tactic(auto, unfolding(kq_model::specs::ObjectRecordPlans::plan_act, kq_model::specs::ObjectRecordPlans::with_objects))]
-    fn make_pipe(&mut self, place: u64, pid: u32, read_fd: u32, write_fd: u32, cap: u32) -> Result<Effect, Memory>
+    fn make_pipe(
+        &mut self,
+        place: u64,
+        pid: u32,
+        read_fd: u32,
+        write_fd: u32,
+        cap: u32,
+    ) -> Result<Effect, Memory>
         requires earlier { IsCountedWorld place (world_of self.old) }
         requires live { is_live pid (world_of self.old).processes ≡ true }
         requires differ { (read_fd == write_fd) ≡ false }

@@ -6,43 +6,25 @@ use kq_model::{Act, Named, Side};
 #[derive(Clone, Copy, Drop)]
 pub enum Use {
     /// At most `backlog` connections wait (listen(2)).
-    Listen {
-        backlog: u32,
-    },
+    Listen { backlog: u32 },
     /// A connection arrives.
     Arrive,
     /// The socket is connected.
     Connect,
     /// Bytes come from the peer.
-    Receive {
-        bytes: u32,
-    },
+    Receive { bytes: u32 },
     /// Bytes of the send buffer go to the peer.
-    Transmit {
-        bytes: u32,
-    },
+    Transmit { bytes: u32 },
     /// A side is shut, with this error or 0 (shutdown(2)).
-    Shut {
-        side: Side,
-        error: u32,
-    },
+    Shut { side: Side, error: u32 },
     /// The low-water mark of a side.
-    LowWater {
-        side: Side,
-        mark: u32,
-    },
+    LowWater { side: Side, mark: u32 },
     /// See read(2).
-    Read {
-        bytes: u32,
-    },
+    Read { bytes: u32 },
     /// See write(2).
-    Write {
-        bytes: u32,
-    },
+    Write { bytes: u32 },
     /// See lseek(2).
-    Seek {
-        offset: i64,
-    },
+    Seek { offset: i64 },
 }
 
 impl Use {

@@ -46,7 +46,7 @@ returns-clause-effect c =
     let all : descriptors_in c.args.pid c.entries-entries.result.now ≡ descriptors_of c.args.pid (table_of old.processes) =
     ap (descriptors_in c.args.pid) c.entries-entries.ensures.all ∙ c.exit-gone.ensures.closed in
     let ns = exit-names (table_of old.processes) (objects_of old.objects) old.descriptors old.sound c.args.pid
-        c.entries-entries.result.now all c.descriptors-descriptors.ensures.once in
+    c.entries-entries.result.now all c.descriptors-descriptors.ensures.once in
     let none : c.in_ok-hints.hints.items ≡ [] = search rules in
     rw (exit_plan (world_of old) c.args.pid c.args.status (sym c.is_live.ensures ∙ c.if-not-is_live.false))
     (record {
@@ -65,7 +65,7 @@ returns-clause-world c place =
     let all : descriptors_in c.args.pid c.entries-entries.result.now ≡ descriptors_of c.args.pid (table_of old.processes) =
     ap (descriptors_in c.args.pid) c.entries-entries.ensures.all ∙ c.exit-gone.ensures.closed in
     let ns = exit-names (table_of old.processes) (objects_of old.objects) old.descriptors old.sound c.args.pid
-        c.entries-entries.result.now all c.descriptors-descriptors.ensures.once in
+    c.entries-entries.result.now all c.descriptors-descriptors.ensures.once in
     exit_world (world_of old) place c.args.pid c.args.status _ _ _ (sym c.is_live.ensures ∙ c.if-not-is_live.false)
     c.exit-gone.ensures.processes c.exit-gone.ensures.table
     (c.release_each.ensures.objects ∙ ap (λ ns. all_released ns (objects_of old.objects)) ns)
