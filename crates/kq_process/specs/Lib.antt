@@ -1,1 +1,4 @@
 pub mod Shelf
+pub mod Lends
+pub mod Processes
+pub mod Effects

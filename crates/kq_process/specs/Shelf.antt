@@ -28,6 +28,7 @@ module _ {X : Type 0} where
   -- the number's pair stands at this index
   pub record IsPlace (number : ℕ) (es : List (ℕ × X)) (index : ℕ) : Type 0 where
     pub within : index < length es
+    pub number_there : (d : ℕ × X) → (slice_index_or es index d).0 ≡ number
     pub found : (d : ℕ × X) → lookup number es ≡ Some (slice_index_or es index d).1
     pub sets : (x : X) → slice_set es index (number, x) ≡ put number x es
     pub removes : remove es index ≡ without number es

@@ -1,8 +1,9 @@
-ghost use Rattle.std.specs.Prelude.{◌≡◌, [], None, OnOk, OnErr, MatchResult, length};
-ghost use Rattle.std.specs.Option.{option_copied};
+ghost use Rattle.std.specs.Prelude.{◌≡◌, ◌==◌, not, filter, [], None, Some, IfOk, OnOk, OnErr, MatchResult, length};
+ghost use Rattle.std.specs.Option.{option_copied, option_copied_mut};
+ghost use Rattle.kq_model.specs.ProcessPlans.{is_kqueue};
 ghost use Rattle.kq_process.specs.Shelf.{lookup, put, without, AreRising, IsPlace, IsGap};
 
-use kq_model::Memory;
+use kq_model::{Memory, Named};
 use std::alloc::Global;
 use std::marker::Model;
 
@@ -25,6 +26,9 @@ impl<T> Model for Shelf<T> {
 }
 
 impl<T> Shelf<T> {
+    ghost use Rattle.std.specs.Borrow.{sem};
+    ghost use Rattle.kq_process.specs.Lends.{lends_entry, lends_thing};
+
     /// Nothing under any number.
     pub fn new(alloc: Global) -> Self
         ensures { result ≡ [] }
@@ -36,12 +40,34 @@ impl<T> Shelf<T> {
 
     /// What stands under a number.
     pub fn get(&self, number: u32) -> Option<&T>
-        ensures { option_copied result ≡ lookup number self.now }
+        ensures found { option_copied result ≡ lookup number self.now }
+        ensures rising { AreRising self.now }
     {
         match self.find(number) {
             Ok(index) => Some(&self.entries[index].1),
             Err(_) => None,
         }
+    }
+
+    /// What stands under a number, for writing.
+    pub fn get_mut(&mut self, number: u32) -> Option<&mut T>
+        ensures* writes_back { sem 𝓛 (lends_entry T.row self.entry number result) }
+        ensures found { option_copied_mut result ≡ lookup number self.old }
+        ensures rising { AreRising self.old }
+    {
+        match self.find(number) {
+            Ok(index) => Some(self.thing_mut(index, number)),
+            Err(_) => None,
+        }
+    }
+
+    fn thing_mut(&mut self, index: usize, number: u32) -> &mut T
+        requires { IsPlace number self.old index }
+        ensures* writes_back { sem 𝓛 (lends_thing T.row self.entry number result) }
+        ensures found { lookup number self.old ≡ Some result.now }
+    {
+        let entry = &mut self.entries[index];
+        &mut entry.1
     }
 
     /// All pairs, in rising order of their numbers.
@@ -56,6 +82,7 @@ impl<T> Shelf<T> {
     pub fn remove(&mut self, number: u32) -> Option<T>
         ensures removed { result ≡ lookup number self.old }
         ensures rest { self.new ≡ without number self.old }
+        ensures rising { AreRising self.old }
     {
         match self.find(number) {
             Ok(index) => Some(self.entries.remove(index).1),
@@ -65,7 +92,8 @@ impl<T> Shelf<T> {
 
     // The index of the number's pair, or where it would stand.
     fn find(&self, number: u32) -> Result<usize, usize>
-        ensures { MatchResult result (IsPlace number self.now) (IsGap number self.now) }
+        ensures place { MatchResult result (IsPlace number self.now) (IsGap number self.now) }
+        ensures rising { AreRising self.now }
     {
         self.entries.binary_search_by_key(&number, |entry| entry.0)
     }
@@ -77,6 +105,7 @@ impl<T: Drop> Shelf<T> {
         ensures ok { OnOk result (self.new ≡ put number thing self.old) }
         // Memory comes only where a growth was refused.
         ensures err { OnErr result ((self.new ≡ self.old) × (lookup number self.old ≡ None)) }
+        ensures rising { AreRising self.old }
     {
         match self.find(number) {
             Ok(index) => {
@@ -89,4 +118,28 @@ impl<T: Drop> Shelf<T> {
                 .map_err(|_| Memory),
         }
     }
+}
+
+impl Shelf<Named> {
+    /// Copies of the descriptors that a child of fork(2) has too: all but those of kqueues.
+    pub fn inheritable(&self, alloc: Global) -> Result<Self, Memory>
+        ensures copies { IfOk result (λ copies. copies ≡ filter (λ entry. not (is_kqueue entry.1)) self.now) }
+        ensures rising { AreRising self.now }
+    {
+        let entries = self
+            .entries
+            .iter()
+            .copied()
+            .filter(|entry| !is_kqueue(entry.1))
+            .collect(alloc)
+            .map_err(|_| Memory)?;
+        Ok(Shelf { entries })
+    }
+}
+
+#[tactic(auto, unfolding(kq_model::specs::ProcessPlans::is_kqueue))]
+fn is_kqueue(named: Named) -> bool
+    ensures { result ≡ is_kqueue named }
+{
+    matches!(named, Named::Kqueue(_))
 }

@@ -1,0 +1,179 @@
+ghost use Rattle.std.specs.Prelude.{◌≡◌, ◌∷◌, ◌≤◌, [], true, false, None, Some, IfOk, OnOk, OnErr};
+ghost use Rattle.kq_model.specs.Limits.{most_signal};
+ghost use Rattle.kq_model.specs.Descriptors.{named_among, with_descriptor, with_descriptors, without_closed};
+ghost use Rattle.kq_model.specs.DescriptorPlans.{closes};
+ghost use Rattle.kq_model.specs.ProcessPlans.{descriptors_of, pairs_of, inherited};
+ghost use Rattle.kq_model.specs.Processes.{was_used, is_live, process_of, ignores_none, ignored_by};
+ghost use Rattle.kq_model.specs.Processes.{with_process, without_process, with_disposition};
+ghost use Rattle.kq_model.specs.World.{process_view};
+
+use crate::ignored::Ignored;
+use crate::process::Process;
+use crate::shelf::Shelf;
+use kq_model::{Memory, Named, View};
+use std::alloc::Global;
+use std::mem;
+
+/// The processes that ever were, by their pids, and what their descriptors name.
+#[derive(Drop)]
+pub struct Processes {
+    shelf: Shelf<Process>,
+    alloc: Global,
+}
+
+impl Processes {
+    ghost use Rattle.kq_process.specs.Processes.{processes_of, table_of, descriptors_in, descriptor_in};
+
+    pub fn new(alloc: Global) -> Self
+        ensures processes { processes_of result ≡ [] }
+        ensures table { table_of result ≡ [] }
+    {
+        Processes {
+            shelf: Shelf::new(alloc),
+            alloc,
+        }
+    }
+
+    pub(crate) fn allocator(&self) -> Global {
+        self.alloc
+    }
+
+    /// Whether the pid was ever used.
+    pub fn was_used(&self, pid: u32) -> bool
+        ensures { result ≡ was_used pid (processes_of self.now) }
+    {
+        self.shelf.get(pid).is_some()
+    }
+
+    pub fn is_live(&self, pid: u32) -> bool
+        ensures { result ≡ is_live pid (processes_of self.now) }
+    {
+        match self.shelf.get(pid) {
+            Some(process) => process.exited.is_none(),
+            None => false,
+        }
+    }
+
+    /// What a PROC filter sees; a process keeps it once it has exited.
+    pub fn view(&self, pid: u32) -> Option<View>
+        ensures { result ≡ process_view (process_of pid (processes_of self.now)) }
+    {
+        let process = self.shelf.get(pid)?;
+        Some(View::Process {
+            exited: process.exited,
+        })
+    }
+
+    pub fn ignores(&self, pid: u32, signal: u32) -> bool
+        ensures { result ≡ ignored_by (process_of pid (processes_of self.now)) signal }
+    {
+        match self.shelf.get(pid) {
+            Some(process) => process.ignored.contains(signal),
+            None => false,
+        }
+    }
+
+    /// What an open descriptor names.
+    pub fn named(&self, pid: u32, number: u32) -> Option<Named>
+        ensures { result ≡ named_among pid number (table_of self.now) }
+    {
+        let process = self.shelf.get(pid)?;
+        process.descriptors.get(number).copied()
+    }
+
+    /// A process starts, with no descriptors and no ignored signals.
+    pub fn start(&mut self, pid: u32) -> Result<(), Memory>
+        requires { was_used pid (processes_of self.old) ≡ false }
+        ensures processes { OnOk result (processes_of self.new
+            ≡ with_process (Some (record { pid = pid; ignores = ignores_none })) (processes_of self.old)) }
+        ensures table { table_of self.new ≡ table_of self.old }
+        ensures err { OnErr result (processes_of self.new ≡ processes_of self.old) }
+    {
+        let process = Process {
+            exited: None,
+            ignored: Ignored::nothing(),
+            descriptors: Shelf::new(self.alloc),
+        };
+        self.shelf.insert(pid, process)
+    }
+
+    /// A child starts, with copies of its parent's descriptors and ignored signals, but no kqueues.
+    pub fn fork(&mut self, pid: u32, child: u32) -> Result<(), Memory>
+        requires live { is_live pid (processes_of self.old) ≡ true }
+        requires unused { was_used child (processes_of self.old) ≡ false }
+        ensures processes { let ignores = ignored_by (process_of pid (processes_of self.old)) in
+            OnOk result (processes_of self.new
+            ≡ with_process (Some (record { pid = child; ignores = ignores })) (processes_of self.old)) }
+        ensures table { OnOk result (table_of self.new
+            ≡ with_descriptors (inherited pid child (table_of self.old)) (table_of self.old)) }
+        ensures err_processes { OnErr result (processes_of self.new ≡ processes_of self.old) }
+        ensures err_table { OnErr result (table_of self.new ≡ table_of self.old) }
+    {
+        let Some(parent) = self.shelf.get(pid) else {
+            unreachable!()
+        };
+        let process = Process {
+            exited: None,
+            ignored: parent.ignored,
+            descriptors: parent.descriptors.inheritable(self.alloc)?,
+        };
+        self.shelf.insert(child, process)
+    }
+
+    /// A process exits: all its descriptors are closed, and given back in rising order.
+    pub fn exit(&mut self, pid: u32, status: u32) -> Shelf<Named>
+        requires { is_live pid (processes_of self.old) ≡ true }
+        ensures processes { processes_of self.new
+            ≡ without_process (Some (record { pid = pid; status = status })) (processes_of self.old) }
+        ensures table { table_of self.new
+            ≡ without_closed (pairs_of (descriptors_of pid (table_of self.old))) (table_of self.old) }
+        ensures closed { descriptors_in pid result ≡ descriptors_of pid (table_of self.old) }
+    {
+        let none = Shelf::new(self.alloc);
+        let Some(process) = self.shelf.get_mut(pid) else {
+            unreachable!()
+        };
+        process.exited = Some(status);
+        mem::replace(&mut process.descriptors, none)
+    }
+
+    /// A process begins to ignore a signal, or ceases to.
+    pub fn dispose(&mut self, pid: u32, signal: u32, ignore: bool)
+        requires live { is_live pid (processes_of self.old) ≡ true }
+        requires signal { signal ≤ most_signal }
+        ensures processes { processes_of self.new
+            ≡ with_disposition (Some (record { pid = pid; signal = signal; ignore = ignore })) (processes_of self.old) }
+        ensures table { table_of self.new ≡ table_of self.old }
+    {
+        let Some(process) = self.shelf.get_mut(pid) else {
+            unreachable!()
+        };
+        process.ignored.set(signal, ignore);
+    }
+
+    /// Closes a number, where it is open, and gives what it named.
+    pub fn close(&mut self, pid: u32, number: u32) -> Option<Named>
+        ensures named { result ≡ named_among pid number (table_of self.old) }
+        ensures table { table_of self.new
+            ≡ without_closed (record { pid = pid; number = number } ∷ []) (table_of self.old) }
+        ensures processes { processes_of self.new ≡ processes_of self.old }
+    {
+        let process = self.shelf.get_mut(pid)?;
+        process.descriptors.remove(number)
+    }
+
+    /// The number names this from now on. Where it is open it is closed before.
+    pub fn name(&mut self, pid: u32, number: u32, named: Named) -> Result<(), Memory>
+        requires { is_live pid (processes_of self.old) ≡ true }
+        ensures table { let closed = closes pid number (named_among pid number (table_of self.old)) in
+            OnOk result (table_of self.new
+            ≡ with_descriptor (descriptor_in pid (number, named)) (without_closed closed (table_of self.old))) }
+        ensures processes { processes_of self.new ≡ processes_of self.old }
+        ensures err { OnErr result (table_of self.new ≡ table_of self.old) }
+    {
+        let Some(process) = self.shelf.get_mut(pid) else {
+            unreachable!()
+        };
+        process.descriptors.insert(number, named)
+    }
+}

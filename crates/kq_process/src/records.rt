@@ -1,0 +1,124 @@
+// The records that are about processes and descriptors alone, whatever the objects and the clock.
+ghost use Rattle.std.specs.Prelude.{ℕ, IfOk, OnOk, OnErr};
+ghost use Rattle.kq_model.specs.DescriptorPlans.{plan_kqueue, plan_kevent};
+ghost use Rattle.kq_model.specs.ProcessPlans.{plan_proc, plan_exec, plan_sigset, plan_sig};
+
+use crate::effect::Effect;
+use crate::processes::Processes;
+use kq_model::limits::{MOST_CHANGES, MOST_ROOM};
+use kq_model::notes::NOTE_EXEC;
+use kq_model::{Change, Hint, Memory, Named, Target, Why};
+
+/// The largest signal; the least is 1.
+const MOST_SIGNAL: u32 = 128;
+
+/// SIGCHLD: no knote hears of it while the process ignores it.
+const SIGCHLD: u32 = 20;
+
+impl Processes {
+    ghost use Rattle.kq_process.specs.Effects.{IsToldBy, IsAfter, IsUnchanged, IsCallBy};
+
+    /// A process starts. UsedPid: the pid was used before.
+    #[tactic(auto, unfolding(kq_model::specs::ProcessPlans::plan_proc))]
+    pub fn proc(&mut self, pid: u32) -> Result<Effect, Memory>
+        ensures effect { IfOk result (IsToldBy (plan_proc pid) self.old) }
+        ensures world { (place : ℕ) → OnOk result (IsAfter place (plan_proc pid) self.old self.new) }
+        ensures err { OnErr result (IsUnchanged self.old self.new) }
+    {
+        let alloc = self.allocator();
+        if self.was_used(pid) {
+            return Ok(Effect::impossible(alloc, Why::UsedPid));
+        }
+        self.start(pid)?;
+        Ok(Effect::quiet(alloc))
+    }
+
+    /// A process executes another program. NoProcess: the pid names no live process.
+    #[tactic(auto, unfolding(kq_model::specs::ProcessPlans::plan_exec))]
+    pub fn exec(&self, pid: u32) -> Result<Effect, Memory>
+        ensures { IfOk result (IsToldBy (plan_exec pid) self.now) }
+    {
+        let alloc = self.allocator();
+        if !self.is_live(pid) {
+            return Ok(Effect::impossible(alloc, Why::NoProcess));
+        }
+        Effect::told(alloc, Target::Process(pid), Hint::Note(NOTE_EXEC))
+    }
+
+    /// A process begins to ignore a signal, or ceases to. NoProcess; TooMany: no such signal.
+    #[tactic(auto, unfolding(kq_model::specs::ProcessPlans::plan_sigset, kq_model::specs::ProcessPlans::is_signal))]
+    pub fn sigset(&mut self, pid: u32, signal: u32, ignore: bool) -> Effect
+        ensures effect { IsToldBy (plan_sigset pid signal ignore) self.old result }
+        ensures world { (place : ℕ) → IsAfter place (plan_sigset pid signal ignore) self.old self.new }
+    {
+        let alloc = self.allocator();
+        if !self.is_live(pid) {
+            return Effect::impossible(alloc, Why::NoProcess);
+        }
+        if signal < 1 || signal > MOST_SIGNAL {
+            return Effect::impossible(alloc, Why::TooMany);
+        }
+        self.dispose(pid, signal, ignore);
+        Effect::quiet(alloc)
+    }
+
+    /// A signal is delivered to a process. A knote hears of it also where the process ignores it,
+    /// but for SIGCHLD (kqueue(2)). NoProcess; TooMany: no such signal.
+    #[tactic(auto, unfolding(kq_model::specs::ProcessPlans::plan_sig, kq_model::specs::ProcessPlans::is_signal))]
+    pub fn signal(&self, pid: u32, signal: u32) -> Result<Effect, Memory>
+        ensures { IfOk result (IsToldBy (plan_sig pid signal) self.now) }
+    {
+        let alloc = self.allocator();
+        if !self.is_live(pid) {
+            return Ok(Effect::impossible(alloc, Why::NoProcess));
+        }
+        if signal < 1 || signal > MOST_SIGNAL {
+            return Ok(Effect::impossible(alloc, Why::TooMany));
+        }
+        if signal == SIGCHLD && self.ignores(pid, signal) {
+            return Ok(Effect::quiet(alloc));
+        }
+        Effect::told(alloc, Target::Signal { pid, signal }, Hint::Delivered)
+    }
+
+    /// A process opens a kqueue, named by the record's place, under a number that is not open.
+    /// NoProcess; UsedDescriptor: the number is open.
+    #[tactic(auto, unfolding(kq_model::specs::DescriptorPlans::plan_kqueue, kq_model::specs::World::named_by))]
+    pub fn kqueue(&mut self, place: u64, pid: u32, fd: u32) -> Result<Effect, Memory>
+        ensures effect { IfOk result (IsToldBy (plan_kqueue pid fd) self.old) }
+        ensures world { OnOk result (IsAfter place (plan_kqueue pid fd) self.old self.new) }
+        ensures err { OnErr result (IsUnchanged self.old self.new) }
+    {
+        let alloc = self.allocator();
+        if !self.is_live(pid) {
+            return Ok(Effect::impossible(alloc, Why::NoProcess));
+        }
+        if self.named(pid, fd).is_some() {
+            return Ok(Effect::impossible(alloc, Why::UsedDescriptor));
+        }
+        self.name(pid, fd, Named::Kqueue(place))?;
+        Ok(Effect::quiet(alloc))
+    }
+
+    /// The kqueue of a kevent call, by the place of the record that made it. It takes no memory.
+    /// NoProcess; NoDescriptor: the number is not open; WrongKind: it names no kqueue; TooMany:
+    /// more than 1,024 changes, or room for more than 65,536 events.
+    #[tactic(auto, unfolding(kq_model::specs::DescriptorPlans::plan_kevent, kq_model::specs::DescriptorPlans::plan_call, kq_model::specs::DescriptorPlans::on_descriptor, kq_model::specs::DescriptorPlans::on_named, kq_model::specs::World::named_by))]
+    pub fn call(&self, pid: u32, fd: u32, changes: &[Change], room: u32) -> Result<u64, Why>
+        ensures { IsCallBy (plan_kevent pid fd changes.now room) self.now changes.now room result }
+    {
+        if !self.is_live(pid) {
+            return Err(Why::NoProcess);
+        }
+        match self.named(pid, fd) {
+            None => Err(Why::NoDescriptor),
+            Some(Named::Kqueue(kqueue)) => {
+                if changes.len() > MOST_CHANGES || room > MOST_ROOM {
+                    return Err(Why::TooMany);
+                }
+                Ok(kqueue)
+            }
+            Some(_) => Err(Why::WrongKind),
+        }
+    }
+}
