@@ -20,13 +20,15 @@ Passes f pid = (m : ℕ) (ds : List (ℕ × Named)) (t : List Descriptor) → m 
 module _ (f : List Descriptor → List Descriptor) (pid : ℕ) (x : Process) (passes : Passes f pid) where
   -- the block of a process that is there
   pub at-process : (p : Process)
-      → ((es : List (ℕ × Process)) → AreAbove pid es → f (descriptors_in pid p.descriptors ++ table_in es) ≡ descriptors_in pid x.descriptors ++ table_in es)
+      → ((es : List (ℕ × Process)) → AreAbove pid es → f (descriptors_in pid p.descriptors ++ table_in es)
+      ≡ descriptors_in pid x.descriptors ++ table_in es)
       → (es : List (ℕ × Process)) → AreRising es → lookup pid es ≡ Some p → f (table_in es) ≡ table_in (put pid x es)
   at-process p changes [] rising found = absurd (cc)
   at-process p changes (e ∷ es) rising found = elim (order e.0 pid) [
     | Below lt ↦
         passes e.0 e.1.descriptors (table_in es) lt
-        ∙ ap (λ t. descriptors_in e.0 e.1.descriptors ++ t) (at-process p changes es rising.1 (sym (lookup-later pid e es lt) ∙ found))
+        ∙ ap (λ t. descriptors_in e.0 e.1.descriptors ++ t)
+        (at-process p changes es rising.1 (sym (lookup-later pid e es lt) ∙ found))
         ∙ sym (ap table_in (put-later pid x e es lt))
     | Same is ↦
         let first : lookup pid (e ∷ es) ≡ Some e.1 = lookup-first pid e es is in
@@ -35,17 +37,20 @@ module _ (f : List Descriptor → List Descriptor) (pid : ℕ) (x : Process) (pa
         ∙ ap (λ (q : Process). f (descriptors_in pid q.descriptors ++ table_in es)) thing
         ∙ changes es (subst (λ m. AreAbove m es) is rising.0)
         ∙ sym (ap table_in (put-first pid x e es is))
-    | Above lt ↦ let none : lookup pid (e ∷ es) ≡ None = lookup-above pid (e ∷ es) (above-all pid e es lt rising.0) in absurd (cc)
+    | Above lt ↦ let none : lookup pid (e ∷ es) ≡ None = lookup-above pid (e ∷ es) (above-all pid e es lt rising.0) in
+        absurd (cc)
   ]
 
   -- the block of a process that was not there
-  pub at-gap : ((es : List (ℕ × Process)) → AreAbove pid es → f (table_in es) ≡ descriptors_in pid x.descriptors ++ table_in es)
+  pub at-gap : ((es : List (ℕ × Process)) → AreAbove pid es → f (table_in es)
+      ≡ descriptors_in pid x.descriptors ++ table_in es)
       → (es : List (ℕ × Process)) → AreRising es → lookup pid es ≡ None → f (table_in es) ≡ table_in (put pid x es)
   at-gap changes [] rising absent = changes [] tt
   at-gap changes (e ∷ es) rising absent = elim (order e.0 pid) [
     | Below lt ↦
         passes e.0 e.1.descriptors (table_in es) lt
-        ∙ ap (λ t. descriptors_in e.0 e.1.descriptors ++ t) (at-gap changes es rising.1 (sym (lookup-later pid e es lt) ∙ absent))
+        ∙ ap (λ t. descriptors_in e.0 e.1.descriptors ++ t)
+        (at-gap changes es rising.1 (sym (lookup-later pid e es lt) ∙ absent))
         ∙ sym (ap table_in (put-later pid x e es lt))
     | Same is ↦ let first : lookup pid (e ∷ es) ≡ Some e.1 = lookup-first pid e es is in absurd (cc)
     | Above lt ↦ changes (e ∷ es) (above-all pid e es lt rising.0) ∙ sym (ap table_in (put-before pid x e es lt))
@@ -58,11 +63,13 @@ as_it_is t = t
 
 pub kept-block : (pid : ℕ) (p x : Process) → x.descriptors ≡ p.descriptors → (es : List (ℕ × Process)) → AreRising es
     → lookup pid es ≡ Some p → table_in es ≡ table_in (put pid x es)
-kept-block pid p x same_block = at-process as_it_is pid x (λ m ds t lt. refl) p (λ es above. ap (λ ds. descriptors_in pid ds ++ table_in es) (sym same_block))
+kept-block pid p x same_block = at-process as_it_is pid x (λ m ds t lt. refl) p
+    (λ es above. ap (λ ds. descriptors_in pid ds ++ table_in es) (sym same_block))
 
 pub empty-block : (pid : ℕ) (x : Process) → x.descriptors ≡ [] → (es : List (ℕ × Process)) → AreRising es
     → lookup pid es ≡ None → table_in es ≡ table_in (put pid x es)
-empty-block pid x empty = at-gap as_it_is pid x (λ m ds t lt. refl) (λ es above. ap (λ ds. descriptors_in pid ds ++ table_in es) (sym empty))
+empty-block pid x empty = at-gap as_it_is pid x (λ m ds t lt. refl)
+    (λ es above. ap (λ ds. descriptors_in pid ds ++ table_in es) (sym empty))
 
 -- ---- what is found
 
@@ -139,5 +146,6 @@ module _ (pid : ℕ) where
         ∙ sym (ap (λ o. descriptors_in pid (descriptors_at o)) (lookup-first pid e es is))
     | Above lt ↦
         of-above (e ∷ es) (above-all pid e es lt rising.0)
-        ∙ sym (ap (λ o. descriptors_in pid (descriptors_at o)) (lookup-above pid (e ∷ es) (above-all pid e es lt rising.0)))
+        ∙ sym (ap (λ o. descriptors_in pid (descriptors_at o))
+        (lookup-above pid (e ∷ es) (above-all pid e es lt rising.0)))
   ]

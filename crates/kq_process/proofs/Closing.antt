@@ -45,7 +45,8 @@ module _ (pid : ℕ) (closed : List Pair) (spares : SparesOther pid closed) wher
 
   -- what is closed of the process's own block
   pub closed-block : (p x : Process)
-      → ((t : List Descriptor) → without_closed closed (descriptors_in pid p.descriptors ++ t) ≡ descriptors_in pid x.descriptors ++ without_closed closed t)
+      → ((t : List Descriptor) → without_closed closed (descriptors_in pid p.descriptors ++ t)
+      ≡ descriptors_in pid x.descriptors ++ without_closed closed t)
       → (es : List (ℕ × Process)) → AreRising es → lookup pid es ≡ Some p
       → without_closed closed (table_in es) ≡ table_in (put pid x es)
   closed-block p x own = at-process (without_closed closed) pid x
@@ -61,11 +62,13 @@ pub one-spares : (pid n m k : ℕ) → (pid == m) ≡ false → has_pair m k (on
 one-spares pid n m k apart = rw apart refl
 
 one-own : (pid n : ℕ) (ds : List (ℕ × Named)) (t : List Descriptor)
-    → without_closed (one pid n) (descriptors_in pid ds ++ t) ≡ descriptors_in pid (without n ds) ++ without_closed (one pid n) t
+    → without_closed (one pid n) (descriptors_in pid ds ++ t)
+    ≡ descriptors_in pid (without n ds) ++ without_closed (one pid n) t
 one-own pid n [] t = refl
 one-own pid n (d ∷ ds) t = elim (test (d.0 == n)) [
   | Yes h ↦ rw (same-true pid pid refl, h, same-true n d.0 (sym (same d.0 n h))) (one-own pid n ds t)
-  | No h ↦ rw (same-true pid pid refl, h, differ-other-way d.0 n h) (ap (λ t. descriptor_in pid d ∷ t) (one-own pid n ds t))
+  | No h ↦ rw (same-true pid pid refl, h, differ-other-way d.0 n h)
+      (ap (λ t. descriptor_in pid d ∷ t) (one-own pid n ds t))
 ]
 
 pub closed-one : (pid n : ℕ) (p x : Process) → x.descriptors ≡ without n p.descriptors → (es : List (ℕ × Process))
@@ -102,7 +105,8 @@ AreThere all ds = AllByRecursion (λ d. is_some (lookup d.0 all) ≡ true) ds
 
 there-more : (e : ℕ × Named) (all ds : List (ℕ × Named)) → AreThere all ds → AreThere (e ∷ all) ds
 there-more e all [] there = tt
-there-more e all (d ∷ ds) there = (elim (test (e.0 == d.0)) [ Yes h ↦ rw h refl | No h ↦ rw h there.0 ], there-more e all ds there.1)
+there-more e all (d ∷ ds) there =
+    (elim (test (e.0 == d.0)) [ Yes h ↦ rw h refl | No h ↦ rw h there.0 ], there-more e all ds there.1)
 
 all-there : (ds : List (ℕ × Named)) → AreThere ds ds
 all-there [] = tt
@@ -117,4 +121,5 @@ pub closed-all : (pid : ℕ) (p x : Process) → x.descriptors ≡ [] → (es : 
     → lookup pid es ≡ Some p
     → without_closed (pairs_of (descriptors_in pid p.descriptors)) (table_in es) ≡ table_in (put pid x es)
 closed-all pid p x empty = closed-block pid (all_of pid p.descriptors) (all-spares pid p.descriptors) p x
-    (λ t. all-own pid p.descriptors p.descriptors t (all-there p.descriptors) ∙ ap (λ ds. descriptors_in pid ds ++ without_closed (all_of pid p.descriptors) t) (sym empty))
+    (λ t. all-own pid p.descriptors p.descriptors t (all-there p.descriptors)
+    ∙ ap (λ ds. descriptors_in pid ds ++ without_closed (all_of pid p.descriptors) t) (sym empty))

@@ -64,7 +64,8 @@ started-put s p is [] absent = ap (λ q. q ∷ []) (sym is)
 started-put s p is (e ∷ es) absent = elim (order e.0 s.pid) [
   | Below lt ↦
       let le : e.0 ≤ s.pid = omega arith in
-      let rest : with_start s (map process_in es) ≡ map process_in (put s.pid p es) = started-put s p is es (sym (lookup-later s.pid e es lt) ∙ absent) in
+      let rest : with_start s (map process_in es)
+      ≡ map process_in (put s.pid p es) = started-put s p is es (sym (lookup-later s.pid e es lt) ∙ absent) in
       rw (less-false s.pid e.0 le, differ e.0 s.pid lt) (ap (λ t. process_in e ∷ t) rest)
   | Same here ↦ let found : lookup s.pid (e ∷ es) ≡ Some e.1 = lookup-first s.pid e es here in absurd (cc)
   | Above lt ↦ rw (less-true s.pid e.0 lt) (ap (λ q. q ∷ map process_in (e ∷ es)) (sym is))
@@ -79,7 +80,8 @@ changed_at pid f ps = map (λ (q : model.Process). if q.pid == pid then f q else
 changed-above : (pid : ℕ) (f : model.Process → model.Process) (es : List (ℕ × Process)) → AreAbove pid es
     → changed_at pid f (map process_in es) ≡ map process_in es
 changed-above pid f [] above = refl
-changed-above pid f (e ∷ es) above = rw (differ-back pid e.0 above.0) (ap (λ t. process_in e ∷ t) (changed-above pid f es above.1))
+changed-above pid f (e ∷ es) above = rw (differ-back pid e.0 above.0)
+    (ap (λ t. process_in e ∷ t) (changed-above pid f es above.1))
 
 module _ (pid : ℕ) (p x : Process) where
   pub changed-put : (f : model.Process → model.Process) → f (process_in (pid, p)) ≡ process_in (pid, x)
@@ -88,16 +90,20 @@ module _ (pid : ℕ) (p x : Process) where
   changed-put f is [] rising found = absurd (cc)
   changed-put f is (e ∷ es) rising found = elim (order e.0 pid) [
     | Below lt ↦
-        rw (differ e.0 pid lt) (ap (λ t. process_in e ∷ t) (changed-put f is es rising.1 (sym (lookup-later pid e es lt) ∙ found)))
+        rw (differ e.0 pid lt)
+        (ap (λ t. process_in e ∷ t) (changed-put f is es rising.1 (sym (lookup-later pid e es lt) ∙ found)))
         ∙ sym (ap (map process_in) (put-later pid x e es lt))
     | Same here ↦
         let first : lookup pid (e ∷ es) ≡ Some e.1 = lookup-first pid e es here in
         let thing : e.1 ≡ p = cc in
         let head : f (process_in e) ≡ process_in (pid, x) = ap (λ m. f (process_in (m, e.1))) here
         ∙ ap (λ q. f (process_in (pid, q))) thing ∙ is in
-        rw (same-true e.0 pid here) (ap (λ q. q ∷ changed_at pid f (map process_in es)) head ∙ ap (λ t. process_in (pid, x) ∷ t) (changed-above pid f es (subst (λ m. AreAbove m es) here rising.0)))
+        rw (same-true e.0 pid here)
+        (ap (λ q. q ∷ changed_at pid f (map process_in es)) head
+        ∙ ap (λ t. process_in (pid, x) ∷ t) (changed-above pid f es (subst (λ m. AreAbove m es) here rising.0)))
         ∙ sym (ap (map process_in) (put-first pid x e es here))
-    | Above lt ↦ let none : lookup pid (e ∷ es) ≡ None = lookup-above pid (e ∷ es) (above-all pid e es lt rising.0) in absurd (cc)
+    | Above lt ↦ let none : lookup pid (e ∷ es) ≡ None = lookup-above pid (e ∷ es) (above-all pid e es lt rising.0) in
+        absurd (cc)
   ]
 
   -- what contracts see of the process stays
@@ -111,6 +117,8 @@ module _ (pid : ℕ) (p x : Process) where
         let first : lookup pid (e ∷ es) ≡ Some e.1 = lookup-first pid e es here in
         let thing : p ≡ e.1 = cc in
         ap (map process_in) (put-first pid x e es here)
-        ∙ ap (λ q. q ∷ map process_in es) (is ∙ ap (λ q. process_in (pid, q)) thing ∙ ap (λ m. process_in (m, e.1)) (sym here))
-    | Above lt ↦ let none : lookup pid (e ∷ es) ≡ None = lookup-above pid (e ∷ es) (above-all pid e es lt rising.0) in absurd (cc)
+        ∙ ap (λ q. q ∷ map process_in es)
+        (is ∙ ap (λ q. process_in (pid, q)) thing ∙ ap (λ m. process_in (m, e.1)) (sym here))
+    | Above lt ↦ let none : lookup pid (e ∷ es) ≡ None = lookup-above pid (e ∷ es) (above-all pid e es lt rising.0) in
+        absurd (cc)
   ]

@@ -112,13 +112,15 @@ module _ {X : Type 0} where
   filter-keeps-above : (q : ℕ × X → Bool) (m : ℕ) (es : List (ℕ × X)) → AreAbove m es → AreAbove m (filter q es)
   filter-keeps-above q m [] above = tt
   filter-keeps-above q m (e ∷ es) above =
-      if-both (AreAbove m) (q e) _ _ (λ t. (above.0, filter-keeps-above q m es above.1)) (λ f. filter-keeps-above q m es above.1)
+      if-both (AreAbove m) (q e) _ _ (λ t. (above.0, filter-keeps-above q m es above.1))
+      (λ f. filter-keeps-above q m es above.1)
 
   pub put-rises : (n : ℕ) (x : X) (es : List (ℕ × X)) → AreRising es → AreRising (put n x es)
   put-rises n x [] rising = (tt, tt)
   put-rises n x (e ∷ es) rising =
       if-both AreRising (nat_lt n e.0) _ _
-      (λ t. let lt : n < e.0 = less n e.0 t in let le : n ≤ e.0 = omega arith in ((lt, above-lower n e.0 es le rising.0), rising))
+      (λ t. let lt : n < e.0 = less n e.0 t in let le : n ≤ e.0 = omega arith in
+      ((lt, above-lower n e.0 es le rising.0), rising))
       (λ f. let le : e.0 ≤ n = not-less n e.0 f in if-both AreRising (e.0 == n) _ _
       (λ t. (subst (λ m. AreAbove m es) (same e.0 n t) rising.0, rising.1))
       (λ f. (put-keeps-above e.0 n x es (differs n e.0 le f) rising.0, put-rises n x es rising.1)))
@@ -126,7 +128,8 @@ module _ {X : Type 0} where
   pub filter-rises : (q : ℕ × X → Bool) (es : List (ℕ × X)) → AreRising es → AreRising (filter q es)
   filter-rises q [] rising = tt
   filter-rises q (e ∷ es) rising =
-      if-both AreRising (q e) _ _ (λ t. (filter-keeps-above q e.0 es rising.0, filter-rises q es rising.1)) (λ f. filter-rises q es rising.1)
+      if-both AreRising (q e) _ _ (λ t. (filter-keeps-above q e.0 es rising.0, filter-rises q es rising.1))
+      (λ f. filter-rises q es rising.1)
 
   abbrev without-rises : (n : ℕ) (es : List (ℕ × X)) → AreRising es → AreRising (without n es)
   without-rises n es rising = filter-rises (λ e. not (e.0 == n)) es rising
@@ -180,26 +183,32 @@ module _ {X : Type 0} where
 
   gap-absent : (n : ℕ) (es : List (ℕ × X)) (i : ℕ) → i ≤ length es → AreLower n es i → AreHigher n es i
       → lookup n es ≡ None
-  gap-absent n es zero within lower higher = lookup-above n es (above-from n es (λ j d inside. higher j d (omega arith) inside))
+  gap-absent n es zero within lower higher = lookup-above n es
+      (above-from n es (λ j d inside. higher j d (omega arith) inside))
   gap-absent n [] (suc i) within lower higher = refl
   gap-absent n (e ∷ es) (suc i) within lower higher =
       lookup-later n e es (lower 0 e (omega arith))
-      ∙ gap-absent n es i (omega arith) (λ j d before. lower (suc j) d (omega arith)) (λ j d after inside. higher (suc j) d (omega arith) (omega arith))
+      ∙ gap-absent n es i (omega arith) (λ j d before. lower (suc j) d (omega arith))
+      (λ j d after inside. higher (suc j) d (omega arith) (omega arith))
 
   gap-without : (n : ℕ) (es : List (ℕ × X)) (i : ℕ) → i ≤ length es → AreLower n es i → AreHigher n es i
       → without n es ≡ es
-  gap-without n es zero within lower higher = without-above n es (above-from n es (λ j d inside. higher j d (omega arith) inside))
+  gap-without n es zero within lower higher = without-above n es
+      (above-from n es (λ j d inside. higher j d (omega arith) inside))
   gap-without n [] (suc i) within lower higher = refl
   gap-without n (e ∷ es) (suc i) within lower higher =
       without-later n e es (lower 0 e (omega arith))
-      ∙ ap (λ t. e ∷ t) (gap-without n es i (omega arith) (λ j d before. lower (suc j) d (omega arith)) (λ j d after inside. higher (suc j) d (omega arith) (omega arith)))
+      ∙ ap (λ t. e ∷ t) (gap-without n es i (omega arith) (λ j d before. lower (suc j) d (omega arith))
+      (λ j d after inside. higher (suc j) d (omega arith) (omega arith)))
 
   gap-inserts : (n : ℕ) (es : List (ℕ × X)) (i : ℕ) → i ≤ length es → AreLower n es i → AreHigher n es i → (x : X)
       → insert es i (n, x) ≡ put n x es
-  gap-inserts n es zero within lower higher x = sym (put-above n x es (above-from n es (λ j d inside. higher j d (omega arith) inside)))
+  gap-inserts n es zero within lower higher x = sym
+      (put-above n x es (above-from n es (λ j d inside. higher j d (omega arith) inside)))
   gap-inserts n [] (suc i) within lower higher x = absurd (omega arith)
   gap-inserts n (e ∷ es) (suc i) within lower higher x =
-      ap (λ t. e ∷ t) (gap-inserts n es i (omega arith) (λ j d before. lower (suc j) d (omega arith)) (λ j d after inside. higher (suc j) d (omega arith) (omega arith)) x)
+      ap (λ t. e ∷ t) (gap-inserts n es i (omega arith) (λ j d before. lower (suc j) d (omega arith))
+      (λ j d after inside. higher (suc j) d (omega arith) (omega arith)) x)
       ∙ sym (put-later n x e es (lower 0 e (omega arith)))
 
   -- ---- a binary search

@@ -45,7 +45,9 @@ module _ (pid : ℕ) (w : World counted) where
   unfolding carried_out with_process without_process with_disposition with_kqueue with_descriptors all_done clock_after
   proc_world place ps table fresh more same =
       rw (proc_plan fresh)
-      (ap (λ ps. world_like w ps table) more ∙ ap (λ t. world_like w (with_process (Some (record { pid = pid; ignores = ignores_none })) w.processes) t) (same ∙ sym (nothing-closed w.table)))
+      (ap (λ ps. world_like w ps table) more
+      ∙ ap (λ t. world_like w (with_process (Some (record { pid = pid; ignores = ignores_none })) w.processes) t)
+      (same ∙ sym (nothing-closed w.table)))
 
   pub exec_plan : is_live pid w.processes ≡ true
       → plan_exec pid w ≡ Possible (record idle { hints = noted pid exec_note ∷ [] })
@@ -55,10 +57,12 @@ module _ (pid : ℕ) (w : World counted) where
   signal_true : (signal : ℕ) → 1 ≤ signal → signal ≤ most_signal → is_signal signal ≡ true
   unfolding is_signal
   signal_true signal low high =
-      let positive : 0 < signal = omega arith in rw (less-true 0 signal positive, less-false most_signal signal high) refl
+      let positive : 0 < signal = omega arith in
+      rw (less-true 0 signal positive, less-false most_signal signal high) refl
 
   pub sigset_plan : (signal : ℕ) (ignore : Bool) → is_live pid w.processes ≡ true → 1 ≤ signal → signal ≤ most_signal
-      → plan_sigset pid signal ignore w ≡ Possible (record idle { disposed = Some (record { pid = pid; signal = signal; ignore = ignore }) })
+      → plan_sigset pid signal ignore w
+      ≡ Possible (record idle { disposed = Some (record { pid = pid; signal = signal; ignore = ignore }) })
   unfolding plan_sigset
   sigset_plan signal ignore live low high = rw (live, signal_true signal low high) refl
 
@@ -70,7 +74,10 @@ module _ (pid : ℕ) (w : World counted) where
   unfolding carried_out with_process without_process with_disposition with_kqueue with_descriptors all_done clock_after
   sigset_world place signal ignore ps table live low high changed same =
       rw (sigset_plan signal ignore live low high)
-      (ap (λ ps. world_like w ps table) changed ∙ ap (λ t. world_like w (with_disposition (Some (record { pid = pid; signal = signal; ignore = ignore })) w.processes) t) (same ∙ sym (nothing-closed w.table)))
+      (ap (λ ps. world_like w ps table) changed
+      ∙ ap (λ t. world_like w
+      (with_disposition (Some (record { pid = pid; signal = signal; ignore = ignore })) w.processes) t)
+      (same ∙ sym (nothing-closed w.table)))
 
   -- whether the process ignores the signal
   abbrev pub ignored : ℕ → Bool
@@ -100,9 +107,11 @@ module _ (pid : ℕ) (w : World counted) where
 
   pub kqueue_world : (place fd : ℕ) (ps : List Process) (table : List Descriptor) → is_live pid w.processes ≡ true
       → (o : Option Named) → named_by pid fd w ≡ o → is_some o ≡ false → ps ≡ w.processes
-      → table ≡ with_descriptor (descriptor_in pid (fd, named.Kqueue place)) (without_closed (closes pid fd o) w.table)
+      → table ≡ with_descriptor (descriptor_in pid (fd, named.Kqueue place))
+      (without_closed (closes pid fd o) w.table)
       → world_like w ps table ≡ world_after place (plan_kqueue pid fd w) w
   unfolding carried_out with_process without_process with_disposition with_kqueue with_descriptors all_done clock_after closes
   kqueue_world place fd ps table live None free none same more =
-      rw (kqueue_plan fd live (ap is_some free)) (ap (λ ps. world_like w ps table) same ∙ ap (λ t. world_like w w.processes t) more)
+      rw (kqueue_plan fd live (ap is_some free))
+      (ap (λ ps. world_like w ps table) same ∙ ap (λ t. world_like w w.processes t) more)
   kqueue_world place fd ps table live (Some n) free none same more = absurd (cc)

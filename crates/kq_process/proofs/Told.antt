@@ -64,21 +64,26 @@ module _ (pid : ℕ) (es : List (ℕ × Process)) where
   pub ignored_is : (p : Process) → Some p ≡ lookup pid es
       → ignored_in p.ignored ≡ ignored_by (process_of pid (map process_in es))
   unfolding ignored_by
-  ignored_is p h = sym (ap ignored_by (process-found pid es ∙ ap (λ o. option_map (λ p. process_in (pid, p)) o) (sym h)))
+  ignored_is p h = sym (ap ignored_by
+      (process-found pid es ∙ ap (λ o. option_map (λ p. process_in (pid, p)) o) (sym h)))
 
   pub ignored_none : None ≡ lookup pid es → (signal : ℕ)
       → false ≡ ignored_by (process_of pid (map process_in es)) signal
   unfolding ignored_by
-  ignored_none h signal = sym (ap (λ o. ignored_by o signal) (process-found pid es ∙ ap (λ o. option_map (λ p. process_in (pid, p)) o) (sym h)))
+  ignored_none h signal = sym
+      (ap (λ o. ignored_by o signal)
+      (process-found pid es ∙ ap (λ o. option_map (λ p. process_in (pid, p)) o) (sym h)))
 
   pub view_is_of : (p : Process) → Some p ≡ lookup pid es
       → Some (view.Process p.exited) ≡ process_view (process_of pid (map process_in es))
   unfolding process_view
-  view_is_of p h = sym (ap process_view (process-found pid es ∙ ap (λ o. option_map (λ p. process_in (pid, p)) o) (sym h)))
+  view_is_of p h = sym (ap process_view
+      (process-found pid es ∙ ap (λ o. option_map (λ p. process_in (pid, p)) o) (sym h)))
 
   pub view_none : None ≡ lookup pid es → None ≡ process_view (process_of pid (map process_in es))
   unfolding process_view
-  view_none h = sym (ap process_view (process-found pid es ∙ ap (λ o. option_map (λ p. process_in (pid, p)) o) (sym h)))
+  view_none h = sym (ap process_view
+      (process-found pid es ∙ ap (λ o. option_map (λ p. process_in (pid, p)) o) (sym h)))
 
   pub named_is : AreRising es → (p : Process) → Some p ≡ lookup pid es → (n : ℕ)
       → lookup n p.descriptors ≡ named_among pid n (table_in es)
@@ -91,7 +96,8 @@ module _ (pid : ℕ) (es : List (ℕ × Process)) where
 
   pub start_processes : (p : Process) (ignores : ℕ → Bool) → p.exited ≡ None → ignored_in p.ignored ≡ ignores
       → was_used pid (map process_in es) ≡ false
-      → map process_in (put pid p es) ≡ with_process (Some (record { pid = pid; ignores = ignores })) (map process_in es)
+      → map process_in (put pid p es)
+      ≡ with_process (Some (record { pid = pid; ignores = ignores })) (map process_in es)
   unfolding with_process
   start_processes p ignores live none fresh =
       let s : Start = record { pid = pid; ignores = ignores } in
@@ -108,7 +114,8 @@ module _ (pid : ℕ) (es : List (ℕ × Process)) where
 
   pub exit_processes : AreRising es → (p x : Process) (status : ℕ) → Some p ≡ lookup pid es → x.exited ≡ Some status
       → x.ignored ≡ p.ignored
-      → map process_in (put pid x es) ≡ without_process (Some (record { pid = pid; status = status })) (map process_in es)
+      → map process_in (put pid x es)
+      ≡ without_process (Some (record { pid = pid; status = status })) (map process_in es)
   unfolding without_process
   exit_processes rising p x status found gone same =
       let f : model.Process → model.Process = λ q. record q { exited = Some status } in
@@ -119,18 +126,21 @@ module _ (pid : ℕ) (es : List (ℕ × Process)) where
 
   pub exit_closed : AreRising es → (p : Process) → Some p ≡ lookup pid es
       → descriptors_in pid p.descriptors ≡ descriptors_of pid (table_in es)
-  exit_closed rising p found = sym (of-found pid es rising ∙ ap (λ o. descriptors_in pid (descriptors_at o)) (sym found))
+  exit_closed rising p found = sym
+      (of-found pid es rising ∙ ap (λ o. descriptors_in pid (descriptors_at o)) (sym found))
 
   pub exit_table : AreRising es → (p x : Process) → Some p ≡ lookup pid es → x.descriptors ≡ []
       → table_in (put pid x es) ≡ without_closed (pairs_of (descriptors_of pid (table_in es))) (table_in es)
   exit_table rising p x found empty =
-      sym (ap (λ ds. without_closed (pairs_of ds) (table_in es)) (sym (exit_closed rising p found)) ∙ closed-all pid p x empty es rising (sym found))
+      sym (ap (λ ds. without_closed (pairs_of ds) (table_in es)) (sym (exit_closed rising p found))
+      ∙ closed-all pid p x empty es rising (sym found))
 
   -- ---- a signal is ignored, or no longer
 
   pub dispose_processes : AreRising es → (p x : Process) (signal : ℕ) (ignore : Bool) → Some p ≡ lookup pid es
       → x.exited ≡ p.exited → ignored_in x.ignored ≡ disposed signal ignore (ignored_in p.ignored)
-      → map process_in (put pid x es) ≡ with_disposition (Some (record { pid = pid; signal = signal; ignore = ignore })) (map process_in es)
+      → map process_in (put pid x es)
+      ≡ with_disposition (Some (record { pid = pid; signal = signal; ignore = ignore })) (map process_in es)
   unfolding with_disposition
   dispose_processes rising p x signal ignore found same changed =
       let f : model.Process → model.Process = λ q. record q { ignores = disposed signal ignore q.ignores } in
@@ -164,9 +174,12 @@ module _ (pid : ℕ) (es : List (ℕ × Process)) where
 
   pub name_table : AreRising es → (p x : Process) (n : ℕ) (v : Named) → Some p ≡ lookup pid es
       → AreRising p.descriptors → x.descriptors ≡ put n v p.descriptors
-      → table_in (put pid x es) ≡ with_descriptor (descriptor_in pid (n, v)) (without_closed (closes pid n (named_among pid n (table_in es))) (table_in es))
+      → table_in (put pid x es)
+      ≡ with_descriptor (descriptor_in pid (n, v))
+      (without_closed (closes pid n (named_among pid n (table_in es))) (table_in es))
   name_table rising p x n v found numbers more =
-      sym (named-anew pid n v p x numbers more es rising (sym found) (named_among pid n (table_in es)) (named_is rising p found n))
+      sym (named-anew pid n v p x numbers more es rising (sym found) (named_among pid n (table_in es))
+      (named_is rising p found n))
 
 -- ---- a child's copies
 
@@ -175,7 +188,10 @@ pub fork_table : (pid child : ℕ) (es : List (ℕ × Process)) → AreRising es
     → table_in (put child x es) ≡ with_descriptors (inherited pid child (table_in es)) (table_in es)
 fork_table pid child es rising p x found numbers copies fresh =
     let copied : inherited pid child (table_in es) ≡ descriptors_in child x.descriptors =
-    ap (λ ds. map (λ (d : Descriptor). record d { pid = child }) (inheritable ds)) (sym (exit_closed pid es rising p found))
+    ap (λ ds. map (λ (d : Descriptor). record d { pid = child }) (inheritable ds))
+    (sym (exit_closed pid es rising p found))
     ∙ inherited-copies pid child p.descriptors ∙ ap (descriptors_in child) (sym copies) in
-    let sorted : AreRising x.descriptors = subst AreRising (sym copies) (filter-rises (λ (d : ℕ × Named). not (is_kqueue d.1)) p.descriptors numbers) in
-    sym (ap (λ ds. with_descriptors ds (table_in es)) copied ∙ opened-copies child x sorted es rising (unused child es fresh))
+    let sorted : AreRising x.descriptors = subst AreRising (sym copies)
+    (filter-rises (λ (d : ℕ × Named). not (is_kqueue d.1)) p.descriptors numbers) in
+    sym (ap (λ ds. with_descriptors ds (table_in es)) copied
+    ∙ opened-copies child x sorted es rising (unused child es fresh))

@@ -54,7 +54,8 @@ IsToldBy plan old e = (o : Objects counted) (now : ℕ) → IsEffectOf (plan (wo
 -- the new processes are those that the plan leads to
 abbrev pub IsAfter : ℕ → (World counted → Planned) → Processes → Processes → Type 0
 IsAfter place plan old new =
-    (o : Objects counted) (now : ℕ) → world_with new o now ≡ world_after place (plan (world_with old o now)) (world_with old o now)
+    (o : Objects counted) (now : ℕ) → world_with new o now
+    ≡ world_after place (plan (world_with old o now)) (world_with old o now)
 
 abbrev pub IsUnchanged : Processes → Processes → Type 0
 IsUnchanged old new = (processes_of new ≡ processes_of old) × (table_of new ≡ table_of old)

@@ -3,29 +3,35 @@ use Rattle.std.proofs.lemmas.Result.{on_ok_weaker}
 use Rattle.kq_model.specs.Processes.{process_of, ignored_by}
 use Rattle.kq_process.specs.declared.process.Process.{Process}
 use Rattle.kq_process.specs.Processes.{process_in, table_in}
-use Rattle.kq_process.specs.Shelf.{lookup, put}
+use Rattle.kq_process.specs.Shelf.{AreRising, lookup, put}
 use Rattle.kq_process.proofs.Told.{live_there, ignored_is, start_processes, fork_table}
 use Rattle.kq_process.proofs.processes.Processes.fork.Goals as goal
 
 pub unreachable-requires : goal.unreachable-requires
-unreachable-requires c = live_there c.args.pid c.args.self.now.shelf c.get.ensures.rising c.requires.live (sym c.in_default.ensures.found)
+unreachable-requires c =
+    let es = c.args.self.now.shelf in
+    let rising : AreRising es = c.get.ensures.rising in
+    live_there c.args.pid es rising c.requires.live (sym c.in_default.ensures.found)
 
 pub returns-clause-processes : goal.returns-clause-processes
 returns-clause-processes c =
+    let es = c.args.self.now.shelf in
     let started : Process = record { exited = None; ignored = c.in-Some.parent.now.ignored; descriptors = c.in_ok-inheritable.field-0 } in
     on_ok_weaker c.insert.result
-    (λ (stored : c.insert.new.self ≡ put c.args.child started c.args.self.now.shelf).
+    (λ (stored : c.insert.new.self ≡ put c.args.child started es).
     ap (map process_in) stored
-    ∙ start_processes c.args.child c.args.self.now.shelf started (ignored_by (process_of c.args.pid (map process_in c.args.self.now.shelf))) refl
-    (ignored_is c.args.pid c.args.self.now.shelf c.in-Some.parent.now c.in-Some.ensures.found) c.requires.unused)
+    ∙ start_processes c.args.child es started (ignored_by (process_of c.args.pid (map process_in es))) refl
+    (ignored_is c.args.pid es c.in-Some.parent.now c.in-Some.ensures.found) c.requires.unused)
     c.insert.ensures.ok
 
 pub returns-clause-table : goal.returns-clause-table
 returns-clause-table c =
+    let es = c.args.self.now.shelf in
+    let rising : AreRising es = c.get.ensures.rising in
     let started : Process = record { exited = None; ignored = c.in-Some.parent.now.ignored; descriptors = c.in_ok-inheritable.field-0 } in
     on_ok_weaker c.insert.result
-    (λ (stored : c.insert.new.self ≡ put c.args.child started c.args.self.now.shelf).
+    (λ (stored : c.insert.new.self ≡ put c.args.child started es).
     ap table_in stored
-    ∙ fork_table c.args.pid c.args.child c.args.self.now.shelf c.get.ensures.rising c.in-Some.parent.now started c.in-Some.ensures.found
+    ∙ fork_table c.args.pid c.args.child es rising c.in-Some.parent.now started c.in-Some.ensures.found
     c.inheritable.ensures.rising c.in_ok-inheritable.ensures.copies c.requires.unused)
     c.insert.ensures.ok

@@ -13,7 +13,8 @@ returns-clause-effect c o now =
     let live : is_live c.args.pid (processes_of c.args.self.now) ≡ true = grind (arith, c.is_live.ensures) in
     let free : is_some c.named.result ≡ false = grind (arith, c.is_some.ensures) in
     let w = world_with c.args.self.now o now in
-    rw (kqueue_plan c.args.pid w c.args.fd live (ap is_some (sym c.named.ensures) ∙ free)) (c.quiet.ensures _ refl refl)
+    rw (kqueue_plan c.args.pid w c.args.fd live (ap is_some (sym c.named.ensures) ∙ free))
+    (c.quiet.ensures _ refl refl)
 
 pub returns-clause-world : goal.returns-clause-world
 unfolding named_by

@@ -13,4 +13,5 @@ returns-clause-effect c o now =
 pub returns-clause-world : goal.returns-clause-world
 returns-clause-world c place o now =
     let fresh : was_used c.args.pid (processes_of c.args.self.now) ≡ false = grind (arith, c.was_used.ensures) in
-    proc_world c.args.pid (world_with c.args.self.now o now) place _ _ fresh c.in_ok-start.ensures.processes c.start.ensures.table
+    proc_world c.args.pid
+    (world_with c.args.self.now o now) place _ _ fresh c.in_ok-start.ensures.processes c.start.ensures.table

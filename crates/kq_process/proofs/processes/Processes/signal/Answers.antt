@@ -34,5 +34,6 @@ returns c =
     ] in
     told_by ((target.Signal c.args.pid c.args.signal, hint.Delivered) ∷ [])
     (IsToldBy (plan_sig c.args.pid c.args.signal) c.args.self.now)
-    (λ e tells o now. rw (sig_heard c.args.pid (world_with c.args.self.now o now) c.args.signal live low high heard) (tells _ refl refl))
+    (λ e tells o now. rw (sig_heard c.args.pid (world_with c.args.self.now o now) c.args.signal live low high heard)
+    (tells _ refl refl))
     c.told.result c.told.ensures

@@ -8,4 +8,5 @@ pub returns-clause-place : goal.returns-clause-place
 returns-clause-place g c =
     let facts = c.binary_search_by_key.ensures in
     let by_number = facts.position (λ entry. entry.0) (answers_always _ _ _ (λ f a r h called. search rules)) in
-    rw (← c.self.view_is, ← c.deref.ensures.value) (searched c.args.number _ (rw c.deref.ensures.value c.self.invariant) _ facts.bound by_number)
+    rw (← c.self.view_is, ← c.deref.ensures.value)
+    (searched c.args.number _ (rw c.deref.ensures.value c.self.invariant) _ facts.bound by_number)
