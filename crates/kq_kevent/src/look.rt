@@ -3,58 +3,26 @@ ghost use Rattle.kq_model.specs.Bits.{flag_if};
 ghost use Rattle.kq_model.specs.Look.{look};
 ghost use Rattle.kq_model.specs.Registration.{attended};
 ghost use Rattle.kq_model.specs.Retrieval.{event_flags, event_of};
-ghost use Rattle.kq_model.specs.Views.{Views};
 
 use bitflags::Flags;
+use kq_filters::{Seen, Views, look};
 use kq_knote::Knote;
-use kq_model::{EvFlags, Filter, Kevent};
-use std::marker::Model;
+use kq_model::{EvFlags, Kevent};
 
-/// What a filter sees where its condition holds.
-#[derive(Debug, Drop, Clone, Copy)]
-pub struct Seen {
-    fflags: u32,
-    datum: i64,
-    eof: bool,
-}
-
-impl Model for Seen {
-    ghost use Rattle.kq_model.specs.Look as model;
-
-    ghost Value = { model.Seen };
-
-    ghost view = { λ s. record { fflags = s.fflags; datum = s.datum; eof = s.eof } };
-
-    ghost inverse = { λ s. record { fflags = s.fflags; datum = s.datum; eof = s.eof } };
-}
-
-/// A filter's look at its target. A user event sees that it was triggered, and needs no world.
-#[tactic(auto, unfolding(kq_model::specs::Look::look, kq_model::specs::Look::look_by, kq_model::specs::Look::look_user))]
-pub fn look(knote: &Knote) -> Option<Seen>
-    ensures { (views : Views) → result ≡ look views knote.now }
+/// The look of a knote's filter in a world.
+pub fn look_in<V: Views>(views: &V, knote: &Knote) -> Option<Seen>
+    ensures { result ≡ look (V.sees views.now) knote.now }
 {
-    match knote.key.filter {
-        Filter::User => {
-            if knote.triggered {
-                Some(Seen {
-                    fflags: knote.bits,
-                    datum: knote.datum,
-                    eof: false,
-                })
-            } else {
-                None
-            }
-        }
-        _ => None,
-    }
+    let view = knote.target().and_then(|target| views.view(target));
+    look(knote, view)
 }
 
 /// Looks at an enabled knote, which becomes active where its condition holds.
 #[tactic(auto, unfolding(kq_model::specs::Registration::attended, kq_model::specs::Registration::activated))]
-pub fn attend(knote: &mut Knote)
-    ensures { (views : Views) → knote.new ≡ attended views knote.old }
+pub fn attend<V: Views>(views: &V, knote: &mut Knote)
+    ensures { knote.new ≡ attended (V.sees views.now) knote.old }
 {
-    if knote.enabled && look(knote).is_some() {
+    if knote.enabled && look_in(views, knote).is_some() {
         knote.active = true;
     }
 }

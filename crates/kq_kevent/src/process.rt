@@ -1,11 +1,11 @@
 ghost use Rattle.std.specs.Prelude.{◌≡◌, ◌≤◌, ◌+◌, [], length, min};
 ghost use Rattle.std.specs.Vec.{vec_capacity};
 ghost use Rattle.kq_model.specs.Call.{number_of, entry_of, is_answered, process};
-ghost use Rattle.kq_model.specs.Views.{Views};
 ghost use Rattle.kq_kevent.specs.Ending.{answer_of};
 
 use crate::Kq;
 use crate::register::asks;
+use kq_filters::Views;
 use kq_model::{Change, Errno, EvFlags, Kevent};
 
 /// How the changes of a call came to their end.
@@ -54,23 +54,24 @@ fn is_answered(change: &Change, error: Option<Errno>) -> bool
 impl Kq {
     /// Registers the changes in order, and places an entry for each that is answered. Where no
     /// room is left for an entry, the later changes are not processed.
-    pub(crate) fn process(
+    pub(crate) fn process<V: Views>(
         &mut self,
         changes: &[Change],
         room: usize,
         placed: &mut Vec<Kevent>,
+        views: &V,
     ) -> Ending
         requires none { placed.old.items ≡ [] }
         requires room { length changes.now ≤ self.old.room }
         requires capacity { min room (length changes.now) ≤ vec_capacity placed.old }
-        ensures processed { (views : Views) → process views self.old.owner room changes.now [] self.old.kq
+        ensures processed { process (V.sees views.now) self.old.owner room changes.now [] self.old.kq
             ≡ record { kq = self.new.kq; placed = placed.new.items; answer = answer_of result placed.new.items } }
         ensures owner { self.new.owner ≡ self.old.owner }
         ensures queue { length self.new.kq.queue ≤ length self.old.kq.queue + length changes.now }
         ensures capacity { vec_capacity placed.new ≡ vec_capacity placed.old }
     {
         for change in changes {
-            let error = self.apply(change);
+            let error = self.apply(change, views);
             if is_answered(change, error) {
                 if placed.len() >= room {
                     return Ending::Ended(error);

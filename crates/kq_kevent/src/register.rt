@@ -3,7 +3,6 @@ ghost use Rattle.kq_model.specs.Bits.{asks};
 ghost use Rattle.kq_model.specs.Call.{number_of};
 ghost use Rattle.kq_model.specs.Knote.{find_knote, has_key};
 ghost use Rattle.kq_model.specs.Registration.{register, queue_for, key_of, made, modified};
-ghost use Rattle.kq_model.specs.Views.{Views};
 ghost use Rattle.kq_model.specs.declared.filter.Filter.{Filter};
 ghost use Rattle.kq_kevent.specs.Steps.{is_malformed, with_made, with_removed, with_modified};
 ghost use Rattle.std.specs.Option.{ForSome};
@@ -14,6 +13,7 @@ use crate::look::attend;
 use crate::process::number_of;
 use crate::queue::Queue;
 use bitflags::Flags;
+use kq_filters::Views;
 use kq_knote::Knote;
 use kq_model::{Change, Errno, EvFlags, Filter, Key};
 
@@ -59,23 +59,23 @@ impl Queue {
 impl Kq {
     /// Registers one change of a change list: 0, or the number of the error with which it is
     /// refused. It takes no memory. A refused change leaves the kqueue as it was.
-    pub fn register(&mut self, change: &Change) -> u32
+    pub fn register<V: Views>(&mut self, change: &Change, views: &V) -> u32
         requires { 0 < self.old.room }
-        ensures kq { (views : Views) → self.new.kq ≡ (register views self.old.owner change.now self.old.kq).kq }
-        ensures error { (views : Views) → result ≡ number_of (register views self.old.owner change.now self.old.kq).error }
+        ensures kq { self.new.kq ≡ (register (V.sees views.now) self.old.owner change.now self.old.kq).kq }
+        ensures error { result ≡ number_of (register (V.sees views.now) self.old.owner change.now self.old.kq).error }
         ensures refused { 0 < result → self.new.kq ≡ self.old.kq }
         ensures owner { self.new.owner ≡ self.old.owner }
         ensures room { self.old.room ≤ self.new.room + 1 }
     {
-        number_of(self.apply(change))
+        number_of(self.apply(change, views))
     }
 
     /// Registers one change, and gives the error with which it is refused. The refusals stand in
     /// their order: a filter that is not simulated, ENABLE with DISABLE, nothing there and no ADD.
-    pub(crate) fn apply(&mut self, change: &Change) -> Option<Errno>
+    pub(crate) fn apply<V: Views>(&mut self, change: &Change, views: &V) -> Option<Errno>
         requires { 0 < self.old.room }
-        ensures kq { (views : Views) → self.new.kq ≡ (register views self.old.owner change.now self.old.kq).kq }
-        ensures error { (views : Views) → result ≡ (register views self.old.owner change.now self.old.kq).error }
+        ensures kq { self.new.kq ≡ (register (V.sees views.now) self.old.owner change.now self.old.kq).kq }
+        ensures error { result ≡ (register (V.sees views.now) self.old.owner change.now self.old.kq).error }
         ensures refused { OnSome result (self.new.kq ≡ self.old.kq) }
         ensures owner { self.new.owner ≡ self.old.owner }
         ensures room { self.old.room ≤ self.new.room + 1 }
@@ -92,13 +92,13 @@ impl Kq {
                 if !asks(change.flags, EvFlags::ADD) {
                     return Some(Errno::ENOENT);
                 }
-                self.make(change);
+                self.make(change, views);
             }
             Some(place) => {
                 if asks(change.flags, EvFlags::DELETE) {
                     self.unmake(place, key);
                 } else {
-                    self.modify(place, change);
+                    self.modify(place, change, views);
                 }
             }
         }
@@ -106,16 +106,16 @@ impl Kq {
     }
 
     /// Makes the knote of a change.
-    fn make(&mut self, change: &Change)
+    fn make<V: Views>(&mut self, change: &Change, views: &V)
         requires room { 0 < self.old.room }
         requires user { change.now.filter ≡ Filter.User }
         requires absent { find_knote (key_of change.now) self.old.kq.knotes ≡ None }
-        ensures kq { (views : Views) → self.new.kq ≡ with_made (made views self.old.owner change.now) self.old.kq }
+        ensures kq { self.new.kq ≡ with_made (made (V.sees views.now) self.old.owner change.now) self.old.kq }
         ensures owner { self.new.owner ≡ self.old.owner }
         ensures room { self.old.room ≤ self.new.room + 1 }
     {
         let mut knote = Knote::first(change);
-        attend(&mut knote);
+        attend(views, &mut knote);
         self.knotes.attach(knote);
         self.queue.place(&knote, false);
     }
@@ -134,9 +134,9 @@ impl Kq {
     }
 
     /// Lets a change modify the knote of its key, which stands at this place.
-    fn modify(&mut self, place: usize, change: &Change)
+    fn modify<V: Views>(&mut self, place: usize, change: &Change, views: &V)
         requires { IsPlaceOf (key_of change.now) self.old.kq.knotes place }
-        ensures kq { (views : Views) → ForSome (find_knote (key_of change.now) self.old.kq.knotes) (λ k. self.new.kq ≡ with_modified (modified views change.now k) self.old.kq) }
+        ensures kq { ForSome (find_knote (key_of change.now) self.old.kq.knotes) (λ k. self.new.kq ≡ with_modified (modified (V.sees views.now) change.now k) self.old.kq) }
         ensures owner { self.new.owner ≡ self.old.owner }
         ensures room { self.old.room ≤ self.new.room }
     {
@@ -145,7 +145,7 @@ impl Kq {
         knote.replace(change);
         knote.control(change);
         knote.switch(change);
-        attend(&mut knote);
+        attend(views, &mut knote);
         self.knotes.put_at(place, knote);
         self.queue.place(&knote, waited);
     }

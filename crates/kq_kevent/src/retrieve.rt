@@ -1,13 +1,13 @@
 ghost use Rattle.std.specs.Prelude.{◌≡◌, ◌<◌, ◌≤◌, [], length, min, vec_len};
 ghost use Rattle.std.specs.Vec.{vec_capacity};
 ghost use Rattle.kq_model.specs.Retrieval.{knotes_after, back_after, retrieval};
-ghost use Rattle.kq_model.specs.Views.{Views};
 ghost use Rattle.kq_knote.specs.Reserved.{IsPlaceOf};
 ghost use Rattle.kq_kevent.specs.Turn.{turned};
 
 use crate::Kq;
-use crate::look::{event_of, look};
+use crate::look::{event_of, look_in};
 use crate::queue::Queue;
+use kq_filters::Views;
 use kq_knote::{Knote, Knotes};
 use kq_model::Kevent;
 
@@ -36,9 +36,9 @@ fn settle(knotes: &mut Knotes, queue: &mut Queue, place: usize, delivered: &Knot
 impl Kq {
     /// Takes the key at the front out of the queue and looks at its knote: an event is delivered
     /// where the condition still holds, else the knote becomes inactive.
-    fn turn(&mut self) -> Option<Kevent>
-        ensures kq { (views : Views) → self.new.kq ≡ (turned views self.old.kq).kq }
-        ensures event { (views : Views) → result ≡ (turned views self.old.kq).event }
+    fn turn<V: Views>(&mut self, views: &V) -> Option<Kevent>
+        ensures kq { self.new.kq ≡ (turned (V.sees views.now) self.old.kq).kq }
+        ensures event { result ≡ (turned (V.sees views.now) self.old.kq).event }
         ensures owner { self.new.owner ≡ self.old.owner }
     {
         let Some(key) = self.queue.take_front() else {
@@ -48,7 +48,7 @@ impl Kq {
             return None;
         };
         let mut knote = *self.knotes.at(place);
-        match look(&knote) {
+        match look_in(views, &knote) {
             None => {
                 knote.active = false;
                 self.knotes.put_at(place, knote);
@@ -63,17 +63,17 @@ impl Kq {
 
     /// Takes at most `room` events out of the kqueue. The queue as it stands is gone through once
     /// from the front; what goes to the back meanwhile is not met again.
-    pub(crate) fn retrieve(&mut self, room: usize, events: &mut Vec<Kevent>)
+    pub(crate) fn retrieve<V: Views>(&mut self, room: usize, events: &mut Vec<Kevent>, views: &V)
         requires none { events.old.items ≡ [] }
         requires capacity { min room (length self.old.kq.queue) ≤ vec_capacity events.old }
-        ensures retrieved { (views : Views) → retrieval views room self.old.kq ≡ record { kq = self.new.kq; events = events.new.items } }
+        ensures retrieved { retrieval (V.sees views.now) room self.old.kq ≡ record { kq = self.new.kq; events = events.new.items } }
         ensures owner { self.new.owner ≡ self.old.owner }
     {
         for _turn in 0..self.queue.len() {
             if events.len() == room {
                 return;
             }
-            if let Some(event) = self.turn() {
+            if let Some(event) = self.turn(views) {
                 events.push_reserved(event);
             }
         }

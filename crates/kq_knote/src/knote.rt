@@ -2,7 +2,7 @@ ghost use Rattle.std.specs.Prelude.{◌≡◌, Some};
 ghost use Rattle.kq_model.specs.Knote.{key_eq};
 ghost use Rattle.kq_model.specs.Kqueue.{is_waiting};
 
-use kq_model::{Change, EvFlags, Filter, Key};
+use kq_model::{Key, Target};
 use std::marker::Model;
 
 /// What a kqueue keeps of one registered kevent (kqueue(2)). Contracts see it as a knote of the
@@ -79,6 +79,14 @@ impl Knote {
         ensures { result ≡ key_eq key.now self.now.key }
     {
         *key == self.key
+    }
+
+    /// What it watches: a user event watches itself.
+    pub fn target(&self) -> Option<Target>
+        ensures { result ≡ self.now.target }
+    {
+        let _ = &self.key;
+        Some(Target::Own)
     }
 
     /// Whether it stands in the queue: active and enabled.

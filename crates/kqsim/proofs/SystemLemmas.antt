@@ -62,14 +62,13 @@ opened place pid number e old world live is new grown =
 
 pub called : (place : ℕ) (e : Event) (c : Call) (old : System) (live : List Live) (r : Reply)
     → plan e old.world ≡ Possible (record idle { call = Some c })
-    → ((views : Views) → IsCalled views c old.live live r)
+    → IsCalled (views_of old.world) c old.live live r
     → IsStep place e old (record old { live = live }) r
 unfolding step_by carried_out with_kqueue with_process born reply_to moment_of
 called place e c old live r is does =
     let p : Plan = record idle { call = Some c } in
-    let done = does (views_of (carried_out place p old.world)) in
     by_plan place e (Possible p) old (record old { live = live }) r is
-    (ap (λ (ls : List Live). record old { live = ls }) (done.0 place ∙ sym (append-nil _)), done.1)
+    (ap (λ (ls : List Live). record old { live = ls }) (does.0 place ∙ sym (append-nil _)), does.1)
 
 -- ---- a call in the table of live kqueues
 

@@ -1,6 +1,6 @@
 //! The state of the simulated system, and one step of it for each event.
 ghost use Rattle.std.specs.Prelude.{◌≡◌, ◌+◌, ◌-◌, ◌^◌, ◌<◌, ◌≤◌, ℕ, IfOk, OnErr};
-ghost use Rattle.kq_model.specs.Views.{Views};
+ghost use Rattle.kq_model.specs.World.{views_of};
 
 mod fold;
 mod world;
@@ -183,8 +183,8 @@ impl System {
 
     /// The call, on the kqueue that was born at a place.
     fn call_on(&mut self, kqueue: u64, changes: &[Change], room: u32) -> Result<Reply, Memory>
-        ensures reply { IfOk result (λ reply. (views : Views) →
-            IsCalled views (record { kqueue = kqueue; changes = changes.now; room = room }) self.old.system.live self.new.system.live reply) }
+        ensures reply { IfOk result (λ reply.
+            IsCalled (views_of self.old.system.world) (record { kqueue = kqueue; changes = changes.now; room = room }) self.old.system.live self.new.system.live reply) }
         ensures version { self.new.system.version ≡ self.old.system.version }
         ensures world { self.new.system.world ≡ self.old.system.world }
         ensures applied { self.new.applied ≡ self.old.applied }
@@ -193,6 +193,6 @@ impl System {
         let Some(live) = self.live.get_mut(&kqueue) else {
             return Ok(Reply::Done);
         };
-        live.kq.call(changes, room)
+        live.kq.call(changes, room, &self.world)
     }
 }

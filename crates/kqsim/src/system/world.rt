@@ -1,9 +1,10 @@
 ghost use Rattle.std.specs.Prelude.{◌≡◌, ℕ, None, Some, false, OnOk, OnErr, option_map};
-ghost use Rattle.kq_model.specs.World.{is_live, named_by, was_used, with_kqueue, with_process};
+ghost use Rattle.kq_model.specs.World.{is_live, named_by, views_of, was_used, with_kqueue, with_process};
 ghost use Rattle.kq_model.specs.declared.object.Named.TheVariants as named;
 
 use indexmap::{IndexMap, IndexSet};
-use kq_model::Memory;
+use kq_filters::Views;
+use kq_model::{Memory, Named, Target, View};
 use std::alloc::Global;
 use std::marker::Model;
 
@@ -84,5 +85,25 @@ impl World {
     {
         self.table.insert((pid, number), place).map_err(|_| Memory)?;
         Ok(())
+    }
+}
+
+/// The world as kqueues see it.
+impl Views for World {
+    ghost sees = { views_of };
+
+    #[tactic(auto, unfolding(kq_model::specs::World::views_of))]
+    fn view(&self, _target: Target) -> Option<View> {
+        None
+    }
+
+    #[tactic(auto, unfolding(kq_model::specs::World::views_of))]
+    fn descriptor(&self, pid: u32, number: u32) -> Option<Named> {
+        self.kqueue_at(pid, number).map(Named::Kqueue)
+    }
+
+    #[tactic(auto, unfolding(kq_model::specs::World::views_of))]
+    fn now(&self) -> u64 {
+        0
     }
 }

@@ -13,40 +13,47 @@ use Rattle.kq_kevent.proofs.TurnLaws.{turned-empty, turned-idle, turned-delivere
 use Rattle.kq_kevent.proofs.kq.Kq.turn.Goals as goal
 
 pub returns-in_default-clause-kq : goal.returns-in_default-clause-kq
-returns-in_default-clause-kq c = λ views.
+returns-in_default-clause-kq g c =
+    let views = g.V.Views.sees c.args.views.now in
     let empty = ap (λ (v : Held). v.kq.queue) (sym c.self.view_is) ∙ c.in_default.ensures.keys.0 in
     same_kqueue c.self.inside.knotes.knotes c.take_front.new.self.keys (record { knotes = c.args.self.now.kq.knotes; queue = [] }) (ap (λ (v : Held). v.kq.knotes) c.self.view_is) c.in_default.ensures.keys.1
     ∙ ap (λ (t : Turned). t.kq) (sym (turned-empty views c.args.self.now.kq empty))
 
 pub returns-in_default-clause-event : goal.returns-in_default-clause-event
-returns-in_default-clause-event c = λ views.
+returns-in_default-clause-event g c =
+    let views = g.V.Views.sees c.args.views.now in
     let empty = ap (λ (v : Held). v.kq.queue) (sym c.self.view_is) ∙ c.in_default.ensures.keys.0 in
     ap (λ (t : Turned). t.event) (sym (turned-empty views c.args.self.now.kq empty))
 
 pub invariant_of-self-in_default-find : goal.invariant_of-self-in_default-find
-invariant_of-self-in_default-find c =
+invariant_of-self-in_default-find g c =
+    let views = g.V.Views.sees c.args.views.now in
     let ks = c.self.inside.knotes.knotes in
     absurd (front_present ks c.in-Some.key c.take_front.new.self.keys (subst (λ (q : List Key). IsSound (record { knotes = ks; queue = q })) c.in-Some.ensures.keys c.self.invariant.sound) c.in_default-find.ensures)
 
 pub returns-in_default-find-clause-kq : goal.returns-in_default-find-clause-kq
-returns-in_default-find-clause-kq c =
+returns-in_default-find-clause-kq g c =
+    let views = g.V.Views.sees c.args.views.now in
     let ks = c.self.inside.knotes.knotes in
     absurd (front_present ks c.in-Some.key c.take_front.new.self.keys (subst (λ (q : List Key). IsSound (record { knotes = ks; queue = q })) c.in-Some.ensures.keys c.self.invariant.sound) c.in_default-find.ensures)
 
 pub returns-in_default-find-clause-event : goal.returns-in_default-find-clause-event
-returns-in_default-find-clause-event c =
+returns-in_default-find-clause-event g c =
+    let views = g.V.Views.sees c.args.views.now in
     let ks = c.self.inside.knotes.knotes in
     absurd (front_present ks c.in-Some.key c.take_front.new.self.keys (subst (λ (q : List Key). IsSound (record { knotes = ks; queue = q })) c.in-Some.ensures.keys c.self.invariant.sound) c.in_default-find.ensures)
 
 pub put_at-requires : goal.put_at-requires
-put_at-requires c =
+put_at-requires g c =
+    let views = g.V.Views.sees c.args.views.now in
     let ks = c.self.inside.knotes.knotes in
     let found = c.in-Some-find.ensures.found ∙ c.at.ensures in
     subst (λ (key : Key). IsPlaceOf key ks c.in-Some-find.place)
     (find_knote-key c.in-Some.key ks c.at.result.now found ∙ ap (λ (k : Knote). k.key) (sym c.knote.view_is)) c.in-Some-find.ensures
 
 pub invariant_of-self-in-None : goal.invariant_of-self-in-None
-invariant_of-self-in-None c =
+invariant_of-self-in-None g c =
+    let views = g.V.Views.sees c.args.views.now in
     let ks = c.self.inside.knotes.knotes in
     let k = c.at.result.now in
     let found = c.in-Some-find.ensures.found ∙ c.at.ensures in
@@ -58,18 +65,21 @@ invariant_of-self-in-None c =
     }
 
 pub settle-requires-clause-place : goal.settle-requires-clause-place
-settle-requires-clause-place c =
+settle-requires-clause-place g c =
+    let views = g.V.Views.sees c.args.views.now in
     let ks = c.self.inside.knotes.knotes in
     let found = c.in-Some-find.ensures.found ∙ c.at.ensures in
     subst (λ (key : Key). IsPlaceOf key ks c.in-Some-find.place) (find_knote-key c.in-Some.key ks c.at.result.now found) c.in-Some-find.ensures
 
 pub settle-requires-clause-capacity : goal.settle-requires-clause-capacity
-settle-requires-clause-capacity c =
+settle-requires-clause-capacity g c =
+    let views = g.V.Views.sees c.args.views.now in
     let kq : Kqueue = record { knotes = c.self.inside.knotes.knotes; queue = c.self.inside.queue.keys } in
     omega (arith, length-queue kq c.self.invariant.sound, ap (length {A = Key}) c.in-Some.ensures.keys, c.in-Some.ensures.capacity, c.self.invariant.capacity)
 
-pub invariant_of-self-in-Some-look : goal.invariant_of-self-in-Some-look
-invariant_of-self-in-Some-look c =
+pub invariant_of-self-in-Some-look_in : goal.invariant_of-self-in-Some-look_in
+invariant_of-self-in-Some-look_in g c =
+    let views = g.V.Views.sees c.args.views.now in
     let ks = c.self.inside.knotes.knotes in
     let k = c.at.result.now in
     let found = c.in-Some-find.ensures.found ∙ c.at.ensures in
@@ -80,7 +90,8 @@ invariant_of-self-in-Some-look c =
     }
 
 pub returns-in-None-clause-kq : goal.returns-in-None-clause-kq
-returns-in-None-clause-kq c = λ views.
+returns-in-None-clause-kq g c =
+    let views = g.V.Views.sees c.args.views.now in
     let ks = c.self.inside.knotes.knotes in
     let k = c.at.result.now in
     let rest = c.take_front.new.self.keys in
@@ -88,16 +99,18 @@ returns-in-None-clause-kq c = λ views.
     let here = ap (λ (v : Held). find_knote c.in-Some.key v.kq.knotes) (sym c.self.view_is) ∙ (c.in-Some-find.ensures.found ∙ c.at.ensures) in
     same_kqueue c.put_at.new.self.knotes rest (with_idle k ks rest) (c.put_at.ensures.knotes ∙ ap (λ (n : Knote). with_knote (record n { active = false }) ks) c.knote.view_is) refl
     ∙ ap (λ (v : Held). with_idle k v.kq.knotes rest) c.self.view_is
-    ∙ ap (λ (t : Turned). t.kq) (sym (turned-idle views c.args.self.now.kq c.in-Some.key rest k front here (sym (c.in-None.ensures views))))
+    ∙ ap (λ (t : Turned). t.kq) (sym (turned-idle views c.args.self.now.kq c.in-Some.key rest k front here (sym c.in-None.ensures)))
 
 pub returns-in-None-clause-event : goal.returns-in-None-clause-event
-returns-in-None-clause-event c = λ views.
+returns-in-None-clause-event g c =
+    let views = g.V.Views.sees c.args.views.now in
     let front = ap (λ (v : Held). v.kq.queue) (sym c.self.view_is) ∙ c.in-Some.ensures.keys in
     let here = ap (λ (v : Held). find_knote c.in-Some.key v.kq.knotes) (sym c.self.view_is) ∙ (c.in-Some-find.ensures.found ∙ c.at.ensures) in
-    ap (λ (t : Turned). t.event) (sym (turned-idle views c.args.self.now.kq c.in-Some.key c.take_front.new.self.keys c.at.result.now front here (sym (c.in-None.ensures views))))
+    ap (λ (t : Turned). t.event) (sym (turned-idle views c.args.self.now.kq c.in-Some.key c.take_front.new.self.keys c.at.result.now front here (sym c.in-None.ensures)))
 
-pub returns-in-Some-look-clause-kq : goal.returns-in-Some-look-clause-kq
-returns-in-Some-look-clause-kq c = λ views.
+pub returns-in-Some-look_in-clause-kq : goal.returns-in-Some-look_in-clause-kq
+returns-in-Some-look_in-clause-kq g c =
+    let views = g.V.Views.sees c.args.views.now in
     let ks = c.self.inside.knotes.knotes in
     let k = c.at.result.now in
     let rest = c.take_front.new.self.keys in
@@ -105,13 +118,14 @@ returns-in-Some-look-clause-kq c = λ views.
     let here = ap (λ (v : Held). find_knote c.in-Some.key v.kq.knotes) (sym c.self.view_is) ∙ (c.in-Some-find.ensures.found ∙ c.at.ensures) in
     same_kqueue c.settle.new.knotes.knotes c.settle.new.queue.keys (with_delivered k ks rest) c.settle.ensures.knotes c.settle.ensures.keys
     ∙ ap (λ (v : Held). with_delivered k v.kq.knotes rest) c.self.view_is
-    ∙ ap (λ (t : Turned). t.kq) (sym (turned-delivered views c.args.self.now.kq c.in-Some.key rest k c.in-Some-look.seen front here (sym (c.in-Some-look.ensures views))))
+    ∙ ap (λ (t : Turned). t.kq) (sym (turned-delivered views c.args.self.now.kq c.in-Some.key rest k c.in-Some-look_in.seen front here (sym c.in-Some-look_in.ensures)))
 
-pub returns-in-Some-look-clause-event : goal.returns-in-Some-look-clause-event
-returns-in-Some-look-clause-event c = λ views.
+pub returns-in-Some-look_in-clause-event : goal.returns-in-Some-look_in-clause-event
+returns-in-Some-look_in-clause-event g c =
+    let views = g.V.Views.sees c.args.views.now in
     let k = c.at.result.now in
     let rest = c.take_front.new.self.keys in
     let front = ap (λ (v : Held). v.kq.queue) (sym c.self.view_is) ∙ c.in-Some.ensures.keys in
     let here = ap (λ (v : Held). find_knote c.in-Some.key v.kq.knotes) (sym c.self.view_is) ∙ (c.in-Some-find.ensures.found ∙ c.at.ensures) in
     ap Some c.event_of.ensures
-    ∙ ap (λ (t : Turned). t.event) (sym (turned-delivered views c.args.self.now.kq c.in-Some.key rest k c.in-Some-look.seen front here (sym (c.in-Some-look.ensures views))))
+    ∙ ap (λ (t : Turned). t.event) (sym (turned-delivered views c.args.self.now.kq c.in-Some.key rest k c.in-Some-look_in.seen front here (sym c.in-Some-look_in.ensures)))

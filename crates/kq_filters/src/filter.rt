@@ -1,0 +1,36 @@
+ghost use Rattle.std.specs.Prelude.{◌≡◌, option_and_then};
+ghost use Rattle.kq_model.specs.Look.{look};
+ghost use Rattle.kq_model.specs.Views as world;
+
+use crate::Seen;
+use kq_knote::Knote;
+use kq_model::{Filter, View};
+
+/// A filter's look at its target, whose view is given: what the event is to say, or none where the
+/// filter's condition does not hold.
+#[tactic(auto, unfolding(kq_model::specs::Look::look, kq_model::specs::Look::look_by))]
+pub fn look(knote: &Knote, view: Option<View>) -> Option<Seen>
+    ensures { (views : world.Views) → view ≡ option_and_then views.view knote.now.target → result ≡ look views knote.now }
+{
+    match knote.key.filter {
+        Filter::User => look_user(knote),
+        _ => None,
+    }
+}
+
+ghost use Rattle.kq_model.specs.Look.{look_user};
+
+/// A user event sees that it was triggered, and needs no world.
+#[tactic(auto, unfolding(kq_model::specs::Look::look_user))]
+fn look_user(knote: &Knote) -> Option<Seen>
+    ensures { result ≡ look_user knote.now }
+{
+    if !knote.triggered {
+        return None;
+    }
+    Some(Seen {
+        fflags: knote.bits,
+        datum: knote.datum,
+        eof: false,
+    })
+}

@@ -1,0 +1,13 @@
+//! What the filters of kqueue(2) see: a world as kqueues see it, and each filter's look at its
+//! target.
+#![tactic(auto)]
+
+mod filter;
+mod nothing;
+mod seen;
+mod views;
+
+pub use filter::look;
+pub use nothing::NothingThere;
+pub use seen::Seen;
+pub use views::Views;
