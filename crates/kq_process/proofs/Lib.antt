@@ -6,3 +6,9 @@ pub mod Closing
 pub mod Opening
 pub mod Told
 pub mod Planned
+pub mod Sums
+pub mod FreePlaces
+pub mod Counted
+pub mod Sound
+pub mod CountedSteps
+pub mod Shared

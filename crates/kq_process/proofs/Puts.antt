@@ -44,7 +44,7 @@ module _ {X : Type 0} where
         ∙ sym (put-before n x e es lt)
   ]
 
-  all-above : (n : ℕ) (e : ℕ × X) (es : List (ℕ × X)) → n < e.0 → AreAbove e.0 es → AreAbove n (e ∷ es)
+  pub all-above : (n : ℕ) (e : ℕ × X) (es : List (ℕ × X)) → n < e.0 → AreAbove e.0 es → AreAbove n (e ∷ es)
   all-above n e es lt above = let le : n ≤ e.0 = omega arith in (lt, above-lower n e.0 es le above)
 
   pub lookup-without : (n : ℕ) (es : List (ℕ × X)) → AreRising es → lookup n (without n es) ≡ None

@@ -13,7 +13,8 @@ use Rattle.kq_model.specs.World.{process_view}
 use Rattle.kq_process.specs.declared.process.Process.{Process}
 use Rattle.kq_process.specs.Processes.{ignored_in, process_in, descriptor_in, descriptors_in, table_in}
 use Rattle.kq_process.specs.Shelf.{lookup, put, without, AreRising}
-use Rattle.kq_process.proofs.Places.{filter-rises}
+use Rattle.kq_process.proofs.Places.{filter-rises, put-rises}
+use Rattle.kq_process.proofs.Puts.{lookup-put}
 use Rattle.kq_process.proofs.Pids.{process-found, used-found, is_live_at, live-found, started-put, changed-put, kept-put}
 use Rattle.kq_process.proofs.Blocks.{descriptors_at, named-found, of-found, kept-block, empty-block}
 use Rattle.kq_process.proofs.Closing.{one, closed-one, closed-absent, closed-all}
@@ -195,3 +196,14 @@ fork_table pid child es rising p x found numbers copies fresh =
     (filter-rises (λ (d : ℕ × Named). not (is_kqueue d.1)) p.descriptors numbers) in
     sym (ap (λ ds. with_descriptors ds (table_in es)) copied
     ∙ opened-copies child x sorted es rising (unused child es fresh))
+
+-- the child's descriptors are these copies
+pub fork_copies : (pid child : ℕ) (es : List (ℕ × Process)) → AreRising es → (p x : Process) → Some p ≡ lookup pid es
+    → x.descriptors ≡ copies_of p.descriptors
+    → descriptors_of child (table_in (put child x es)) ≡ inherited pid child (table_in es)
+fork_copies pid child es rising p x found copies =
+    of-found child (put child x es) (put-rises child x es rising)
+    ∙ ap (λ o. descriptors_in child (descriptors_at o)) (lookup-put child x es)
+    ∙ sym (ap (λ ds. map (λ (d : Descriptor). record d { pid = child }) (inheritable ds))
+    (sym (exit_closed pid es rising p found))
+    ∙ inherited-copies pid child p.descriptors ∙ ap (descriptors_in child) (sym copies))

@@ -1,7 +1,8 @@
 -- What contracts see of the processes that the code keeps: the model's processes and its table.
-use Rattle.std.specs.Prelude.{ℕ, Bool, false, List, [], ◌∷◌, ◌++◌, map, slice_index_or}
+use Rattle.std.specs.Prelude.{◌≡◌, ℕ, ◌+◌, Bool, false, List, [], ◌∷◌, ◌++◌, map, sum_by, slice_index_or, Option, Some, None}
 use Rattle.kq_model.specs.declared.object.Named.{Named}
-use Rattle.kq_model.specs.Descriptors.{Descriptor}
+use Rattle.kq_model.specs.Descriptors.{Descriptor, without_closed}
+use Rattle.kq_model.specs.ProcessPlans.{pairs_of}
 use Rattle.kq_model.specs.Processes as model
 use Rattle.kq_process.specs.declared.ignored.Ignored.{Ignored}
 use Rattle.kq_process.specs.declared.process.Process.{Process}
@@ -31,3 +32,14 @@ processes_of p = map process_in p.shelf
 
 abbrev pub table_of : Processes → List Descriptor
 table_of p = table_in p.shelf
+
+-- what an open number of a process names, as a descriptor
+abbrev pub descriptor_there : ℕ → ℕ → Option Named → List Descriptor
+descriptor_there pid number None = []
+descriptor_there pid number (Some n) = descriptor_in pid (number, n) ∷ []
+
+-- each of these stands in the table just once: whatever is counted over the table is counted over them and
+-- over what is left without them
+abbrev pub AreOnce : List Descriptor → List Descriptor → Type 0
+AreOnce ds table =
+    (count : Descriptor → ℕ) → sum_by count table ≡ sum_by count (without_closed (pairs_of ds) table) + sum_by count ds

@@ -1,4 +1,4 @@
-ghost use Rattle.std.specs.Prelude.{◌∷◌, [], IfOk};
+ghost use Rattle.std.specs.Prelude.{◌≡◌, ◌∷◌, [], IfOk, IsOk};
 
 use kq_model::{Hint, Memory, Series, Target, Why};
 use std::alloc::Global;
@@ -50,5 +50,26 @@ impl Effect {
             closed: Series::from_vec(Vec::new(alloc)),
             hints: Series::from_vec(hints),
         })
+    }
+
+    /// Of a possible record that closes these descriptors and gives these hints.
+    pub fn done(closed: Vec<(u32, u32)>, hints: Vec<(Target, Hint)>) -> Self
+        ensures verdict { IsOk result.verdict }
+        ensures closed { result.closed ≡ closed.items }
+        ensures hints { result.hints ≡ hints.items }
+    {
+        Effect {
+            verdict: Ok(()),
+            closed: Series::from_vec(closed),
+            hints: Series::from_vec(hints),
+        }
+    }
+
+    /// Of a record that closes nothing and gives these hints.
+    pub fn telling(alloc: Global, hints: &[(Target, Hint)]) -> Result<Self, Memory>
+        ensures { IfOk result (Tells hints.now) }
+    {
+        let hints = Vec::from_slice(alloc, hints).map_err(|_| Memory)?;
+        Ok(Effect::done(Vec::new(alloc), hints))
     }
 }

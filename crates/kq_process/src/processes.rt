@@ -22,7 +22,7 @@ pub struct Processes {
 }
 
 impl Processes {
-    ghost use Rattle.kq_process.specs.Processes.{processes_of, table_of, descriptors_in, descriptor_in};
+    ghost use Rattle.kq_process.specs.Processes.{processes_of, table_of, descriptors_in, descriptor_in, descriptor_there, AreOnce};
 
     pub fn new(alloc: Global) -> Self
         ensures processes { processes_of result ≡ [] }
@@ -75,10 +75,23 @@ impl Processes {
 
     /// What an open descriptor names.
     pub fn named(&self, pid: u32, number: u32) -> Option<Named>
-        ensures { result ≡ named_among pid number (table_of self.now) }
+        ensures named { result ≡ named_among pid number (table_of self.now) }
+        ensures once { AreOnce (descriptor_there pid number result) (table_of self.now) }
     {
         let process = self.shelf.get(pid)?;
         process.descriptors.get(number).copied()
+    }
+
+    /// The open descriptors of a process, in rising order of their numbers; none where there is no
+    /// such process.
+    pub fn descriptors(&self, pid: u32) -> &[(u32, Named)]
+        ensures all { descriptors_in pid result.now ≡ descriptors_of pid (table_of self.now) }
+        ensures once { AreOnce (descriptors_of pid (table_of self.now)) (table_of self.now) }
+    {
+        match self.shelf.get(pid) {
+            Some(process) => process.descriptors.entries(),
+            None => &[],
+        }
     }
 
     /// A process starts, with no descriptors and no ignored signals.
@@ -106,6 +119,8 @@ impl Processes {
             ≡ with_process (Some (record { pid = child; ignores = ignores })) (processes_of self.old)) }
         ensures table { OnOk result (table_of self.new
             ≡ with_descriptors (inherited pid child (table_of self.old)) (table_of self.old)) }
+        ensures copies { OnOk result (descriptors_of child (table_of self.new)
+            ≡ inherited pid child (table_of self.old)) }
         ensures err_processes { OnErr result (processes_of self.new ≡ processes_of self.old) }
         ensures err_table { OnErr result (table_of self.new ≡ table_of self.old) }
     {

@@ -1,5 +1,5 @@
 // The records that are about processes and descriptors alone, whatever the objects and the clock.
-ghost use Rattle.std.specs.Prelude.{ℕ, IfOk, OnOk, OnErr};
+ghost use Rattle.std.specs.Prelude.{◌≡◌, ℕ, IfOk, OnOk, OnErr};
 ghost use Rattle.kq_model.specs.DescriptorPlans.{plan_kqueue, plan_kevent};
 ghost use Rattle.kq_model.specs.ProcessPlans.{plan_proc, plan_exec, plan_sigset, plan_sig};
 
@@ -16,6 +16,7 @@ const MOST_SIGNAL: u32 = 128;
 const SIGCHLD: u32 = 20;
 
 impl Processes {
+    ghost use Rattle.kq_process.specs.Processes.{table_of};
     ghost use Rattle.kq_process.specs.Effects.{IsToldBy, IsAfter, IsUnchanged, IsCallBy};
 
     /// A process starts. UsedPid: the pid was used before.
@@ -23,6 +24,7 @@ impl Processes {
     pub fn proc(&mut self, pid: u32) -> Result<Effect, Memory>
         ensures effect { IfOk result (IsToldBy (plan_proc pid) self.old) }
         ensures world { (place : ℕ) → OnOk result (IsAfter place (plan_proc pid) self.old self.new) }
+        ensures table { table_of self.new ≡ table_of self.old }
         ensures err { OnErr result (IsUnchanged self.old self.new) }
     {
         let alloc = self.allocator();
@@ -50,6 +52,7 @@ impl Processes {
     pub fn sigset(&mut self, pid: u32, signal: u32, ignore: bool) -> Effect
         ensures effect { IsToldBy (plan_sigset pid signal ignore) self.old result }
         ensures world { (place : ℕ) → IsAfter place (plan_sigset pid signal ignore) self.old self.new }
+        ensures table { table_of self.new ≡ table_of self.old }
     {
         let alloc = self.allocator();
         if !self.is_live(pid) {

@@ -13,7 +13,7 @@ returns-clause-effect c o now =
     let live : is_live c.args.pid (processes_of c.args.self.now) ≡ true = grind (arith, c.is_live.ensures) in
     let free : is_some c.named.result ≡ false = grind (arith, c.is_some.ensures) in
     let w = world_with c.args.self.now o now in
-    rw (kqueue_plan c.args.pid w c.args.fd live (ap is_some (sym c.named.ensures) ∙ free))
+    rw (kqueue_plan c.args.pid w c.args.fd live (ap is_some (sym c.named.ensures.named) ∙ free))
     (c.quiet.ensures _ refl refl)
 
 pub returns-clause-world : goal.returns-clause-world
@@ -23,4 +23,4 @@ returns-clause-world c o now =
     let free : is_some c.named.result ≡ false = grind (arith, c.is_some.ensures) in
     let w = world_with c.args.self.now o now in
     kqueue_world c.args.pid w c.args.place c.args.fd _ _ live _ refl
-    (ap is_some (sym c.named.ensures) ∙ free) c.name.ensures.processes c.in_ok-name.ensures.table
+    (ap is_some (sym c.named.ensures.named) ∙ free) c.name.ensures.processes c.in_ok-name.ensures.table

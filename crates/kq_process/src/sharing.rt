@@ -1,0 +1,162 @@
+// The records that share descriptors or close them: fork, exit, dup and close.
+ghost use Rattle.std.specs.Prelude.{◌≡◌, ◌∷◌, [], ℕ, IfOk, OnOk, OnErr, None, Some, true, false, ◌==◌};
+ghost use Rattle.kq_model.specs.DescriptorPlans.{plan_close, plan_dup};
+ghost use Rattle.kq_model.specs.Holding.{IsNamed};
+ghost use Rattle.kq_model.specs.ProcessPlans.{plan_fork, plan_exit, names_of};
+ghost use Rattle.kq_model.specs.Processes.{is_live};
+ghost use Rattle.kq_model.specs.World.{named_by, Possible};
+
+use crate::counting::{hold_each, pairs, release_each, release_one, say};
+use crate::effect::Effect;
+use crate::world::World;
+use kq_model::notes::{NOTE_EXIT, NOTE_FORK};
+use kq_model::{Hint, Memory, Named, Target, Why};
+
+impl World {
+    ghost use Rattle.kq_process.specs.Effects.{IsDone, world_after};
+    ghost use Rattle.kq_process.specs.Processes.{descriptor_in, AreOnce};
+    ghost use Rattle.kq_process.specs.World.{world_of, IsEffectBy, IsNext, sharing};
+
+    /// A child starts, with copies of its parent's descriptors and ignored signals, but no kqueues
+    /// (fork(2)). NoProcess; UsedPid: the child's pid was used before.
+    #[tactic(auto, unfolding(kq_model::specs::ProcessPlans::plan_fork))]
+    pub fn fork(&mut self, pid: u32, child: u32) -> Result<Effect, Memory>
+        ensures effect { IfOk result (IsEffectBy (plan_fork pid child) self.old) }
+        ensures world { (place : ℕ) → OnOk result (IsNext place (plan_fork pid child) self.old self.new) }
+        ensures memory { OnErr result (world_of self.new ≡ world_of self.old) }
+    {
+        let alloc = self.processes.allocator();
+        if !self.processes.is_live(pid) {
+            return Ok(Effect::impossible(alloc, Why::NoProcess));
+        }
+        if self.processes.was_used(child) {
+            return Ok(Effect::impossible(alloc, Why::UsedPid));
+        }
+        let effect = Effect::told(alloc, Target::Process(pid), Hint::Note(NOTE_FORK))?;
+        let most = self.processes.descriptors(pid).len() as u64;
+        let Some(_) = self.descriptors.checked_add(most) else {
+            return Err(Memory);
+        };
+        self.processes.fork(pid, child)?;
+        let copies = self.processes.descriptors(child);
+        hold_each(&mut self.objects, copies);
+        self.descriptors += copies.len() as u64;
+        Ok(effect)
+    }
+
+    /// A process exits: all its descriptors are closed, in rising order (exit(3)). NoProcess.
+    #[tactic(auto, unfolding(kq_model::specs::ProcessPlans::plan_exit))]
+    pub fn exit(&mut self, pid: u32, status: u32) -> Result<Effect, Memory>
+        ensures effect { IfOk result (IsEffectBy (plan_exit pid status) self.old) }
+        ensures world { (place : ℕ) → OnOk result (IsNext place (plan_exit pid status) self.old self.new) }
+        ensures memory { OnErr result (world_of self.new ≡ world_of self.old) }
+    {
+        let alloc = self.processes.allocator();
+        if !self.processes.is_live(pid) {
+            return Ok(Effect::impossible(alloc, Why::NoProcess));
+        }
+        let descriptors = self.processes.descriptors(pid);
+        let closed = pairs(alloc, pid, descriptors)?;
+        let mut hints = Vec::with_capacity(alloc, descriptors.len() + 1).map_err(|_| Memory)?;
+        let gone = self.processes.exit(pid, status);
+        let entries = gone.entries();
+        release_each(&mut self.objects, entries, &mut hints);
+        self.descriptors -= entries.len() as u64;
+        say(&mut hints, (Target::Process(pid), Hint::Note(NOTE_EXIT)));
+        Ok(Effect::done(closed, hints))
+    }
+
+    /// A number is closed (close(2)). NoProcess; NoDescriptor: it is not open.
+    #[tactic(auto, unfolding(kq_model::specs::DescriptorPlans::plan_close))]
+    pub fn close(&mut self, pid: u32, fd: u32) -> Result<Effect, Memory>
+        ensures effect { IfOk result (IsEffectBy (plan_close pid fd) self.old) }
+        ensures world { (place : ℕ) → OnOk result (IsNext place (plan_close pid fd) self.old self.new) }
+        ensures memory { OnErr result (world_of self.new ≡ world_of self.old) }
+    {
+        let alloc = self.processes.allocator();
+        let named = match self.on(pid, fd) {
+            Ok(named) => named,
+            Err(why) => return Ok(Effect::impossible(alloc, why)),
+        };
+        let closed = vec![in alloc; (pid, fd)].map_err(|_| Memory)?;
+        let mut hints = Vec::with_capacity(alloc, 1).map_err(|_| Memory)?;
+        let _ = self.processes.close(pid, fd);
+        self.descriptors -= 1;
+        release_one(&mut self.objects, named, &mut hints);
+        Ok(Effect::done(closed, hints))
+    }
+
+    /// The number `to` names what `fd` names. It is closed before, if it is open; onto itself nothing
+    /// happens (dup2(2)). NoProcess; NoDescriptor: `fd` is not open; WrongKind: it is a kqueue.
+    #[tactic(auto, unfolding(kq_model::specs::DescriptorPlans::plan_dup, kq_model::specs::DescriptorPlans::duplicated))]
+    pub fn dup(&mut self, pid: u32, fd: u32, to: u32) -> Result<Effect, Memory>
+        ensures effect { IfOk result (IsEffectBy (plan_dup pid fd to) self.old) }
+        ensures world { (place : ℕ) → OnOk result (IsNext place (plan_dup pid fd to) self.old self.new) }
+        ensures memory { OnErr result (world_of self.new ≡ world_of self.old) }
+    {
+        let alloc = self.processes.allocator();
+        let named = match self.on(pid, fd) {
+            Ok(named) => named,
+            Err(why) => return Ok(Effect::impossible(alloc, why)),
+        };
+        if let Named::Kqueue(_) = named {
+            return Ok(Effect::impossible(alloc, Why::WrongKind));
+        }
+        if fd == to {
+            return Ok(Effect::quiet(alloc));
+        }
+        match self.processes.named(pid, to) {
+            None => self.share(pid, to, named),
+            Some(before) => self.replace(pid, fd, to, before, named),
+        }
+    }
+
+    // A number that is not open names this too.
+    #[tactic(auto, unfolding(kq_model::specs::DescriptorPlans::closes, kq_model::specs::DescriptorPlans::close_hints))]
+    fn share(&mut self, pid: u32, to: u32, named: Named) -> Result<Effect, Memory>
+        requires live { is_live pid (world_of self.old).processes ≡ true }
+        requires absent { named_by pid to (world_of self.old) ≡ None }
+        requires there { IsNamed named (names_of (world_of self.old).table) }
+        ensures effect { IfOk result (IsDone (sharing pid to None named (world_of self.old))) }
+        ensures world { (place : ℕ) → OnOk result (world_of self.new
+            ≡ world_after place (Possible (sharing pid to None named (world_of self.old))) (world_of self.old)) }
+        ensures memory { OnErr result (world_of self.new ≡ world_of self.old) }
+    {
+        let Some(descriptors) = self.descriptors.checked_add(1) else {
+            return Err(Memory);
+        };
+        self.processes.name(pid, to, named)?;
+        self.objects.hold(named);
+        self.descriptors = descriptors;
+        Ok(Effect::quiet(self.processes.allocator()))
+    }
+
+    // A number that names `before` is closed, and then names what `fd` names.
+    #[tactic(auto, unfolding(kq_model::specs::DescriptorPlans::closes, kq_model::specs::DescriptorPlans::close_hints))]
+    fn replace(
+        &mut self,
+        pid: u32,
+        fd: u32,
+        to: u32,
+        before: Named,
+        named: Named,
+    ) -> Result<Effect, Memory>
+        requires live { is_live pid (world_of self.old).processes ≡ true }
+        requires before { named_by pid to (world_of self.old) ≡ Some before }
+        requires there { named_by pid fd (world_of self.old) ≡ Some named }
+        requires other { (fd == to) ≡ false }
+        requires once { AreOnce (descriptor_in pid (to, before) ∷ []) (world_of self.old).table }
+        ensures effect { IfOk result (IsDone (sharing pid to (Some before) named (world_of self.old))) }
+        ensures world { (place : ℕ) → OnOk result (world_of self.new
+            ≡ world_after place (Possible (sharing pid to (Some before) named (world_of self.old))) (world_of self.old)) }
+        ensures memory { OnErr result (world_of self.new ≡ world_of self.old) }
+    {
+        let alloc = self.processes.allocator();
+        let closed = vec![in alloc; (pid, to)].map_err(|_| Memory)?;
+        let mut hints = Vec::with_capacity(alloc, 1).map_err(|_| Memory)?;
+        self.processes.name(pid, to, named)?;
+        release_one(&mut self.objects, before, &mut hints);
+        self.objects.hold(named);
+        Ok(Effect::done(closed, hints))
+    }
+}
