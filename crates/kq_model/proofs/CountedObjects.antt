@@ -1,6 +1,6 @@
 -- Objects that keep quantities alone stand for objects that keep every record: what is noted changes both
 -- alike. No premise is needed, since differences are integers.
-use Rattle.std.proofs.Common.{◌≡◌, ◌∙◌, ◌==◌, ℕ, ℤ, pos, ◌+ℤ◌, ◌-ℤ◌, Bool, true, false, List, [], ◌∷◌, Option, None, Some, option_map, refl, sym, ap, arith, if◌then◌else◌}
+use Rattle.std.proofs.Common.{◌≡◌, ◌∙◌, ◌==◌, ℕ, ℤ, ◌-ℤ◌, Bool, true, false, List, [], ◌∷◌, Option, None, Some, option_map, refl, sym, ap, arith, if◌then◌else◌}
 use Rattle.std.proofs.Math.Path.{fun_ext}
 use Rattle.std.proofs.lemmas.Int.{ints}
 use Rattle.kq_model.specs.declared.doing.SocketRecord.{SocketRecord}

@@ -52,13 +52,13 @@ before_all d e (x ∷ es) first all =
     (before_all d e es first (All-tail (λ y. is_before e y ≡ true) x es all))
 
 -- a number that is not there is neither at the head nor behind
-absent-head : (pid number : ℕ) (e : Descriptor) (es : List Descriptor) → named_among pid number (e ∷ es) ≡ None → eqb e.pid pid && eqb e.number number ≡ false
+pub absent-head : (pid number : ℕ) (e : Descriptor) (es : List Descriptor) → named_among pid number (e ∷ es) ≡ None → eqb e.pid pid && eqb e.number number ≡ false
 unfolding named_among
 absent-head pid number e es absent =
     by_test (λ b. cond b (Some e.named) (named_among pid number es) ≡ None → b ≡ false) (eqb e.pid pid && eqb e.number number)
     (λ _ found. absurd (none-some e.named (sym found))) (λ _ _. refl) absent
 
-absent-tail : (pid number : ℕ) (e : Descriptor) (es : List Descriptor) → named_among pid number (e ∷ es) ≡ None → named_among pid number es ≡ None
+pub absent-tail : (pid number : ℕ) (e : Descriptor) (es : List Descriptor) → named_among pid number (e ∷ es) ≡ None → named_among pid number es ≡ None
 unfolding named_among
 absent-tail pid number e es absent =
     by_test (λ b. cond b (Some e.named) (named_among pid number es) ≡ None → named_among pid number es ≡ None) (eqb e.pid pid && eqb e.number number)

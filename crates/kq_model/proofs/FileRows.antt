@@ -1,7 +1,7 @@
 -- Records about files by example: each effect, each hint and each reason.
-use Rattle.std.specs.Prelude.{◌≡◌, pos, negsuc, true, false, [], ◌∷◌, ◌++◌, None, Some, Ok}
+use Rattle.std.specs.Prelude.{◌≡◌, pos, negsuc, [], ◌∷◌, None, Some, Ok}
 use Rattle.std.proofs.Common.{refl}
-use Rattle.kq_model.specs.declared.act.Act.TheVariants.{Socket, Read, Write, File, Open, Seek, Truncate, Note}
+use Rattle.kq_model.specs.declared.act.Act.TheVariants.{Read, Write, File, Open, Seek, Truncate, Note}
 use Rattle.kq_model.specs.declared.mode.Mode.TheVariants as mode
 use Rattle.kq_model.specs.declared.note.Note.TheVariants as note
 use Rattle.kq_model.specs.declared.object.Hint.TheVariants as hint

@@ -1,5 +1,5 @@
 -- One descriptor more, one less and many of them keep that the objects are counted by the tables.
-use Rattle.std.proofs.Common.{◌≡◌, ◌∙◌, ◌==◌, ◌≤◌, ℕ, ◌+◌, length, eq-eqb, nat_eq, ℤ, pos, ◌+ℤ◌, ◌-ℤ◌, Bool, true, false, List, [], ◌∷◌, ◌++◌, Option, None, Some, refl, sym, ap, arith, if◌then◌else◌}
+use Rattle.std.proofs.Common.{◌≡◌, ◌∙◌, ◌==◌, ◌≤◌, ℕ, ◌+◌, length, eq-eqb, pos, ◌+ℤ◌, ◌-ℤ◌, Bool, true, false, List, [], ◌∷◌, ◌++◌, Option, None, Some, refl, sym, ap, arith, if◌then◌else◌}
 use Rattle.std.proofs.lemmas.Int.{ints}
 use Rattle.kq_model.specs.declared.doing.DescriptionRecord.TheVariants as description
 use Rattle.kq_model.specs.declared.doing.Doing.TheVariants.{ToDescription}
@@ -36,7 +36,7 @@ module _ (p q : ℕ) (fewer more : ℕ) (is : more ≡ fewer + one_if (q == p)) 
 pub as_often : (more fewer : ℕ) → more ≡ fewer + 0 → fewer ≡ more
 as_often more fewer e = omega arith
 
-no-kqueue : (m : Named) (p : ℕ) → is_same m (Kqueue p) ≡ false
+pub no-kqueue : (m : Named) (p : ℕ) → is_same m (Kqueue p) ≡ false
 unfolding is_same
 no-kqueue (Socket q) p = refl
 no-kqueue (PipeRead q) p = refl

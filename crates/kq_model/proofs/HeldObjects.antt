@@ -1,17 +1,10 @@
 -- How many descriptors name each object is what the tables say: one more and one less keep that, and so
 -- do many, as at a fork and at an exit. The order of the names does not matter.
-use Rattle.std.proofs.Common.{◌≡◌, ◌∙◌, ◌==◌, ◌||◌, ℕ, ◌+◌, nat_eq, ℤ, pos, ◌+ℤ◌, ◌-ℤ◌, int_lt, Bool, true, false, List, [], ◌∷◌, ◌++◌, Option, None, Some, refl, sym, ap, arith, if◌then◌else◌, ltb-false}
-use Rattle.std.proofs.lemmas.Int.{ints}
+use Rattle.std.proofs.Common.{◌≡◌, ◌∙◌, ◌||◌, ℕ, nat_eq, ℤ, pos, int_lt, Bool, true, false, Option, None, Some, refl, sym, ap, arith, if◌then◌else◌, ltb-false}
 use Rattle.std.proofs.lemmas.Bool.Decides.{nat_tests}
 use Rattle.kq_model.specs.declared.doing.DescriptionRecord.{DescriptionRecord}
-use Rattle.kq_model.specs.declared.doing.DescriptionRecord.TheVariants as description
 use Rattle.kq_model.specs.declared.doing.PipeRecord.{PipeRecord}
-use Rattle.kq_model.specs.declared.doing.PipeRecord.TheVariants as pipe
 use Rattle.kq_model.specs.declared.doing.SocketRecord.{SocketRecord}
-use Rattle.kq_model.specs.declared.doing.SocketRecord.TheVariants as socket
-use Rattle.kq_model.specs.declared.object.Named.{Named}
-use Rattle.kq_model.specs.declared.object.Named.TheVariants.{Socket, PipeRead, PipeWrite, Open, Kqueue}
-use Rattle.kq_model.specs.declared.side.Side.TheVariants as side
 use Rattle.kq_model.specs.Books.{plus, less}
 use Rattle.kq_model.specs.Sockets as sockets
 use Rattle.kq_model.specs.Pipes as pipes
@@ -19,8 +12,8 @@ use Rattle.kq_model.specs.Files as files
 use Rattle.kq_model.specs.Sockets.{SocketState}
 use Rattle.kq_model.specs.Pipes.{PipeState}
 use Rattle.kq_model.specs.Files.{DescriptionState, FileState}
-use Rattle.kq_model.specs.Objects.{Objects, counted, quantities, kept, told_of, done, all_done}
-use Rattle.kq_model.specs.Holding.{socket_holders, readers, writers, description_holders, holders_of, hold_doings, hold, leaving, left, release_doings, release, all_held, all_released, is_last, is_same, one_if, times, IsCounted}
+use Rattle.kq_model.specs.Objects.{counted, kept, told_of}
+use Rattle.kq_model.specs.Holding.{socket_holders, readers, writers, description_holders}
 
 pub eq-swapped : (a b : ℕ) → nat_eq a b ≡ nat_eq b a
 eq-swapped a b = grind (arith, nat_tests)

@@ -54,3 +54,12 @@ pub mod SeenWorld
 pub mod WorldPlayed
 pub mod WorldDescriptors
 pub mod WorldObjects
+pub mod CountedPlans
+pub mod FreePlaces
+pub mod CountedTables
+pub mod LiveProcesses
+pub mod CountedSteps
+pub mod CountedWorld
+pub mod CountedRecords
+pub mod NamedWorld
+pub mod ListedObjects

@@ -1,5 +1,5 @@
 -- Records about pipes by example, and descriptors of their ends that come and go.
-use Rattle.std.specs.Prelude.{◌≡◌, pos, true, false, [], ◌∷◌, None, Some, Ok}
+use Rattle.std.specs.Prelude.{◌≡◌, pos, true, false, [], ◌∷◌, None, Some}
 use Rattle.std.proofs.Common.{refl}
 use Rattle.kq_model.specs.declared.act.Act.TheVariants.{Socket, Pipe, Read, Write}
 use Rattle.kq_model.specs.declared.object.Hint.TheVariants.{Readable, Writable}
@@ -7,8 +7,7 @@ use Rattle.kq_model.specs.declared.object.Named.TheVariants as on
 use Rattle.kq_model.specs.declared.object.Target.TheVariants as target
 use Rattle.kq_model.specs.declared.object.View.TheVariants as view
 use Rattle.kq_model.specs.declared.why.Why.TheVariants.{WrongKind, TooMany}
-use Rattle.kq_model.specs.Holding.{all_held, all_released, release_hints}
-use Rattle.kq_model.specs.Objects.{quantities}
+use Rattle.kq_model.specs.Holding.{all_held, all_released}
 use Rattle.kq_model.proofs.ObjectBuilders.{objects_opened, answers, answers_from, after, seen, closing, quiet, says, cannot}
 
 pub caps : answers (Pipe 0 ∷ Pipe 2147483648 ∷ Pipe 2147483647 ∷ []) ≡ cannot TooMany ∷ cannot TooMany ∷ quiet ∷ []

@@ -3,7 +3,6 @@ use Rattle.std.proofs.Common.{◌≡◌, ◌∙◌, ℕ, List, [], ◌∷◌, �
 use Rattle.std.proofs.Math.Path.{fun_ext}
 use Rattle.kq_model.specs.declared.doing.Doing.{Doing}
 use Rattle.kq_model.specs.declared.object.Named.{Named}
-use Rattle.kq_model.specs.Files.{DescriptionState, FileState}
 use Rattle.kq_model.specs.Holding.{release, release_all, release_doings, all_released}
 use Rattle.kq_model.specs.Objects.{Keeping, Objects, counted, quantities, all_done}
 

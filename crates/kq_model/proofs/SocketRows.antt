@@ -1,5 +1,5 @@
 -- Records about sockets by example: each effect, each hint and each reason.
-use Rattle.std.specs.Prelude.{◌≡◌, pos, negsuc, true, false, [], ◌∷◌, None, Some, Ok}
+use Rattle.std.specs.Prelude.{◌≡◌, pos, true, false, [], ◌∷◌, None, Some}
 use Rattle.std.proofs.Common.{refl}
 use Rattle.kq_model.specs.declared.act.Act.TheVariants.{Socket, Listen, Arrive, Accept, Connect, Receive, Transmit, Shut, LowWater, Pipe, Read, Write}
 use Rattle.kq_model.specs.declared.object.Hint.TheVariants.{Readable, Writable}

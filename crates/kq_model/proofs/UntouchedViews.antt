@@ -1,11 +1,10 @@
 -- What is not touched keeps its view.
-use Rattle.std.proofs.Common.{◌≡◌, ◌∙◌, ◌==◌, ◌||◌, ℕ, pos, Bool, true, false, List, [], ◌∷◌, Option, None, Some, option_map, refl, sym, ap, ap₂, if◌then◌else◌}
+use Rattle.std.proofs.Common.{◌≡◌, ◌∙◌, ◌==◌, ◌||◌, ℕ, pos, Bool, true, false, List, [], ◌∷◌, Option, None, Some, option_map, refl, ap, ap₂, if◌then◌else◌}
 use Rattle.kq_model.specs.declared.doing.Doing.{Doing}
 use Rattle.kq_model.specs.declared.doing.Doing.TheVariants.{ToSocket, ToPipe, ToDescription, ToFile}
 use Rattle.kq_model.specs.declared.doing.FileRecord.{FileRecord}
 use Rattle.kq_model.specs.declared.object.Target.{Target}
 use Rattle.kq_model.specs.declared.object.Target.TheVariants.{Socket, Pipe, Open, File, Process, Signal, Own}
-use Rattle.kq_model.specs.declared.object.View.{View}
 use Rattle.kq_model.specs.declared.object.View.TheVariants as view
 use Rattle.kq_model.specs.Files.{DescriptionState, FileState}
 use Rattle.kq_model.specs.Objects.{Objects, counted, done, all_done, size_of, description_view, view_of}

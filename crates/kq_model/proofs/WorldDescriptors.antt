@@ -1,5 +1,5 @@
 -- Processes and descriptors by example: what each record closes and whom it tells.
-use Rattle.std.specs.Prelude.{◌≡◌, ℕ, ◌^◌, List, [], ◌∷◌, Option, Some, None}
+use Rattle.std.specs.Prelude.{◌≡◌, ℕ, ◌^◌, List, [], ◌∷◌, Some}
 use Rattle.std.proofs.Common.{refl}
 use Rattle.kq_model.specs.declared.act.Act.TheVariants as act
 use Rattle.kq_model.specs.declared.object.Hint.TheVariants.{Readable, Writable, Note}
@@ -9,10 +9,9 @@ use Rattle.kq_model.specs.declared.why.Why.TheVariants.{NoProcess, UsedPid, NoDe
 use Rattle.kq_model.specs.Close.{Pair}
 use Rattle.kq_model.specs.DescriptorPlans.{plan_close, plan_dup, plan_kqueue}
 use Rattle.kq_model.specs.ObjectRecordPlans.{plan_at, plan_pipe, plan_socket}
-use Rattle.kq_model.specs.Objects.{counted}
 use Rattle.kq_model.specs.ProcessPlans.{plan_proc, plan_fork, plan_exec, plan_exit}
-use Rattle.kq_model.specs.World.{World, Planned, named_by}
-use Rattle.kq_model.proofs.WorldPlayed.{Outcome, Done, Refused, Planning, outcomes, world_after, world_opened}
+use Rattle.kq_model.specs.World.{named_by}
+use Rattle.kq_model.proofs.WorldPlayed.{Done, Refused, Planning, outcomes, world_after, world_opened}
 
 -- ---- records, for short
 

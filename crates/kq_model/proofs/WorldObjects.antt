@@ -1,5 +1,5 @@
 -- Sockets, files, signals and the clock by example, as the records of a trace give them.
-use Rattle.std.specs.Prelude.{◌≡◌, ℕ, ℤ, pos, ◌^◌, Bool, true, false, List, [], ◌∷◌, Option, Some, None}
+use Rattle.std.specs.Prelude.{◌≡◌, ℕ, pos, ◌^◌, true, false, List, [], ◌∷◌, Some}
 use Rattle.std.proofs.Common.{refl}
 use Rattle.kq_model.specs.declared.act.Act.TheVariants as act
 use Rattle.kq_model.specs.declared.mode.Mode.{Mode}
@@ -10,13 +10,11 @@ use Rattle.kq_model.specs.declared.object.Target.TheVariants as target
 use Rattle.kq_model.specs.declared.object.View.TheVariants as view
 use Rattle.kq_model.specs.declared.side.Side.TheVariants as side
 use Rattle.kq_model.specs.declared.why.Why.TheVariants.{NoProcess, UsedDescriptor, WrongKind, Absent, UsedFile, ClockBack, TooMany}
-use Rattle.kq_model.specs.Close.{Pair}
 use Rattle.kq_model.specs.DescriptorPlans.{plan_close}
 use Rattle.kq_model.specs.ObjectRecordPlans.{plan_act, plan_at, plan_accept, plan_open, plan_socket}
-use Rattle.kq_model.specs.Objects.{counted}
 use Rattle.kq_model.specs.ProcessPlans.{plan_proc, plan_exit, plan_sigset, plan_sig, plan_clock}
-use Rattle.kq_model.specs.World.{World, Planned, view_in}
-use Rattle.kq_model.proofs.WorldPlayed.{Outcome, Done, Refused, Planning, outcomes, world_after, world_opened}
+use Rattle.kq_model.specs.World.{view_in}
+use Rattle.kq_model.proofs.WorldPlayed.{Done, Refused, Planning, outcomes, world_after, world_opened}
 
 abbrev proc : ℕ → Planning
 proc pid place w = plan_proc pid w

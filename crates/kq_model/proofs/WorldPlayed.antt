@@ -10,7 +10,7 @@ use Rattle.kq_model.specs.Files as files
 use Rattle.kq_model.specs.Holding as holding
 use Rattle.kq_model.specs.ObjectPlan as object
 use Rattle.kq_model.specs.ObjectRecordPlans as records
-use Rattle.kq_model.specs.Objects.{Objects, listed, counted, done, all_done, view_of, description_view}
+use Rattle.kq_model.specs.Objects.{listed, counted, done, all_done, view_of, description_view}
 use Rattle.kq_model.specs.PipePlans as pipe_plans
 use Rattle.kq_model.specs.PipeSteps as pipe_steps
 use Rattle.kq_model.specs.Pipes as pipes

@@ -2,7 +2,7 @@
 -- opened the file.
 -- Source: open(2), read(2), write(2), lseek(2), ftruncate(2), and kqueue(2) for the notes; what is
 -- impossible is this project's choice.
-use Rattle.std.specs.Prelude.{ℕ, ◌+◌, ◌-◌, ◌==◌, nat_lt, nat_le, max, ℤ, pos, negsuc, Bool, true, false, not, ◌&&◌, List, [], ◌∷◌, ◌++◌, map, Option, Some, None, Ok, Err, if◌then◌else◌}
+use Rattle.std.specs.Prelude.{ℕ, ◌+◌, ◌-◌, ◌==◌, nat_lt, nat_le, ℤ, pos, negsuc, Bool, not, ◌&&◌, List, [], ◌∷◌, ◌++◌, map, Option, Some, None, Ok, Err, if◌then◌else◌}
 use Rattle.std.specs.Option.{is_some}
 use Rattle.kq_model.specs.declared.doing.DescriptionRecord.TheVariants as description
 use Rattle.kq_model.specs.declared.doing.Doing.{Doing}
@@ -17,12 +17,11 @@ use Rattle.kq_model.specs.declared.object.Named.{Named}
 use Rattle.kq_model.specs.declared.object.Named.TheVariants as named
 use Rattle.kq_model.specs.declared.object.Target.{Target}
 use Rattle.kq_model.specs.declared.object.Target.TheVariants as target
-use Rattle.kq_model.specs.declared.why.Why.{Why}
 use Rattle.kq_model.specs.declared.why.Why.TheVariants.{WrongKind, Absent, UsedFile, TooMany}
 use Rattle.kq_model.specs.Files.{DescriptionState, FileState, may_read, may_write}
 use Rattle.kq_model.specs.Limits.{most_file_size}
 use Rattle.kq_model.specs.NoteBits.{bit_of, note_write, note_extend, note_attrib, note_open, note_read}
-use Rattle.kq_model.specs.ObjectPlan.{ObjectPlan, Planned}
+use Rattle.kq_model.specs.ObjectPlan.{Planned}
 use Rattle.kq_model.specs.Objects.{Objects, counted, size_of}
 
 -- a size or an offset, if it is within the limits

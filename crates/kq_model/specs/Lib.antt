@@ -49,6 +49,8 @@ pub mod ProcessPlans
 pub mod DescriptorPlans
 pub mod ObjectRecordPlans
 pub mod Plans
+pub mod CountedWorld
+pub mod ListedFiles
 pub mod Moment
 pub mod System
 pub mod Subjects

@@ -2,7 +2,7 @@
 -- the file's number; what is noted of them, and what filters see.
 -- An object is kept from the record that makes it until its last descriptor is closed, a file for ever.
 -- The definitions are generic in how it is kept: `listed` keeps the records, `counted` the quantities.
-use Rattle.std.specs.Prelude.{◌≡◌, ◌==◌, ℕ, ℤ, pos, Bool, true, List, [], ◌∷◌, Option, Some, None, if◌then◌else◌}
+use Rattle.std.specs.Prelude.{◌≡◌, ◌==◌, ℕ, pos, Bool, true, List, [], ◌∷◌, Option, Some, None, if◌then◌else◌}
 use Rattle.std.specs.Option.{option_map}
 use Rattle.kq_model.specs.declared.doing.SocketRecord.{SocketRecord}
 use Rattle.kq_model.specs.declared.doing.PipeRecord.{PipeRecord}

@@ -1,10 +1,10 @@
 -- The plans of the records about pipes. `place` is that of the record that made the pipe.
-use Rattle.std.specs.Prelude.{ℕ, not, List, [], ◌∷◌, Option, Some, None, Result, Ok, Err, if◌then◌else◌}
+use Rattle.std.specs.Prelude.{ℕ, not, [], ◌∷◌, Option, Some, None, Ok, Err, if◌then◌else◌}
 use Rattle.kq_model.specs.declared.doing.Doing.TheVariants.{ToPipe}
 use Rattle.kq_model.specs.declared.doing.PipeRecord.TheVariants.{Made}
 use Rattle.kq_model.specs.declared.object.Target.TheVariants as target
 use Rattle.kq_model.specs.declared.why.Why.TheVariants.{WrongKind, TooMany}
-use Rattle.kq_model.specs.ObjectPlan.{ObjectPlan, Planned, hints_for}
+use Rattle.kq_model.specs.ObjectPlan.{Planned, hints_for}
 use Rattle.kq_model.specs.PipeSteps.{PipeStep}
 use Rattle.kq_model.specs.Pipes.{PipeState}
 use Rattle.kq_model.specs.SocketSteps.{is_capacity}

@@ -2,7 +2,7 @@
 -- and which hint its knotes get.
 -- Source: pipe(2); a write without a reader, which would raise SIGPIPE, is impossible (this project's
 -- choice).
-use Rattle.std.specs.Prelude.{ℕ, ℤ, pos, int_lt, Bool, not, Option, Some, None, Result, Ok, Err, if◌then◌else◌}
+use Rattle.std.specs.Prelude.{ℕ, pos, int_lt, not, Option, Some, Result, Ok, Err, if◌then◌else◌}
 use Rattle.kq_model.specs.declared.doing.PipeRecord.{PipeRecord}
 use Rattle.kq_model.specs.declared.doing.PipeRecord.TheVariants as pipe
 use Rattle.kq_model.specs.declared.object.Hint.{Hint}

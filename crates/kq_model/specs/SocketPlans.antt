@@ -1,5 +1,5 @@
 -- The plans of the records about sockets. `place` is that of the record.
-use Rattle.std.specs.Prelude.{ℕ, Bool, not, ◌&&◌, List, [], ◌∷◌, Option, Some, None, Result, Ok, Err, if◌then◌else◌}
+use Rattle.std.specs.Prelude.{ℕ, not, ◌&&◌, [], ◌∷◌, Option, Some, None, Result, Ok, Err, if◌then◌else◌}
 use Rattle.kq_model.specs.declared.doing.Doing.TheVariants.{ToSocket}
 use Rattle.kq_model.specs.declared.doing.SocketRecord.TheVariants.{Made, Connected}
 use Rattle.kq_model.specs.declared.object.Named.{Named}
@@ -7,7 +7,7 @@ use Rattle.kq_model.specs.declared.object.Named.TheVariants as named
 use Rattle.kq_model.specs.declared.object.Target.TheVariants as target
 use Rattle.kq_model.specs.declared.why.Why.{Why}
 use Rattle.kq_model.specs.declared.why.Why.TheVariants.{WrongKind, TooMany}
-use Rattle.kq_model.specs.ObjectPlan.{ObjectPlan, Planned, hints_for}
+use Rattle.kq_model.specs.ObjectPlan.{Planned, hints_for}
 use Rattle.kq_model.specs.Objects.{Objects, counted}
 use Rattle.kq_model.specs.SocketSteps.{SocketStep, is_capacity, accept}
 use Rattle.kq_model.specs.Sockets.{SocketState}

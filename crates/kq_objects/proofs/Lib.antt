@@ -2,3 +2,4 @@ pub mod Making
 pub mod Ready
 pub mod Notes
 pub mod Releasing
+pub mod Counted

@@ -10,7 +10,7 @@ use Rattle.kq_model.specs.declared.doing.SocketRecord.{SocketRecord}
 use Rattle.kq_model.specs.declared.doing.SocketRecord.TheVariants as socket
 use Rattle.kq_model.specs.Books.{Book}
 use Rattle.kq_model.specs.Objects.{kept, told_of, told_at}
-use Rattle.kq_model.specs.Files.{DescriptionState, description_after, no_description, is_description_held}
+use Rattle.kq_model.specs.Files.{description_after, no_description, is_description_held}
 use Rattle.kq_model.specs.Pipes.{pipe_after, no_pipe, is_pipe_held}
 use Rattle.kq_model.specs.Sockets.{socket_after, no_socket, is_socket_held}
 use Rattle.kq_objects.specs.Descriptions.{under}

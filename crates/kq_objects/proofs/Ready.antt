@@ -23,8 +23,8 @@ use Rattle.kq_objects.specs.declared.descriptions.Descriptions.{Descriptions}
 use Rattle.kq_objects.specs.declared.objects.Objects.{Objects}
 use Rattle.kq_objects.specs.Descriptions.{description_at, HasRoom}
 use Rattle.kq_objects.specs.Files.{file_at, room_on}
-use Rattle.kq_objects.specs.Fits.{FitsDescriptionAt, FitsFileAt, FitsPipeAt, FitsSocketAt, IsNote, IsPipeNote, made_socket, made_description, made_file, opened_at, opened_on}
-use Rattle.kq_objects.specs.Objects.{objects_of, total_of, sockets_made, pipes_made, descriptions_made, files_made, opened_in, AreSocketNotes, IsRoomFor, IsReady}
+use Rattle.kq_objects.specs.Fits.{FitsDescriptionAt, FitsFileAt, FitsPipeAt, FitsSocketAt, IsNote, IsPipeNote, made_description, made_file, opened_at, opened_on}
+use Rattle.kq_objects.specs.Objects.{total_of, sockets_made, pipes_made, descriptions_made, files_made, opened_in, AreSocketNotes, IsRoomFor, IsReady}
 use Rattle.kq_objects.proofs.Making.{made-at, made_socket-held}
 
 -- ---- nothing has to grow

@@ -1,8 +1,8 @@
 use Rattle.std.proofs.Common.{◌≡◌, ◌∙◌, ◌==◌, ℕ, nat_eq, cond, true, Some, IsOk, sym, ap, arith}
 use Rattle.std.specs.HashMap.{get, Updates}
-use Rattle.kq_model.specs.Files.{DescriptionState, is_description_held, description_after, no_description}
+use Rattle.kq_model.specs.Files.{is_description_held, description_after, no_description}
 use Rattle.kq_model.specs.Objects.{counted}
-use Rattle.kq_objects.specs.Descriptions.{description_at, under}
+use Rattle.kq_objects.specs.Descriptions.{description_at}
 use Rattle.kq_objects.specs.Fits.{made_description}
 use Rattle.kq_objects.specs.Kept.{Placed}
 use Rattle.kq_objects.proofs.Making.{made-at, made_description-held, made_description-one, on_ok, under-put}

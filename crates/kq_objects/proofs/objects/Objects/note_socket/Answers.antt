@@ -1,4 +1,4 @@
-use Rattle.std.proofs.Common.{◌≡◌, nat_eq, sym, subst}
+use Rattle.std.proofs.Common.{nat_eq, sym, subst}
 use Rattle.std.specs.HashMap.{get}
 use Rattle.kq_model.specs.ObjectPlan.{ObjectPlan}
 use Rattle.kq_objects.specs.Fits.{IsNote}

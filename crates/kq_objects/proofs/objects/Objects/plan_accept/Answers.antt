@@ -1,4 +1,4 @@
-use Rattle.std.proofs.Common.{◌≡◌, ◌∙◌, sym, subst}
+use Rattle.std.proofs.Common.{◌∙◌, sym, subst}
 use Rattle.kq_model.specs.ObjectPlan.{ObjectPlan}
 use Rattle.kq_objects.specs.declared.objects.Objects.{Objects}
 use Rattle.kq_objects.specs.Objects.{objects_of, IsReady}

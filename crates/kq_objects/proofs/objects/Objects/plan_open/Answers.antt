@@ -1,8 +1,8 @@
-use Rattle.std.proofs.Common.{◌≡◌, ◌∙◌, ◌≤◌, Option, Some, IfSome, sym, subst}
+use Rattle.std.proofs.Common.{◌∙◌, ◌≤◌, Option, IfSome, sym, subst}
 use Rattle.kq_model.specs.Files.{FileState}
 use Rattle.kq_model.specs.ObjectPlan.{ObjectPlan}
 use Rattle.kq_objects.specs.declared.objects.Objects.{Objects}
-use Rattle.kq_objects.specs.Files.{file_at, room_on}
+use Rattle.kq_objects.specs.Files.{room_on}
 use Rattle.kq_objects.specs.Objects.{IsReady}
 use Rattle.kq_objects.proofs.Ready.{ready-open}
 use Rattle.kq_objects.proofs.objects.Objects.plan_open.Goals as goal

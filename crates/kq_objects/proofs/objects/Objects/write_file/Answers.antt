@@ -4,7 +4,6 @@ use Rattle.kq_model.specs.declared.doing.Doing.{Doing}
 use Rattle.kq_model.specs.Files.{DescriptionState}
 use Rattle.kq_model.specs.Limits.{most_file_size}
 use Rattle.kq_model.specs.ObjectPlan.{ObjectPlan}
-use Rattle.kq_objects.specs.Descriptions.{description_at}
 use Rattle.kq_objects.specs.Files.{file_at}
 use Rattle.kq_objects.specs.Fits.{FitsDescriptionAt}
 use Rattle.kq_objects.specs.Kept.{FileKept}

@@ -1,4 +1,4 @@
-use Rattle.std.proofs.Common.{◌≡◌, ◌∙◌, ◌≤◌, nat_eq, true, Some, IsOk, ap, arith}
+use Rattle.std.proofs.Common.{◌≡◌, ◌∙◌, nat_eq, true, Some, IsOk, ap, arith}
 use Rattle.std.specs.HashMap.{get, Updates}
 use Rattle.kq_model.specs.Objects.{counted}
 use Rattle.kq_model.specs.Pipes.{is_pipe_held, pipe_after, no_pipe}

@@ -1,4 +1,4 @@
-use Rattle.std.proofs.Common.{◌≡◌, ◌∙◌, ◌≤◌, nat_eq, true, Some, IsOk, ap, arith}
+use Rattle.std.proofs.Common.{◌≡◌, ◌∙◌, nat_eq, true, Some, IsOk, ap, arith}
 use Rattle.std.specs.HashMap.{get, Updates}
 use Rattle.kq_model.specs.Objects.{counted}
 use Rattle.kq_model.specs.Sockets.{is_socket_held, socket_after, no_socket}
