@@ -28,41 +28,7 @@ use Rattle.kq_model.specs.Processes.{was_used, is_live, ignores_none}
 use Rattle.kq_model.specs.ProcessPlans.{plan_proc}
 use Rattle.kq_model.specs.World.{World, Planned, Impossible, Possible, idle, named_by, with_kqueue, seen_world, carried_out}
 use Rattle.kq_model.proofs.KnoteLaws.{by_test}
-
--- ---- plans
-
-impossible_or : (b : Bool) (why : Why) (q : Planned) → OpensNoKqueue q → OpensNoKqueue (cond b (Impossible why) q)
-impossible_or true why q opens = tt
-impossible_or false why q opens = opens
-
-plan_call-opens : (changes : List Change) (room : ℕ) (n : Named) → OpensNoKqueue (plan_call changes room n)
-unfolding plan_call
-plan_call-opens changes room (named.Kqueue place) =
-    impossible_or (ltb most_changes (length changes) || ltb most_room room) TooMany
-    (Possible (record idle { call = Some (record { kqueue = place; changes = changes; room = room }) })) (All-nil NamesNoKqueue)
-plan_call-opens changes room _ = tt
-
-on_named-opens : (planned : Named → Planned) → ((n : Named) → OpensNoKqueue (planned n)) → (found : Option Named) → OpensNoKqueue (on_named planned found)
-unfolding on_named
-on_named-opens planned opens None = tt
-on_named-opens planned opens (Some n) = opens n
-
-on_descriptor-opens : (pid number : ℕ) (planned : Named → Planned) → ((n : Named) → OpensNoKqueue (planned n)) → (w : World counted) → OpensNoKqueue (on_descriptor pid number planned w)
-unfolding on_descriptor
-on_descriptor-opens pid number planned opens w =
-    impossible_or (not (is_live pid w.processes)) NoProcess (on_named planned (named_by pid number w))
-    (on_named-opens planned opens (named_by pid number w))
-
-pub plan-opens : (place : ℕ) (e : Event) (w : World counted) → OpensNoKqueue (plan place e w)
-unfolding plan plan_proc plan_kqueue plan_kevent
-plan-opens place (event.Proc pid) w =
-    impossible_or (was_used pid w.processes) UsedPid (Possible (record idle { started = Some (record { pid = pid; ignores = ignores_none }) })) (All-nil NamesNoKqueue)
-plan-opens place (event.Kqueue pid fd) w =
-    let made = Possible (record idle { born = Some (record { pid = pid; number = fd }) }) in
-    impossible_or (not (is_live pid w.processes)) NoProcess (cond (is_some (named_by pid fd w)) (Impossible UsedDescriptor) made)
-    (impossible_or (is_some (named_by pid fd w)) UsedDescriptor made (All-nil NamesNoKqueue))
-plan-opens place (event.Kevent pid fd changes room) w =
-    on_descriptor-opens pid fd (plan_call changes room) (plan_call-opens changes room) w
+use Rattle.kq_model.proofs.PlansOpen.{plan-opens}
 
 -- ---- the table
 
