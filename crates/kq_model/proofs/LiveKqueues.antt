@@ -1,32 +1,23 @@
 -- Each step keeps it so: a number that names a kqueue names a live one.
-use Rattle.std.proofs.Common.{◌≡◌, ℕ, Bool, true, false, cond, not, ◌&&◌, ◌||◌, eqb, ltb, length, List, [], ◌∷◌, ◌++◌, map, filter, Option, Some, None, refl, sym, ap, ◌∙◌}
+use Rattle.std.proofs.Common.{◌≡◌, ℕ, true, false, cond, not, ◌&&◌, ◌||◌, eqb, List, [], ◌∷◌, ◌++◌, map, filter, Option, Some, None, refl, sym, ap, ◌∙◌}
 use Rattle.std.proofs.lemmas.Bool.{cond_both, and_parts, eqb-true, eq-eqb}
 use Rattle.std.proofs.lemmas.List.Elements.{All-nil, All-cons, All-head, All-tail}
 use Rattle.std.proofs.lemmas.List.Folds.{list_any-append}
 use Rattle.std.proofs.lemmas.Option.{none-some, same_Some}
-use Rattle.std.specs.Option.{is_some}
 use Rattle.std.specs.Prelude.{All}
 use Rattle.kq_model.proofs.Descriptors.{with_descriptor-all, with_descriptors-all}
-use Rattle.kq_model.specs.declared.change.Change.{Change}
 use Rattle.kq_model.specs.declared.event.Event.{Event}
-use Rattle.kq_model.specs.declared.event.Event.TheVariants as event
 use Rattle.kq_model.specs.declared.object.Named.{Named}
 use Rattle.kq_model.specs.declared.object.Named.TheVariants as named
-use Rattle.kq_model.specs.declared.why.Why.{Why}
-use Rattle.kq_model.specs.declared.why.Why.TheVariants.{NoProcess, UsedPid, UsedDescriptor, TooMany}
 use Rattle.kq_model.specs.Close.{Pair, has_pair}
 use Rattle.kq_model.specs.Descriptors.{Descriptor, named_among, with_descriptors, without_closed}
 use Rattle.kq_model.specs.Hearing.{Hearing}
-use Rattle.kq_model.specs.Limits.{most_changes, most_room}
 use Rattle.kq_model.specs.LiveKqueues.{is_live_as, has_live, NamesLive, AreAllLive, NamesNoKqueue, OpensNoKqueue}
 use Rattle.kq_model.specs.Moment.{Moment, moment_of}
 use Rattle.kq_model.specs.System.{Live, System, empty_system, stepped, lived, born, step_by, step}
-use Rattle.kq_model.specs.DescriptorPlans.{on_named, on_descriptor, plan_kqueue, plan_call, plan_kevent}
-use Rattle.kq_model.specs.Objects.{Keeping, counted}
+use Rattle.kq_model.specs.Objects.{Keeping}
 use Rattle.kq_model.specs.Plans.{plan}
-use Rattle.kq_model.specs.Processes.{was_used, is_live, ignores_none}
-use Rattle.kq_model.specs.ProcessPlans.{plan_proc}
-use Rattle.kq_model.specs.World.{World, Planned, Impossible, Possible, idle, named_by, with_kqueue, seen_world, carried_out}
+use Rattle.kq_model.specs.World.{Planned, Impossible, Possible, with_kqueue, seen_world, carried_out}
 use Rattle.kq_model.proofs.KnoteLaws.{by_test}
 use Rattle.kq_model.proofs.PlansOpen.{plan-opens}
 

@@ -1,5 +1,5 @@
 -- What a record opens is no kqueue: of each form of plan, and so of each record.
-use Rattle.std.proofs.Common.{◌≡◌, ℕ, Bool, true, false, cond, not, ◌||◌, ltb, eqb, length, List, [], ◌∷◌, map, filter, Option, Some, None, Ok, Err, refl, sym, ap, ◌∙◌, subst}
+use Rattle.std.proofs.Common.{◌≡◌, ℕ, Bool, true, false, cond, not, ◌||◌, ltb, eqb, length, List, [], ◌∷◌, map, Option, Some, None, Ok, Err, refl, sym, ap, ◌∙◌, subst}
 use Rattle.std.proofs.lemmas.Bool.{cond_both, not-true}
 use Rattle.std.proofs.lemmas.List.Elements.{All-nil, All-cons}
 use Rattle.std.specs.Option.{is_some}
@@ -22,7 +22,7 @@ use Rattle.kq_model.specs.Objects.{counted}
 use Rattle.kq_model.specs.Planning as object_planning
 use Rattle.kq_model.specs.Plans.{plan}
 use Rattle.kq_model.specs.Processes.{was_used, is_live}
-use Rattle.kq_model.specs.ProcessPlans.{descriptors_of, inheritable, inherited, is_kqueue, plan_exit, plan_fork, plan_proc}
+use Rattle.kq_model.specs.ProcessPlans.{descriptors_of, inheritable, is_kqueue, plan_exit, plan_fork, plan_proc}
 use Rattle.kq_model.specs.World.{World, Plan, Planned, Impossible, Possible, named_by}
 
 -- ---- descriptors that name no kqueue

@@ -1,6 +1,8 @@
 -- The kinds of records, by the names that a trace has for them, and the members that each has besides `op`
 -- (this project's choice).
 use Rattle.std.specs.Prelude.{ℕ, List, [], ◌∷◌, Option, Some, None, codes, if◌then◌else◌}
+use Rattle.kq_model.specs.declared.record_kind.MemberType.{MemberType}
+use Rattle.kq_model.specs.declared.record_kind.MemberType.TheVariants.{Whole, SideName, ChangeList}
 use Rattle.kq_model.specs.declared.record_kind.RecordKind.{RecordKind}
 use Rattle.kq_model.specs.declared.record_kind.RecordKind.TheVariants as kind
 use Rattle.kq_model.specs.Names.{is_text}
@@ -42,14 +44,6 @@ unfoldable pub kind_named : List ℕ → Option RecordKind
 kind_named name = kind_among kinds name
 
 -- ---- members
-
--- what a member is
-pub data MemberType : Type 0 where
-  -- a whole number
-  Whole : MemberType
-  -- the name of a side of a socket
-  SideName : MemberType
-  ChangeList : MemberType
 
 abbrev pub members_besides_op : RecordKind → List (List ℕ × MemberType)
 members_besides_op kind.Proc = (codes "pid", Whole) ∷ []

@@ -9,11 +9,13 @@ use Rattle.kq_model.specs.declared.event.Event.{Event}
 use Rattle.kq_model.specs.declared.event.Event.TheVariants as event
 use Rattle.kq_model.specs.declared.line_fault.LineFault.{LineFault}
 use Rattle.kq_model.specs.declared.line_fault.LineFault.TheVariants.{Field}
+use Rattle.kq_model.specs.declared.record_kind.MemberType.{MemberType}
+use Rattle.kq_model.specs.declared.record_kind.MemberType.TheVariants.{Whole, SideName, ChangeList}
 use Rattle.kq_model.specs.declared.record_kind.RecordKind.{RecordKind}
 use Rattle.kq_model.specs.declared.record_kind.RecordKind.TheVariants as kind
 use Rattle.kq_model.specs.declared.side.Side.{Side}
 use Rattle.kq_model.specs.ChangeText.{is_change_list, change_list}
-use Rattle.kq_model.specs.Kinds.{kind_named, members_besides_op, MemberType, Whole, SideName, ChangeList}
+use Rattle.kq_model.specs.Kinds.{members_besides_op}
 use Rattle.kq_model.specs.Members.{is_whole, required, shaped, u32_in, width}
 use Rattle.kq_model.specs.Names.{side_named}
 

@@ -41,7 +41,7 @@ pub use memory::Memory;
 pub use mode::Mode;
 pub use note::Note;
 pub use object::{Hint, Named, Target, View};
-pub use record_kind::RecordKind;
+pub use record_kind::{MemberType, RecordKind};
 pub use reply::Reply;
 pub use row::Row;
 pub use rows::Rows;

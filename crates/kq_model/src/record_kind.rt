@@ -21,3 +21,14 @@ pub enum RecordKind {
     Write,
     Kevent,
 }
+
+/// What a member of a record is.
+#[derive(Debug, Drop, Clone, Copy)]
+pub enum MemberType {
+    /// A whole number.
+    Whole,
+    /// The name of a side of a socket.
+    SideName,
+    /// A list of changes.
+    ChangeList,
+}
