@@ -1,6 +1,7 @@
 -- What the world keeps true goes on to hold where descriptors open and close.
 use Rattle.std.proofs.Common.{◌≡◌, ◌==◌, ℕ, ◌+◌, ◌<◌, ◌≤◌, ◌^◌, pos, Bool, true, false, not, ◌&&◌, ◌-◌, List, [], ◌∷◌, ◌++◌, length, map, filter, Option, Some, None, refl, sym, ap, subst, arith, ◌∙◌}
 use Rattle.std.specs.List.{sum_by}
+use Rattle.std.specs.Option.{is_some}
 use Rattle.std.proofs.lemmas.List.Sums.{sum_by-cons}
 use Rattle.std.proofs.lemmas.Bool.Decides.{nat_tests}
 use Rattle.kq_model.specs.declared.object.Named.{Named}
@@ -16,8 +17,8 @@ use Rattle.kq_process.specs.Effects.{pairs_in}
 use Rattle.kq_objects.specs.Holding.{CanHold, CanRelease}
 use Rattle.kq_process.specs.Processes.{descriptor_in, descriptors_in, AreOnce}
 use Rattle.kq_process.proofs.Puts.{Yes, No, test}
-use Rattle.kq_process.proofs.FreePlaces.{held-none, held-hold, held-release}
-use Rattle.kq_process.proofs.Counted.{can_hold-counted, can_release-counted}
+use Rattle.kq_model.proofs.FreePlaces.{held-none, held-hold, held-release}
+use Rattle.kq_objects.proofs.Counted.{can_hold-counted, can_release-counted}
 
 -- ---- sums over the table
 
@@ -263,6 +264,10 @@ module _ (pid n : ℕ) where
           rw (p, k, away) (named-still m t other)
     ]
   ]
+
+pub none-there : (o : Option Named) → is_some o ≡ false → o ≡ None
+none-there None none = refl
+none-there (Some n) none = absurd (cc)
 
 -- ---- one descriptor
 
