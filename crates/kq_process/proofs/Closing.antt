@@ -5,7 +5,8 @@ use Rattle.std.specs.Option.{is_some}
 use Rattle.std.proofs.lemmas.Bool.Decides.{nat_tests}
 use Rattle.kq_model.specs.declared.object.Named.{Named}
 use Rattle.kq_model.specs.Close.{Pair, has_pair}
-use Rattle.kq_model.specs.Descriptors.{Descriptor, without_closed}
+use Rattle.kq_model.specs.Descriptors.{Descriptor, with_descriptor, without_closed}
+use Rattle.kq_model.specs.DescriptorPlans.{closes}
 use Rattle.kq_model.specs.ProcessPlans.{pairs_of}
 use Rattle.kq_process.specs.declared.process.Process.{Process}
 use Rattle.kq_process.specs.Processes.{descriptor_in, descriptors_in, table_in}
@@ -83,6 +84,14 @@ closed-absent pid n = spared-absent pid (one pid n) (one-spares pid n)
 pub nothing-closed : (table : List Descriptor) → without_closed [] table ≡ table
 nothing-closed [] = refl
 nothing-closed (d ∷ table) = ap (λ t. d ∷ t) (nothing-closed table)
+
+-- a number that was not open is just opened
+pub opened-anew : (pid n : ℕ) (v : Named) (t t' : List Descriptor) (before : Option Named) → before ≡ None
+    → t' ≡ with_descriptor (descriptor_in pid (n, v)) (without_closed (closes pid n before) t)
+    → t' ≡ with_descriptor (descriptor_in pid (n, v)) t
+unfolding closes
+opened-anew pid n v t t' None absent is = is ∙ ap (with_descriptor (descriptor_in pid (n, v))) (nothing-closed t)
+opened-anew pid n v t t' (Some b) absent is = absurd (cc)
 
 -- ---- all of a process
 

@@ -7,8 +7,10 @@ pub mod Opening
 pub mod Told
 pub mod Planned
 pub mod Sums
-pub mod FreePlaces
-pub mod Counted
 pub mod Sound
 pub mod CountedSteps
 pub mod Shared
+pub mod Acted
+pub mod Undone
+pub mod Still
+pub mod Applied

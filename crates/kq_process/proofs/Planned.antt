@@ -12,7 +12,7 @@ use Rattle.kq_model.specs.Descriptors.{Descriptor, with_descriptor, with_descrip
 use Rattle.kq_model.specs.DescriptorPlans.{plan_kqueue, closes}
 use Rattle.kq_model.specs.Limits.{most_signal}
 use Rattle.kq_model.specs.Objects.{Objects, counted, all_done}
-use Rattle.kq_model.specs.ProcessPlans.{plan_proc, plan_exec, plan_sigset, plan_sig, is_signal, delivery, child_signal, noted}
+use Rattle.kq_model.specs.ProcessPlans.{plan_proc, plan_exec, plan_sigset, plan_sig, plan_clock, is_signal, delivery, child_signal, noted}
 use Rattle.kq_model.specs.Processes.{Process, was_used, is_live, process_of, ignores_none, ignored_by, with_process, without_process, with_disposition}
 use Rattle.kq_model.specs.Targets.{Posted}
 use Rattle.kq_model.specs.World.{World, Plan, Planned, Possible, idle, named_by, carried_out, with_kqueue, clock_after}
@@ -115,3 +115,12 @@ module _ (pid : ℕ) (w : World counted) where
       rw (kqueue_plan fd live (ap is_some free))
       (ap (λ ps. world_like w ps table) same ∙ ap (λ t. world_like w w.processes t) more)
   kqueue_world place fd ps table live (Some n) free none same more = absurd (cc)
+
+  pub clock_plan : (moment : ℕ) → w.now ≤ moment → plan_clock moment w ≡ Possible (record idle { clock = Some (record { from = w.now; to = moment }) })
+  unfolding plan_clock
+  clock_plan moment later = rw (less-false moment w.now later) refl
+
+  pub clock_world : (place moment : ℕ) → w.now ≤ moment → record w { now = moment } ≡ world_after place (plan_clock moment w) w
+  unfolding carried_out with_process without_process with_disposition with_kqueue with_descriptors all_done clock_after
+  clock_world place moment later = rw (clock_plan moment later)
+      (ap (λ (t : List Descriptor). record w { table = t; now = moment }) (sym (nothing-closed w.table)))

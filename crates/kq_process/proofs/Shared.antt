@@ -27,7 +27,7 @@ module _ (w : World counted) where
   abbrev pub parts : List Process → List Descriptor → Objects counted → World counted
   parts ps t o = record { processes = ps; table = t; objects = o; now = w.now }
 
-  same_parts : (ps ps' : List Process) (t t' : List Descriptor) (o o' : Objects counted) → ps ≡ ps' → t ≡ t' → o ≡ o'
+  pub same_parts : (ps ps' : List Process) (t t' : List Descriptor) (o o' : Objects counted) → ps ≡ ps' → t ≡ t' → o ≡ o'
       → parts ps t o ≡ parts ps' t' o'
   same_parts ps ps' t t' o o' p q r =
       ap (λ x. parts x t o) p ∙ ap (λ x. parts ps' x o) q ∙ ap (λ (x : Objects counted). parts ps' t' x) r

@@ -1,6 +1,7 @@
 -- What the world keeps true goes on to hold where descriptors open and close.
 use Rattle.std.proofs.Common.{◌≡◌, ◌==◌, ℕ, ◌+◌, ◌<◌, ◌≤◌, ◌^◌, pos, Bool, true, false, not, ◌&&◌, ◌-◌, List, [], ◌∷◌, ◌++◌, length, map, filter, Option, Some, None, refl, sym, ap, subst, arith, ◌∙◌}
 use Rattle.std.specs.List.{sum_by}
+use Rattle.std.specs.Option.{is_some}
 use Rattle.std.proofs.lemmas.List.Sums.{sum_by-cons}
 use Rattle.std.proofs.lemmas.Bool.Decides.{nat_tests}
 use Rattle.kq_model.specs.declared.object.Named.{Named}
@@ -16,8 +17,8 @@ use Rattle.kq_process.specs.Effects.{pairs_in}
 use Rattle.kq_objects.specs.Holding.{CanHold, CanRelease}
 use Rattle.kq_process.specs.Processes.{descriptor_in, descriptors_in, AreOnce}
 use Rattle.kq_process.proofs.Puts.{Yes, No, test}
-use Rattle.kq_process.proofs.FreePlaces.{held-none, held-hold, held-release}
-use Rattle.kq_process.proofs.Counted.{can_hold-counted, can_release-counted}
+use Rattle.kq_model.proofs.FreePlaces.{held-none, held-hold, held-release}
+use Rattle.kq_objects.proofs.Counted.{can_hold-counted, can_release-counted}
 
 -- ---- sums over the table
 
@@ -175,10 +176,11 @@ once-more n names m = refl
 pub can-hold_each : (ns : List Named) (o : Objects counted) (names : List Named) → IsCounted o names → AreNamed ns names
     → length names + length ns < 2 ^ 64 → CanHoldEach ns o
 can-hold_each [] o names c there room = tt
-can-hold_each (n ∷ ns) o names c there room =
-    (can_hold-counted n o names c there.0 (omega arith),
-    can-hold_each ns (hold n o) (n ∷ names) (counted-more n o names (n ∷ names) (once-more n names) c)
-    (named-more n ns names there.1) (omega arith))
+can-hold_each (n ∷ ns) o names c there room = (
+  can_hold-counted n o names c there.0 (omega arith),
+  can-hold_each ns (hold n o) (n ∷ names) (counted-more n o names (n ∷ names) (once-more n names) c)
+      (named-more n ns names there.1) (omega arith),
+)
 
 first-named : (n : Named) (ns before after : List Named) → ((m : Named) → times m before ≡ times m after + times m (n ∷ ns))
     → IsNamed n before
@@ -189,12 +191,13 @@ pub can-release_each : (ns : List Named) (o : Objects counted) (before after : L
     → ((m : Named) → times m before ≡ times m after + times m ns) → CanReleaseEach ns o
 unfolding times
 can-release_each [] o before after c is = tt
-can-release_each (n ∷ ns) o before after c is =
-    (can_release-counted n o before c (first-named n ns before after is),
-    can-release_each ns (release n o) (ns ++ after) after
-    (counted-fewer n o before (ns ++ after)
-    (λ m. let e : times m before ≡ times m after + (times m ns + one_if (is_same m n)) = is m in let a = times-append m ns after in omega arith) c)
-    (λ m. let a = times-append m ns after in omega arith))
+can-release_each (n ∷ ns) o before after c is = (
+  can_release-counted n o before c (first-named n ns before after is),
+  can-release_each ns (release n o) (ns ++ after) after
+      (counted-fewer n o before (ns ++ after)
+      (λ m. let e : times m before ≡ times m after + (times m ns + one_if (is_same m n)) = is m in let a = times-append m ns after in omega arith) c)
+      (λ m. let a = times-append m ns after in omega arith),
+)
 
 -- ---- what a child's descriptors name, its parent's do
 
@@ -235,7 +238,6 @@ apart : (b : Bool) (n m k : ℕ) → (n == m) ≡ false → (m == k) ≡ true �
 apart true n m k other same = grind (arith, nat_tests)
 apart false n m k other same = refl
 
-
 module _ (pid n : ℕ) where
   pub named-there : (t : List Descriptor) (v : Named) → named_among pid n t ≡ Some v → IsNamed v (names_of t)
   unfolding named_among
@@ -263,6 +265,10 @@ module _ (pid n : ℕ) where
           rw (p, k, away) (named-still m t other)
     ]
   ]
+
+pub none-there : (o : Option Named) → is_some o ≡ false → o ≡ None
+none-there None none = refl
+none-there (Some n) none = absurd (cc)
 
 -- ---- one descriptor
 
@@ -352,7 +358,7 @@ module _ (t : List Descriptor) (o : Objects counted) (number : ℕ) (s : IsSound
 
   -- all descriptors of a process go
   module _ (pid : ℕ) (entries : List (ℕ × Named)) (is : descriptors_in pid entries ≡ descriptors_of pid t)
-    (once : AreOnce (descriptors_of pid t) t) where
+      (once : AreOnce (descriptors_of pid t) t) where
     pub exit-names : names_in entries ≡ names_of (descriptors_of pid t)
     exit-names = names-same pid entries ∙ ap names_of is
 
@@ -383,7 +389,7 @@ module _ (t : List Descriptor) (o : Objects counted) (number : ℕ) (s : IsSound
 
 -- a number is closed, and then names what another one names
 module _ (pid fd to : ℕ) (before n : Named) (t : List Descriptor) (o : Objects counted) (number : ℕ) (s : IsSound t o number)
-  (once : AreOnce (descriptor_in pid (to, before) ∷ []) t) where
+    (once : AreOnce (descriptor_in pid (to, before) ∷ []) t) where
   abbrev closed_to : List Descriptor
   closed_to = without_closed (record { pid = pid; number = to } ∷ []) t
 

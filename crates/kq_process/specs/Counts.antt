@@ -1,7 +1,6 @@
 -- What the world keeps true: its objects are counted by the descriptors that name them.
-use Rattle.std.specs.Prelude.{◌≡◌, ℕ, ◌<◌, ◌^◌, List, [], ◌∷◌, length, map, All}
+use Rattle.std.specs.Prelude.{◌≡◌, ℕ, ◌<◌, ◌^◌, List, [], ◌∷◌, length, map}
 use Rattle.kq_model.specs.declared.object.Named.{Named}
-use Rattle.kq_model.specs.declared.object.Named.TheVariants as named
 use Rattle.kq_model.specs.Descriptors.{Descriptor}
 use Rattle.kq_model.specs.Holding.{hold, release, AreHeld, IsCounted}
 use Rattle.kq_model.specs.Objects.{Objects, counted}
@@ -30,15 +29,3 @@ CanHoldEach (n ∷ ns) o = CanHold n o × CanHoldEach ns (hold n o)
 abbrev pub CanReleaseEach : List Named → Objects counted → Type 0
 CanReleaseEach [] o = Unit {0}
 CanReleaseEach (n ∷ ns) o = CanRelease n o × CanReleaseEach ns (release n o)
-
--- the place of the record that made it
-abbrev pub place_of : Named → ℕ
-place_of (named.Socket place) = place
-place_of (named.PipeRead place) = place
-place_of (named.PipeWrite place) = place
-place_of (named.Open place file) = place
-place_of (named.Kqueue place) = place
-
--- all that descriptors name was made before this place
-abbrev pub AreEarlier : ℕ → List Descriptor → Type 0
-AreEarlier place table = All (λ (d : Descriptor). place_of d.named < place) table

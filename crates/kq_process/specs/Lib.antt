@@ -4,3 +4,4 @@ pub mod Processes
 pub mod Effects
 pub mod Counts
 pub mod World
+pub mod Uses

@@ -18,11 +18,11 @@ pub fn pairs(
 ) -> Result<Vec<(u32, u32)>, Memory>
     ensures { IfOk result (λ pairs. pairs.items ≡ map (λ (d : ℕ × Name). (pid, d.0)) descriptors.now) }
 {
-    descriptors
-        .iter()
-        .map(|descriptor| (pid, descriptor.0))
-        .collect(alloc)
-        .map_err(|_| Memory)
+    let mut pairs = Vec::with_capacity(alloc, descriptors.len()).map_err(|_| Memory)?;
+    for descriptor in descriptors {
+        pairs.push((pid, descriptor.0)).map_err(|_| Memory)?;
+    }
+    Ok(pairs)
 }
 
 /// Each of these descriptors names its object too.

@@ -1,6 +1,8 @@
 //! The world: processes, their descriptors, the objects that these name, and the clock.
 #![tactic(auto)]
 
+mod acts;
+mod applying;
 mod counting;
 mod effect;
 mod ignored;
@@ -9,8 +11,10 @@ mod processes;
 mod records;
 mod sharing;
 mod shelf;
+mod steps;
+mod uses;
 mod world;
 
 pub use effect::Effect;
-pub use processes::Processes;
+pub use uses::Use;
 pub use world::World;

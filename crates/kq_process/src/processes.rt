@@ -1,4 +1,4 @@
-ghost use Rattle.std.specs.Prelude.{◌≡◌, ◌∷◌, ◌≤◌, [], true, false, None, Some, IfOk, OnOk, OnErr};
+ghost use Rattle.std.specs.Prelude.{◌≡◌, ◌==◌, ◌∷◌, ◌≤◌, [], true, false, None, Some, IfOk, OnOk, OnErr};
 ghost use Rattle.kq_model.specs.Limits.{most_signal};
 ghost use Rattle.kq_model.specs.Descriptors.{named_among, with_descriptor, with_descriptors, without_closed};
 ghost use Rattle.kq_model.specs.DescriptorPlans.{closes};
@@ -190,5 +190,29 @@ impl Processes {
             unreachable!()
         };
         process.descriptors.insert(number, named)
+    }
+
+    /// Two numbers that are not open name these from now on.
+    pub fn name_both(
+        &mut self,
+        pid: u32,
+        first: (u32, Named),
+        second: (u32, Named),
+    ) -> Result<(), Memory>
+        requires live { is_live pid (processes_of self.old) ≡ true }
+        requires first { named_among pid first.0 (table_of self.old) ≡ None }
+        requires second { named_among pid second.0 (table_of self.old) ≡ None }
+        requires differ { (first.0 == second.0) ≡ false }
+        ensures table { OnOk result (table_of self.new
+            ≡ with_descriptors (descriptor_in pid first ∷ descriptor_in pid second ∷ []) (table_of self.old)) }
+        ensures processes { processes_of self.new ≡ processes_of self.old }
+        ensures err { OnErr result (table_of self.new ≡ table_of self.old) }
+    {
+        self.name(pid, first.0, first.1)?;
+        if let Err(memory) = self.name(pid, second.0, second.1) {
+            let _ = self.close(pid, first.0);
+            return Err(memory);
+        }
+        Ok(())
     }
 }

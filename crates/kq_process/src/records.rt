@@ -1,6 +1,6 @@
 // The records that are about processes and descriptors alone, whatever the objects and the clock.
 ghost use Rattle.std.specs.Prelude.{◌≡◌, ℕ, IfOk, OnOk, OnErr};
-ghost use Rattle.kq_model.specs.DescriptorPlans.{plan_kqueue, plan_kevent};
+ghost use Rattle.kq_model.specs.DescriptorPlans.{plan_kevent};
 ghost use Rattle.kq_model.specs.ProcessPlans.{plan_proc, plan_exec, plan_sigset, plan_sig};
 
 use crate::effect::Effect;
@@ -82,25 +82,6 @@ impl Processes {
             return Ok(Effect::quiet(alloc));
         }
         Effect::told(alloc, Target::Signal { pid, signal }, Hint::Delivered)
-    }
-
-    /// A process opens a kqueue, named by the record's place, under a number that is not open.
-    /// NoProcess; UsedDescriptor: the number is open.
-    #[tactic(auto, unfolding(kq_model::specs::DescriptorPlans::plan_kqueue, kq_model::specs::World::named_by))]
-    pub fn kqueue(&mut self, place: u64, pid: u32, fd: u32) -> Result<Effect, Memory>
-        ensures effect { IfOk result (IsToldBy (plan_kqueue pid fd) self.old) }
-        ensures world { OnOk result (IsAfter place (plan_kqueue pid fd) self.old self.new) }
-        ensures err { OnErr result (IsUnchanged self.old self.new) }
-    {
-        let alloc = self.allocator();
-        if !self.is_live(pid) {
-            return Ok(Effect::impossible(alloc, Why::NoProcess));
-        }
-        if self.named(pid, fd).is_some() {
-            return Ok(Effect::impossible(alloc, Why::UsedDescriptor));
-        }
-        self.name(pid, fd, Named::Kqueue(place))?;
-        Ok(Effect::quiet(alloc))
     }
 
     /// The kqueue of a kevent call, by the place of the record that made it. It takes no memory.

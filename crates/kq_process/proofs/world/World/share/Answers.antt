@@ -7,18 +7,10 @@ use Rattle.kq_objects.specs.Objects.{objects_of}
 use Rattle.kq_process.specs.Counts.{IsSound}
 use Rattle.kq_process.specs.Processes.{table_of, descriptor_in}
 use Rattle.kq_process.specs.World.{world_of}
-use Rattle.kq_process.proofs.Closing.{nothing-closed}
+use Rattle.kq_process.proofs.Closing.{opened-anew}
 use Rattle.kq_process.proofs.Shared.{share_world}
 use Rattle.kq_process.proofs.Sound.{can-hold_there, sound-shared}
 use Rattle.kq_process.proofs.world.World.share.Goals as goal
-
--- where the number was not open, there is nothing to close
-opened : (pid to : ℕ) (n : Named) (t t' : List Descriptor) (before : Option Named) → before ≡ None
-    → t' ≡ with_descriptor (descriptor_in pid (to, n)) (without_closed (closes pid to before) t)
-    → t' ≡ with_descriptor (descriptor_in pid (to, n)) t
-unfolding closes
-opened pid to n t t' None absent is = is ∙ ap (with_descriptor (descriptor_in pid (to, n))) (nothing-closed t)
-opened pid to n t t' (Some b) absent is = absurd (cc)
 
 pub hold-requires : goal.hold-requires
 hold-requires c =
@@ -34,7 +26,7 @@ invariant_of-self-2 c =
     record {
       sound = subst Sound (sym c.in-Some.ensures.1) (sound-shared (table_of old.processes) (objects_of old.objects) old.descriptors
           old.sound (descriptor_in c.args.pid (c.args.to, c.args.named)) (table_of c.name.new.self) (objects_of c.hold.new.self) c.in-Some.ensures.0
-          (opened c.args.pid c.args.to c.args.named (table_of old.processes) (table_of c.name.new.self) _ c.requires.absent
+          (opened-anew c.args.pid c.args.to c.args.named (table_of old.processes) (table_of c.name.new.self) _ c.requires.absent
           c.in_ok-name.ensures.table) c.hold.ensures);
     }
 
@@ -47,5 +39,5 @@ unfolding named_by
 returns-clause-world c place =
     let old = c.args.self.now in
     share_world (world_of old) place c.args.pid c.args.to c.args.named _ _ _ c.name.ensures.processes
-    (opened c.args.pid c.args.to c.args.named (table_of old.processes) (table_of c.name.new.self) _ c.requires.absent
+    (opened-anew c.args.pid c.args.to c.args.named (table_of old.processes) (table_of c.name.new.self) _ c.requires.absent
     c.in_ok-name.ensures.table) c.hold.ensures

@@ -1,0 +1,263 @@
+// The records about sockets, pipes and files. Their condition is that places rise: the world is one
+// in which nothing was made at this place or later.
+ghost use Rattle.std.specs.Prelude.{◌≡◌, ◌∷◌, [], ◌==◌, IfOk, OnOk, OnErr, None, true, false};
+ghost use Rattle.kq_model.specs.CountedWorld.{IsCountedWorld};
+ghost use Rattle.kq_model.specs.Holding.{made_names};
+ghost use Rattle.kq_model.specs.ObjectRecordPlans.{plan_act, plan_at, plan_socket, plan_accept, plan_pipe, plan_open, pipe_ends};
+ghost use Rattle.kq_model.specs.Processes.{is_live};
+ghost use Rattle.kq_model.specs.World.{named_by};
+ghost use Rattle.kq_model.specs.declared.act.Act.TheVariants as act;
+
+use crate::effect::Effect;
+use crate::uses::Use;
+use crate::world::World;
+use kq_model::{Act, Memory, Mode, Named, Why};
+use kq_objects::PlanError;
+
+impl World {
+    ghost use Rattle.kq_process.specs.Processes.{descriptor_in};
+    ghost use Rattle.kq_process.specs.Uses.{act_on};
+    ghost use Rattle.kq_process.specs.World.{world_of, IsEffectBy, IsNext};
+
+    /// A process uses an object by a descriptor. NoProcess; NoDescriptor: the number is not open; then
+    /// the reasons of the object.
+    #[tactic(auto, unfolding(kq_model::specs::ObjectRecordPlans::plan_at))]
+    pub fn use_object(&mut self, place: u64, pid: u32, fd: u32, what: Use) -> Result<Effect, Memory>
+        requires { IsCountedWorld place (world_of self.old) }
+        ensures effect { IfOk result (IsEffectBy (plan_at place pid fd (act_on what)) self.old) }
+        ensures world { OnOk result (IsNext place (plan_at place pid fd (act_on what)) self.old self.new) }
+        ensures memory { OnErr result (world_of self.new ≡ world_of self.old) }
+    {
+        match self.on(pid, fd) {
+            Ok(on) => self.act(place, &what.on(on)),
+            Err(why) => Ok(Effect::impossible(self.processes.allocator(), why)),
+        }
+    }
+
+    /// A record about objects that gives no number a name: those of files by their numbers, and those
+    /// whose descriptor is resolved. The reasons are those of the object.
+    #[tactic(auto, unfolding(kq_model::specs::ObjectRecordPlans::plan_act, kq_model::specs::ObjectRecordPlans::with_objects))]
+    pub fn act(&mut self, place: u64, act: &Act) -> Result<Effect, Memory>
+        requires earlier { IsCountedWorld place (world_of self.old) }
+        requires none { made_names place act.now ≡ [] }
+        ensures effect { IfOk result (IsEffectBy (plan_act place [] act.now) self.old) }
+        ensures world { OnOk result (IsNext place (plan_act place [] act.now) self.old self.new) }
+        ensures memory { OnErr result (world_of self.new ≡ world_of self.old) }
+    {
+        let alloc = self.processes.allocator();
+        match self.objects.plan(place, act) {
+            Err(PlanError::Memory) => Err(Memory),
+            Err(PlanError::Why(why)) => Ok(Effect::impossible(alloc, why)),
+            Ok(plan) => {
+                let effect = Effect::telling(alloc, plan.hints())?;
+                self.objects.commit(plan);
+                Ok(effect)
+            }
+        }
+    }
+
+    // A record that makes an object, which the new number names.
+    #[tactic(auto, unfolding(kq_model::specs::ObjectRecordPlans::plan_act, kq_model::specs::ObjectRecordPlans::with_objects))]
+    fn act_naming(
+        &mut self,
+        place: u64,
+        act: &Act,
+        pid: u32,
+        number: u32,
+        named: Named,
+    ) -> Result<Effect, Memory>
+        requires earlier { IsCountedWorld place (world_of self.old) }
+        requires live { is_live pid (world_of self.old).processes ≡ true }
+        requires absent { named_by pid number (world_of self.old) ≡ None }
+        requires made { made_names place act.now ≡ named ∷ [] }
+        ensures effect { IfOk result
+            (IsEffectBy (plan_act place (descriptor_in pid (number, named) ∷ []) act.now) self.old) }
+        ensures world { OnOk result
+            (IsNext place (plan_act place (descriptor_in pid (number, named) ∷ []) act.now) self.old self.new) }
+        ensures memory { OnErr result (world_of self.new ≡ world_of self.old) }
+    {
+        let alloc = self.processes.allocator();
+        match self.objects.plan(place, act) {
+            Err(PlanError::Memory) => Err(Memory),
+            Err(PlanError::Why(why)) => Ok(Effect::impossible(alloc, why)),
+            Ok(plan) => {
+                let Some(descriptors) = self.descriptors.checked_add(1) else {
+                    return Err(Memory);
+                };
+                let effect = Effect::telling(alloc, plan.hints())?;
+                self.processes.name(pid, number, named)?;
+                self.objects.commit(plan);
+                self.descriptors = descriptors;
+                Ok(effect)
+            }
+        }
+    }
+
+    /// A socket is made, under a number that is not open (socket(2)). NoProcess; UsedDescriptor: the
+    /// number is open; TooMany: a size of a buffer.
+    #[tactic(auto, unfolding(kq_model::specs::Holding::made_names, kq_model::specs::ObjectRecordPlans::plan_socket, kq_model::specs::ObjectRecordPlans::if_live, kq_model::specs::ObjectRecordPlans::unless_open, kq_model::specs::World::named_by))]
+    pub fn socket(
+        &mut self,
+        place: u64,
+        pid: u32,
+        fd: u32,
+        receive_buffer: u32,
+        send_buffer: u32,
+    ) -> Result<Effect, Memory>
+        requires { IsCountedWorld place (world_of self.old) }
+        ensures effect { IfOk result (IsEffectBy (plan_socket place pid fd receive_buffer send_buffer) self.old) }
+        ensures world { OnOk result
+            (IsNext place (plan_socket place pid fd receive_buffer send_buffer) self.old self.new) }
+        ensures memory { OnErr result (world_of self.new ≡ world_of self.old) }
+    {
+        let alloc = self.processes.allocator();
+        if !self.processes.is_live(pid) {
+            return Ok(Effect::impossible(alloc, Why::NoProcess));
+        }
+        if self.processes.named(pid, fd).is_some() {
+            return Ok(Effect::impossible(alloc, Why::UsedDescriptor));
+        }
+        let act = Act::Socket {
+            receive_buffer,
+            send_buffer,
+        };
+        self.act_naming(place, &act, pid, fd, Named::Socket(place))
+    }
+
+    /// A connection that waits at a socket becomes a socket of its own, under a number that is not open
+    /// (accept(2)). NoProcess; NoDescriptor: `fd` is not open; UsedDescriptor: `to` is; then WrongKind,
+    /// Absent: no connection waits; TooMany: a size of a buffer.
+    #[tactic(auto, unfolding(kq_model::specs::Holding::made_names, kq_model::specs::ObjectRecordPlans::plan_accept, kq_model::specs::ObjectRecordPlans::unless_open, kq_model::specs::DescriptorPlans::on_descriptor, kq_model::specs::DescriptorPlans::on_named, kq_model::specs::World::named_by))]
+    pub fn accept(
+        &mut self,
+        place: u64,
+        pid: u32,
+        fd: u32,
+        to: u32,
+        receive_buffer: u32,
+        send_buffer: u32,
+    ) -> Result<Effect, Memory>
+        requires { IsCountedWorld place (world_of self.old) }
+        ensures effect { IfOk result (IsEffectBy (plan_accept place pid fd to receive_buffer send_buffer) self.old) }
+        ensures world { OnOk result
+            (IsNext place (plan_accept place pid fd to receive_buffer send_buffer) self.old self.new) }
+        ensures memory { OnErr result (world_of self.new ≡ world_of self.old) }
+    {
+        let alloc = self.processes.allocator();
+        let on = match self.on(pid, fd) {
+            Ok(on) => on,
+            Err(why) => return Ok(Effect::impossible(alloc, why)),
+        };
+        if self.processes.named(pid, to).is_some() {
+            return Ok(Effect::impossible(alloc, Why::UsedDescriptor));
+        }
+        let act = Act::Accept {
+            on,
+            receive_buffer,
+            send_buffer,
+        };
+        self.act_naming(place, &act, pid, to, Named::Socket(place))
+    }
+
+    /// A file is opened, under a number that is not open (open(2)). NoProcess; UsedDescriptor: the
+    /// number is open; then Absent: there is no such file.
+    #[tactic(auto, unfolding(kq_model::specs::Holding::made_names, kq_model::specs::ObjectRecordPlans::plan_open, kq_model::specs::ObjectRecordPlans::if_live, kq_model::specs::ObjectRecordPlans::unless_open, kq_model::specs::World::named_by))]
+    pub fn open(
+        &mut self,
+        place: u64,
+        pid: u32,
+        fd: u32,
+        file: u32,
+        mode: Mode,
+    ) -> Result<Effect, Memory>
+        requires { IsCountedWorld place (world_of self.old) }
+        ensures effect { IfOk result (IsEffectBy (plan_open place pid fd file mode) self.old) }
+        ensures world { OnOk result (IsNext place (plan_open place pid fd file mode) self.old self.new) }
+        ensures memory { OnErr result (world_of self.new ≡ world_of self.old) }
+    {
+        let alloc = self.processes.allocator();
+        if !self.processes.is_live(pid) {
+            return Ok(Effect::impossible(alloc, Why::NoProcess));
+        }
+        if self.processes.named(pid, fd).is_some() {
+            return Ok(Effect::impossible(alloc, Why::UsedDescriptor));
+        }
+        let named = Named::Open {
+            description: place,
+            file,
+        };
+        self.act_naming(place, &Act::Open { file, mode }, pid, fd, named)
+    }
+
+    /// A pipe is made, under two numbers that are not open (pipe(2)). NoProcess; UsedDescriptor: one of
+    /// them is open, or both are the same; TooMany: its capacity.
+    #[tactic(auto, unfolding(kq_model::specs::ObjectRecordPlans::plan_pipe, kq_model::specs::ObjectRecordPlans::if_live, kq_model::specs::ObjectRecordPlans::unless_open, kq_model::specs::World::named_by))]
+    pub fn pipe(
+        &mut self,
+        place: u64,
+        pid: u32,
+        read_fd: u32,
+        write_fd: u32,
+        cap: u32,
+    ) -> Result<Effect, Memory>
+        requires { IsCountedWorld place (world_of self.old) }
+        ensures effect { IfOk result (IsEffectBy (plan_pipe place pid read_fd write_fd cap) self.old) }
+        ensures world { OnOk result (IsNext place (plan_pipe place pid read_fd write_fd cap) self.old self.new) }
+        ensures memory { OnErr result (world_of self.new ≡ world_of self.old) }
+    {
+        let alloc = self.processes.allocator();
+        if !self.processes.is_live(pid) {
+            return Ok(Effect::impossible(alloc, Why::NoProcess));
+        }
+        if read_fd == write_fd {
+            return Ok(Effect::impossible(alloc, Why::UsedDescriptor));
+        }
+        if self.processes.named(pid, read_fd).is_some() {
+            return Ok(Effect::impossible(alloc, Why::UsedDescriptor));
+        }
+        if self.processes.named(pid, write_fd).is_some() {
+            return Ok(Effect::impossible(alloc, Why::UsedDescriptor));
+        }
+        self.make_pipe(place, pid, read_fd, write_fd, cap)
+    }
+
+    // A pipe, whose ends these two new numbers name.
+    #[tactic(auto, unfolding(kq_model::specs::ObjectRecordPlans::plan_act, kq_model::specs::ObjectRecordPlans::with_objects))]
+    fn make_pipe(
+        &mut self,
+        place: u64,
+        pid: u32,
+        read_fd: u32,
+        write_fd: u32,
+        cap: u32,
+    ) -> Result<Effect, Memory>
+        requires earlier { IsCountedWorld place (world_of self.old) }
+        requires live { is_live pid (world_of self.old).processes ≡ true }
+        requires differ { (read_fd == write_fd) ≡ false }
+        requires read { named_by pid read_fd (world_of self.old) ≡ None }
+        requires write { named_by pid write_fd (world_of self.old) ≡ None }
+        ensures effect { IfOk result
+            (IsEffectBy (plan_act place (pipe_ends place pid read_fd write_fd) (act.Pipe cap)) self.old) }
+        ensures world { OnOk result
+            (IsNext place (plan_act place (pipe_ends place pid read_fd write_fd) (act.Pipe cap)) self.old self.new) }
+        ensures memory { OnErr result (world_of self.new ≡ world_of self.old) }
+    {
+        let alloc = self.processes.allocator();
+        match self.objects.plan(place, &Act::Pipe { cap }) {
+            Err(PlanError::Memory) => Err(Memory),
+            Err(PlanError::Why(why)) => Ok(Effect::impossible(alloc, why)),
+            Ok(plan) => {
+                let Some(descriptors) = self.descriptors.checked_add(2) else {
+                    return Err(Memory);
+                };
+                let effect = Effect::telling(alloc, plan.hints())?;
+                let read = (read_fd, Named::PipeRead(place));
+                self.processes
+                    .name_both(pid, read, (write_fd, Named::PipeWrite(place)))?;
+                self.objects.commit(plan);
+                self.descriptors = descriptors;
+                Ok(effect)
+            }
+        }
+    }
+}

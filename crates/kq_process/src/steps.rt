@@ -1,0 +1,97 @@
+// The records about one process, the clock, a new kqueue and a kevent call.
+ghost use Rattle.std.specs.Prelude.{◌≡◌, ℕ, IfOk, OnOk, OnErr};
+ghost use Rattle.kq_model.specs.DescriptorPlans.{plan_kqueue, plan_kevent};
+ghost use Rattle.kq_model.specs.ProcessPlans.{plan_proc, plan_exec, plan_sigset, plan_sig, plan_clock};
+
+use crate::effect::Effect;
+use crate::world::World;
+use kq_model::{Change, Memory, Named, Why};
+
+impl World {
+    ghost use Rattle.kq_process.specs.World.{world_of, IsEffectBy, IsNext};
+
+    /// A process starts. UsedPid: the pid was used before.
+    pub fn proc(&mut self, pid: u32) -> Result<Effect, Memory>
+        ensures effect { IfOk result (IsEffectBy (plan_proc pid) self.old) }
+        ensures world { (place : ℕ) → OnOk result (IsNext place (plan_proc pid) self.old self.new) }
+        ensures memory { OnErr result (world_of self.new ≡ world_of self.old) }
+    {
+        self.processes.proc(pid)
+    }
+
+    /// A process executes another program, which changes nothing here. NoProcess.
+    pub fn exec(&self, pid: u32) -> Result<Effect, Memory>
+        ensures effect { IfOk result (IsEffectBy (plan_exec pid) self.now) }
+        ensures world { (place : ℕ) → IsNext place (plan_exec pid) self.now self.now }
+    {
+        self.processes.exec(pid)
+    }
+
+    /// A process begins to ignore a signal, or ceases to. NoProcess; TooMany: no such signal.
+    pub fn sigset(&mut self, pid: u32, signal: u32, ignore: bool) -> Effect
+        ensures effect { IsEffectBy (plan_sigset pid signal ignore) self.old result }
+        ensures world { (place : ℕ) → IsNext place (plan_sigset pid signal ignore) self.old self.new }
+    {
+        self.processes.sigset(pid, signal, ignore)
+    }
+
+    /// A signal is delivered to a process, which changes nothing here. NoProcess; TooMany: no such
+    /// signal.
+    pub fn signal(&self, pid: u32, signal: u32) -> Result<Effect, Memory>
+        ensures effect { IfOk result (IsEffectBy (plan_sig pid signal) self.now) }
+        ensures world { (place : ℕ) → IsNext place (plan_sig pid signal) self.now self.now }
+    {
+        self.processes.signal(pid, signal)
+    }
+
+    /// The clock goes on to a moment in ns, or stays where it is. ClockBack: it would go back.
+    #[tactic(auto, unfolding(kq_model::specs::ProcessPlans::plan_clock))]
+    pub fn clock(&mut self, moment: u64) -> Effect
+        ensures effect { IsEffectBy (plan_clock moment) self.old result }
+        ensures world { (place : ℕ) → IsNext place (plan_clock moment) self.old self.new }
+    {
+        let alloc = self.processes.allocator();
+        if moment < self.clock {
+            return Effect::impossible(alloc, Why::ClockBack);
+        }
+        self.clock = moment;
+        Effect::quiet(alloc)
+    }
+
+    /// A process opens a kqueue, named by the record's place, under a number that is not open
+    /// (kqueue(2)). NoProcess; UsedDescriptor: the number is open.
+    #[tactic(auto, unfolding(kq_model::specs::DescriptorPlans::plan_kqueue, kq_model::specs::World::named_by))]
+    pub fn kqueue(&mut self, place: u64, pid: u32, fd: u32) -> Result<Effect, Memory>
+        ensures effect { IfOk result (IsEffectBy (plan_kqueue pid fd) self.old) }
+        ensures world { OnOk result (IsNext place (plan_kqueue pid fd) self.old self.new) }
+        ensures memory { OnErr result (world_of self.new ≡ world_of self.old) }
+    {
+        let alloc = self.processes.allocator();
+        if !self.processes.is_live(pid) {
+            return Ok(Effect::impossible(alloc, Why::NoProcess));
+        }
+        if self.processes.named(pid, fd).is_some() {
+            return Ok(Effect::impossible(alloc, Why::UsedDescriptor));
+        }
+        let Some(descriptors) = self.descriptors.checked_add(1) else {
+            return Err(Memory);
+        };
+        self.processes.name(pid, fd, Named::Kqueue(place))?;
+        self.descriptors = descriptors;
+        Ok(Effect::quiet(alloc))
+    }
+
+    /// A kevent call: whether it is possible. It changes nothing here, and its kqueue is what
+    /// `descriptor` gives. NoProcess; NoDescriptor: the number is not open; WrongKind: it names no
+    /// kqueue; TooMany: more than 1,024 changes, or room for more than 65,536 events.
+    pub fn kevent(&self, pid: u32, fd: u32, changes: &[Change], room: u32) -> Effect
+        ensures effect { IsEffectBy (plan_kevent pid fd changes.now room) self.now result }
+        ensures world { (place : ℕ) → IsNext place (plan_kevent pid fd changes.now room) self.now self.now }
+    {
+        let alloc = self.processes.allocator();
+        match self.processes.call(pid, fd, changes, room) {
+            Ok(_) => Effect::quiet(alloc),
+            Err(why) => Effect::impossible(alloc, why),
+        }
+    }
+}
