@@ -13,3 +13,4 @@ pub mod Shared
 pub mod Acted
 pub mod Undone
 pub mod Still
+pub mod Applied

@@ -3,7 +3,7 @@ use Rattle.std.specs.Prelude.{◌≡◌, ℕ, List, [], ◌∷◌, map, Option, 
 use Rattle.kq_model.specs.declared.change.Change.{Change}
 use Rattle.kq_model.specs.declared.why.Why.{Why}
 use Rattle.kq_model.specs.Close.{Pair}
-use Rattle.kq_model.specs.Objects.{Objects, counted}
+use Rattle.kq_model.specs.Objects.{Objects, counted, listed}
 use Rattle.kq_model.specs.Targets.{Posted}
 use Rattle.kq_model.specs.World.{World, Plan, Planned, Impossible, Possible, idle, carried_out}
 use Rattle.kq_process.specs.declared.effect.Effect.{Effect}
@@ -18,6 +18,11 @@ world_with p o now = record { processes = processes_of p; table = table_of p; ob
 abbrev pub world_after : ℕ → Planned → World counted → World counted
 world_after place (Impossible why) w = w
 world_after place (Possible p) w = carried_out place p w
+
+-- the same, where each object's records are kept
+abbrev pub listed_after : ℕ → Planned → World listed → World listed
+listed_after place (Impossible why) w = w
+listed_after place (Possible p) w = carried_out place p w
 
 abbrev pub pair_of : ℕ × ℕ → Pair
 pair_of p = record { pid = p.0; number = p.1 }

@@ -2,6 +2,7 @@
 #![tactic(auto)]
 
 mod acts;
+mod applying;
 mod counting;
 mod effect;
 mod ignored;

@@ -1,0 +1,67 @@
+-- Any record: what it keeps true, and what it does where each object's records are kept.
+use Rattle.std.proofs.Common.{◌≡◌, ℕ, ◌+◌, ◌<◌, ◌≤◌, List, refl, sym, arith}
+use Rattle.std.proofs.lemmas.List.Elements.{All-weaker}
+use Rattle.kq_model.specs.declared.event.Event.{Event}
+use Rattle.kq_model.specs.declared.event.Event.TheVariants as event
+use Rattle.kq_model.specs.CountedWorld.{IsCountedWorld, KeepsCounts, NamesBelow}
+use Rattle.kq_model.specs.Descriptors.{Descriptor}
+use Rattle.kq_model.specs.ObjectRecordPlans.{plan_at}
+use Rattle.kq_model.specs.Objects.{counted, listed}
+use Rattle.kq_model.specs.Plans.{plan}
+use Rattle.kq_model.specs.World.{World, Planned, Impossible, Possible, seen_world}
+use Rattle.kq_model.proofs.CountedObjects.{listed-counts}
+use Rattle.kq_model.proofs.CountedRecords.{counted-at, counted-socket, counted-accept, counted-pipe}
+use Rattle.kq_model.proofs.CountedWorld.{counted-proc, counted-fork, counted-exit, counted-kqueue, counted-dup, counted-close, counted-kevent}
+use Rattle.kq_model.proofs.SeenWorld.{seen-carried_out}
+use Rattle.kq_process.specs.Effects.{world_after, listed_after}
+use Rattle.kq_process.specs.Uses.{act_on}
+use Rattle.kq_process.specs.declared.uses.Use.{Use}
+use Rattle.kq_process.specs.declared.uses.Use.TheVariants as use_of
+use Rattle.kq_process.proofs.Acted.{uses-make}
+
+module _ (place : ℕ) (w : World counted) where
+  counted-use : (pid fd : ℕ) (what : Use) → KeepsCounts place w (plan_at place pid fd (act_on what) w)
+  counted-use pid fd what = counted-at place pid fd (act_on what) w (λ n. uses-make what place n)
+
+  pub counted-record : (e : Event) → KeepsCounts place w (plan place e w)
+  unfolding plan
+  counted-record (event.Proc pid) = counted-proc place pid w
+  counted-record (event.Fork pid child) = counted-fork place pid child w
+  counted-record (event.Exit pid status) = counted-exit place pid status w
+  counted-record (event.Kqueue pid fd) = counted-kqueue place pid fd w
+  counted-record (event.Dup pid fd to) = counted-dup place pid fd to w
+  counted-record (event.Close pid fd) = counted-close place pid fd w
+  counted-record (event.Socket pid fd rcv snd) = counted-socket place pid fd rcv snd w
+  counted-record (event.Listen pid fd backlog) = counted-use pid fd (use_of.Listen backlog)
+  counted-record (event.Arrive pid fd) = counted-use pid fd use_of.Arrive
+  counted-record (event.Accept pid fd to rcv snd) = counted-accept place pid fd to rcv snd w
+  counted-record (event.Connect pid fd) = counted-use pid fd use_of.Connect
+  counted-record (event.Rx pid fd n) = counted-use pid fd (use_of.Receive n)
+  counted-record (event.Tx pid fd n) = counted-use pid fd (use_of.Transmit n)
+  counted-record (event.Shut pid fd side error) = counted-use pid fd (use_of.Shut side error)
+  counted-record (event.Lowat pid fd side n) = counted-use pid fd (use_of.LowWater side n)
+  counted-record (event.Pipe pid rfd wfd size) = counted-pipe place pid rfd wfd size w
+  counted-record (event.Read pid fd n) = counted-use pid fd (use_of.Read n)
+  counted-record (event.Write pid fd n) = counted-use pid fd (use_of.Write n)
+  counted-record (event.Kevent pid fd changes room) = counted-kevent place pid fd changes room w
+
+  below-later : (next : ℕ) → place ≤ next → (d : Descriptor) → NamesBelow place d → NamesBelow next d
+  below-later next later d below = omega arith
+
+  counted-later : IsCountedWorld place w → IsCountedWorld (place + 1) w
+  counted-later c = record {
+    counts = c.counts;
+    held = c.held;
+    rising = c.rising;
+    owned = c.owned;
+    below = All-weaker (NamesBelow place) (NamesBelow (place + 1)) (below-later (place + 1) (omega arith)) w.table c.below;
+  }
+
+  -- an impossible record changes nothing
+  pub counted-after : (p : Planned) → KeepsCounts place w p → IsCountedWorld place w → IsCountedWorld (place + 1) (world_after place p w)
+  counted-after (Impossible why) keeps c = counted-later c
+  counted-after (Possible p) keeps c = keeps.keeps c
+
+pub listed-after : (place : ℕ) (p : Planned) (m : World listed) → world_after place p (seen_world m) ≡ seen_world (listed_after place p m)
+listed-after place (Impossible why) m = refl
+listed-after place (Possible p) m = sym (seen-carried_out listed-counts place p m)

@@ -1,0 +1,116 @@
+// Any record.
+ghost use Rattle.std.specs.Prelude.{◌≡◌, ◌+◌, IfOk, OnOk, OnErr};
+ghost use Rattle.kq_model.specs.CountedWorld.{IsCountedWorld};
+ghost use Rattle.kq_model.specs.Objects.{listed};
+ghost use Rattle.kq_model.specs.Plans.{plan};
+ghost use Rattle.kq_model.specs.World.{World as Kept, seen_world};
+
+use crate::effect::Effect;
+use crate::uses::Use;
+use crate::world::World;
+use kq_model::{Event, Memory};
+
+impl World {
+    ghost use Rattle.kq_process.specs.Effects.{listed_after};
+    ghost use Rattle.kq_process.specs.World.{world_of, IsEffectBy, IsNext};
+
+    /// The step of the world: what the record at this place does, or the first reason why it is
+    /// impossible; then it changes nothing. Places rise: nothing that is named was made at this
+    /// place or later. After Memory nothing has changed.
+    pub fn apply(&mut self, place: u64, event: &Event) -> Result<Effect, Memory>
+        requires { IsCountedWorld place (world_of self.old) }
+        ensures effect { IfOk result (IsEffectBy (plan place event.now) self.old) }
+        ensures world { OnOk result (IsNext place (plan place event.now) self.old self.new) }
+        ensures memory { OnErr result (world_of self.new ≡ world_of self.old) }
+        // Then the next record may come.
+        ensures next { OnOk result (IsCountedWorld (place + 1) (world_of self.new)) }
+        // The same for the world that keeps each object's records, for which this one stands.
+        ensures listed { (m : Kept listed) → world_of self.old ≡ seen_world m
+            → OnOk result (world_of self.new ≡ seen_world (listed_after place (plan place event.now (seen_world m)) m)) }
+    {
+        self.step(place, event)
+    }
+
+    #[tactic(auto, unfolding(kq_model::specs::Plans::plan))]
+    fn step(&mut self, place: u64, event: &Event) -> Result<Effect, Memory>
+        requires { IsCountedWorld place (world_of self.old) }
+        ensures effect { IfOk result (IsEffectBy (plan place event.now) self.old) }
+        ensures world { OnOk result (IsNext place (plan place event.now) self.old self.new) }
+        ensures memory { OnErr result (world_of self.new ≡ world_of self.old) }
+    {
+        match event {
+            Event::Proc { pid } => self.proc(*pid),
+            Event::Fork { pid, child } => self.fork(*pid, *child),
+            Event::Exit { pid, status } => self.exit(*pid, *status),
+            Event::Kqueue { pid, fd } => self.kqueue(place, *pid, *fd),
+            Event::Dup { pid, fd, to } => self.dup(*pid, *fd, *to),
+            Event::Close { pid, fd } => self.close(*pid, *fd),
+            Event::Socket { pid, fd, rcv, snd } => self.socket(place, *pid, *fd, *rcv, *snd),
+            Event::Accept {
+                pid,
+                fd,
+                to,
+                rcv,
+                snd,
+            } => self.accept(place, *pid, *fd, *to, *rcv, *snd),
+            Event::Pipe { pid, rfd, wfd, cap } => self.pipe(place, *pid, *rfd, *wfd, *cap),
+            Event::Listen { pid, fd, backlog } => self.use_object(
+                place,
+                *pid,
+                *fd,
+                Use::Listen { backlog: *backlog },
+            ),
+            Event::Arrive { pid, fd } => self.use_object(place, *pid, *fd, Use::Arrive),
+            Event::Connect { pid, fd } => self.use_object(place, *pid, *fd, Use::Connect),
+            Event::Rx { pid, fd, n } => self.use_object(
+                place,
+                *pid,
+                *fd,
+                Use::Receive { bytes: *n },
+            ),
+            Event::Tx { pid, fd, n } => self.use_object(
+                place,
+                *pid,
+                *fd,
+                Use::Transmit { bytes: *n },
+            ),
+            Event::Shut {
+                pid,
+                fd,
+                side,
+                error,
+            } => {
+                let what = Use::Shut {
+                    side: *side,
+                    error: *error,
+                };
+                self.use_object(place, *pid, *fd, what)
+            }
+            Event::Lowat { pid, fd, side, n } => {
+                let what = Use::LowWater {
+                    side: *side,
+                    mark: *n,
+                };
+                self.use_object(place, *pid, *fd, what)
+            }
+            Event::Read { pid, fd, n } => self.use_object(
+                place,
+                *pid,
+                *fd,
+                Use::Read { bytes: *n },
+            ),
+            Event::Write { pid, fd, n } => self.use_object(
+                place,
+                *pid,
+                *fd,
+                Use::Write { bytes: *n },
+            ),
+            Event::Kevent {
+                pid,
+                fd,
+                changes,
+                room,
+            } => Ok(self.kevent(*pid, *fd, changes.as_slice(), *room)),
+        }
+    }
+}
