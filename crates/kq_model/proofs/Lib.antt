@@ -42,6 +42,7 @@ pub mod ChangeLines
 pub mod Spelled
 pub mod CountedObjects
 pub mod ObjectBuilders
+pub mod LookRows
 pub mod SocketRows
 pub mod PipeRows
 pub mod FileRows

@@ -1,6 +1,6 @@
 -- With which error a change is refused, besides those of an absent knote. The errors are those of
 -- kqueue(2); which comes first is this project's choice.
-use Rattle.std.specs.Prelude.{Bool, true, false, not, ◌&&◌, ◌||◌, Option, Some, None, nat_lt, if◌then◌else◌}
+use Rattle.std.specs.Prelude.{ℕ, Bool, true, false, not, ◌&&◌, ◌||◌, Option, Some, None, nat_lt, option_and_then, if◌then◌else◌}
 use Rattle.std.specs.Option.{is_none}
 use Rattle.kq_model.specs.declared.change.Change.{Change}
 use Rattle.kq_model.specs.declared.errno.Errno.{Errno}
@@ -16,7 +16,9 @@ use Rattle.kq_model.specs.Bits.{asks, enable, disable, has_note, track_note}
 use Rattle.kq_model.specs.Caller.{Caller}
 use Rattle.kq_model.specs.Knote.{watches_number}
 use Rattle.kq_model.specs.Look.{is_simulated}
+use Rattle.kq_model.specs.Targets.{number_in, named_in}
 use Rattle.kq_model.specs.Ticks.{period_of}
+use Rattle.kq_model.specs.Views.{Views}
 
 -- whatever is there: the filter is not simulated, or ENABLE stands beside DISABLE
 abbrev pub is_malformed : Change → Bool
@@ -24,7 +26,7 @@ is_malformed c = not (is_simulated c.filter) || (asks c.flags enable && asks c.f
 
 -- READ, WRITE or VNODE of a number that is not open in the owner
 abbrev pub is_unopened : Caller → Change → Bool
-is_unopened caller c = watches_number c.filter && is_none (caller.views.descriptor caller.owner c.ident)
+is_unopened caller c = watches_number c.filter && is_none (named_in caller.views caller.owner c.ident)
 
 -- ---- what a filter itself refuses at ADD
 
@@ -50,18 +52,22 @@ unfoldable pub is_live_process : Option View → Bool
 is_live_process (Some (view.Process None)) = true
 is_live_process _ = false
 
+-- what there is to see of the process whose pid an ident is
+unfoldable pub process_in : Views → ℕ → Option View
+process_in views ident = option_and_then (λ pid. views.view (Process pid)) (number_in ident)
+
 -- NOTE_TRACK is not known; only a live process can come to be watched
 unfoldable pub process_refusal : Caller → Bool → Change → Option Errno
 process_refusal caller is_new c =
     if has_note c.fflags track_note then Some EINVAL
-    else if is_new && not (is_live_process (caller.views.view (Process c.ident))) then Some ESRCH
+    else if is_new && not (is_live_process (process_in caller.views c.ident)) then Some ESRCH
     else None
 
 -- whether the change would make a new knote comes after the caller
 unfoldable pub own_refusal : Filter → Caller → Bool → Change → Option Errno
-own_refusal Read caller is_new c = invalid_if (not (is_readable (caller.views.descriptor caller.owner c.ident)))
-own_refusal Write caller is_new c = invalid_if (not (is_writable (caller.views.descriptor caller.owner c.ident)))
-own_refusal Vnode caller is_new c = invalid_if (not (is_file (caller.views.descriptor caller.owner c.ident)))
+own_refusal Read caller is_new c = invalid_if (not (is_readable (named_in caller.views caller.owner c.ident)))
+own_refusal Write caller is_new c = invalid_if (not (is_writable (named_in caller.views caller.owner c.ident)))
+own_refusal Vnode caller is_new c = invalid_if (not (is_file (named_in caller.views caller.owner c.ident)))
 own_refusal Proc caller is_new c = process_refusal caller is_new c
 own_refusal Signal caller is_new c = invalid_if (nat_lt c.ident 1 || nat_lt 128 c.ident)
 own_refusal Timer caller is_new c = invalid_if (is_none (period_of c.datum c.fflags))
