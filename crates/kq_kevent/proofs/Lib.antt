@@ -1,5 +1,4 @@
 pub mod QueueLaws
-pub mod CountLaws
 pub mod TableLaws
 pub mod KnoteSteps
 pub mod SoundLaws

@@ -55,3 +55,4 @@ pub mod SeenWorld
 pub mod WorldPlayed
 pub mod WorldDescriptors
 pub mod WorldObjects
+pub mod NumberLaws

@@ -1,6 +1,6 @@
 use Rattle.std.proofs.Common.{length, ap, arith}
 use Rattle.kq_model.specs.Tallied.{Knote}
-use Rattle.kq_kevent.proofs.TableLaws.{limit-without_knote}
+use Rattle.kq_knote.proofs.CountLaws.{limit-without_knote}
 use Rattle.kq_kevent.proofs.retrieve.settle.Goals as goal
 
 pub returns-then-delivered-clause-limit : goal.returns-then-delivered-clause-limit

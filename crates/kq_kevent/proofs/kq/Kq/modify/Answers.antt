@@ -6,7 +6,7 @@ use Rattle.kq_model.specs.Registration.{with_modified}
 use Rattle.kq_model.specs.Tallied.{Knote, Kqueue}
 use Rattle.kq_model.proofs.KnoteLaws.{find_knote-key}
 use Rattle.kq_kevent.specs.Owned.{OwnedKqueue, caller}
-use Rattle.kq_kevent.proofs.CountLaws.{length-with_knote}
+use Rattle.kq_knote.proofs.CountLaws.{length-with_knote}
 use Rattle.kq_model.proofs.RegistrationLaws.{modified-key}
 use Rattle.kq_kevent.proofs.KnoteSteps.{modified-active}
 use Rattle.kq_kevent.proofs.RegisterLaws.{same_kqueue, IsSound-at, modified-by, modified-queue}

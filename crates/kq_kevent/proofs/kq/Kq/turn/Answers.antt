@@ -6,7 +6,7 @@ use Rattle.kq_model.specs.Retrieval.{with_idle, with_delivered}
 use Rattle.kq_model.specs.Tallied.{Knote}
 use Rattle.kq_model.proofs.KnoteLaws.{find_knote-key}
 use Rattle.kq_kevent.specs.Owned.{OwnedKqueue}
-use Rattle.kq_kevent.proofs.CountLaws.{length-with_knote}
+use Rattle.kq_knote.proofs.CountLaws.{length-with_knote}
 use Rattle.kq_kevent.proofs.RegisterLaws.{same_kqueue, IsSound-at}
 use Rattle.kq_kevent.proofs.SoundLaws.{length-queue}
 use Rattle.kq_kevent.proofs.TurnLaws.{kqueue_of, IsTurn, IsTurn-idle, IsTurn-delivered}
