@@ -8,3 +8,6 @@ pub mod TurnLaws
 pub mod CallLaws
 pub mod TakenLaws
 pub mod AnswerLaws
+pub mod KeepLaws
+pub mod CloseLaws
+pub mod NamedLaws
