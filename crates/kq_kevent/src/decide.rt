@@ -52,7 +52,7 @@ fn decided<V: Views>(owner: u32, present: Option<Knote>, change: &Change, views:
                 return Decision::Modify(knote);
             }
             match own_refusal(owner, false, change, views) {
-                Some(error) => Decision::Refuse(error),
+                Some(refused) => Decision::Refuse(refused),
                 None => Decision::Modify(knote),
             }
         }
