@@ -83,5 +83,9 @@ pub fn hear(knote: &mut Knote, hint: Hint) -> Heard
     let oneshot = knote.oneshot || exits;
     take(knote, hint);
     knote.oneshot = oneshot;
-    if exits && knote.tally.is_empty() { Heard::Drop } else { Heard::Kept }
+    if exits && knote.tally.is_empty() {
+        Heard::Drop
+    } else {
+        Heard::Kept
+    }
 }

@@ -73,13 +73,15 @@ pub fn look_read(knote: &Knote, view: Option<View>) -> Option<Seen>
 {
     match view {
         Some(View::Listen { pending }) => amount_seen(pending > 0, pending),
-        Some(View::Sock {
-            readable,
-            read_mark,
-            read_shut,
-            read_error,
-            ..
-        }) => {
+        Some(
+            View::Sock {
+                readable,
+                read_mark,
+                read_shut,
+                read_error,
+                ..
+            },
+        ) => {
             let ready = readable >= mark_of(knote, read_mark);
             side_seen(ready, read_shut, read_error, readable)
         }
@@ -98,20 +100,27 @@ pub fn look_write(knote: &Knote, view: Option<View>) -> Option<Seen>
     ensures { result ≡ write_seen (mark_of knote.now) view }
 {
     match view {
-        Some(View::Sock {
-            connected,
-            space,
-            write_mark,
-            write_shut,
-            write_error,
-            ..
-        }) => {
+        Some(
+            View::Sock {
+                connected,
+                space,
+                write_mark,
+                write_shut,
+                write_error,
+                ..
+            },
+        ) => {
             let ready = connected && space >= mark_of(knote, write_mark);
             side_seen(ready, write_shut, write_error, space)
         }
-        Some(View::Pipe {
-            bytes, cap, reader, ..
-        }) => {
+        Some(
+            View::Pipe {
+                bytes,
+                cap,
+                reader,
+                ..
+            },
+        ) => {
             let space = difference(cap, bytes);
             side_seen(space >= pipe_mark(cap), !reader, 0, space)
         }

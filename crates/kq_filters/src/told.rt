@@ -49,7 +49,11 @@ pub fn process_seen(notes: u32, exited: Option<u32>) -> Option<Seen>
         }),
         Some(status) => Some(Seen {
             fflags: notes,
-            datum: if notes & NOTE_EXIT == NOTE_EXIT { i64::from(status) } else { 0 },
+            datum: if notes & NOTE_EXIT == NOTE_EXIT {
+                i64::from(status)
+            } else {
+                0
+            },
             eof: true,
         }),
     }

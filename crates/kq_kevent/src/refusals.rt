@@ -103,12 +103,7 @@ fn process_refusal<V: Views>(is_new: bool, change: &Change, views: &V) -> Option
 
 /// With which error a filter other than TIMER refuses an ADD of the process `owner`.
 #[tactic(auto, unfolding(kq_model::specs::Refusals::own_refusal, kq_model::specs::Knote::is_timer))]
-pub fn own_refusal<V: Views>(
-    owner: u32,
-    is_new: bool,
-    change: &Change,
-    views: &V,
-) -> Option<Errno>
+pub fn own_refusal<V: Views>(owner: u32, is_new: bool, change: &Change, views: &V) -> Option<Errno>
     requires { is_timer change.now.filter ≡ false }
     ensures { (version : ℕ) → result ≡ own_refusal change.now.filter
         (record { views = V.sees views.now; owner = owner; version = version }) is_new change.now }
