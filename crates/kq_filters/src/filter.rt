@@ -1,8 +1,10 @@
 ghost use Rattle.std.specs.Prelude.{◌≡◌, option_and_then};
-ghost use Rattle.kq_model.specs.Look.{look};
+ghost use Rattle.kq_model.specs.Look.{look, look_user};
 ghost use Rattle.kq_model.specs.Views as world;
 
 use crate::Seen;
+use crate::level::{look_read, look_write};
+use crate::told::{count_seen, notes_seen, process_seen, status_of};
 use kq_knote::Knote;
 use kq_model::{Filter, View};
 
@@ -14,12 +16,15 @@ pub fn look(knote: &Knote, view: Option<View>) -> Option<Seen>
         → result ≡ look views knote.now }
 {
     match knote.key.filter {
+        Filter::Read => look_read(knote, view),
+        Filter::Write => look_write(knote, view),
+        Filter::Vnode => notes_seen(knote.tally.notes),
+        Filter::Proc => process_seen(knote.tally.notes, status_of(view)),
+        Filter::Signal | Filter::Timer => count_seen(knote.tally.count),
         Filter::User => look_user(knote),
         _ => None,
     }
 }
-
-ghost use Rattle.kq_model.specs.Look.{look_user};
 
 /// A user event sees that it was triggered, and needs no world.
 #[tactic(auto, unfolding(kq_model::specs::Look::look_user))]

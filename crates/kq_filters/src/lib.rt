@@ -3,11 +3,15 @@
 #![tactic(auto)]
 
 mod filter;
+mod hearing;
+mod level;
 mod nothing;
 mod seen;
+mod told;
 mod views;
 
 pub use filter::look;
+pub use hearing::{Heard, hear, takes};
 pub use nothing::NothingThere;
 pub use seen::Seen;
 pub use views::Views;

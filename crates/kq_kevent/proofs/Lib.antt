@@ -1,5 +1,4 @@
 pub mod QueueLaws
-pub mod CountLaws
 pub mod TableLaws
 pub mod KnoteSteps
 pub mod SoundLaws
@@ -9,3 +8,6 @@ pub mod TurnLaws
 pub mod CallLaws
 pub mod TakenLaws
 pub mod AnswerLaws
+pub mod KeepLaws
+pub mod CloseLaws
+pub mod NamedLaws

@@ -14,7 +14,7 @@ use Rattle.kq_model.specs.Tallied.{Knote, Kqueue}
 use Rattle.kq_model.proofs.KeyLaws.{same_key, key_eq-refl, key_eq-sym, has_key-without_same, has_key-without_other}
 use Rattle.kq_model.proofs.KnoteLaws.{by_test, found_or, find_knote-none, find_knote-here, find_knote-later, find_knote-append, find_knote-with_same, find_knote-with_other, find_knote-without_same, find_knote-without_other, HaveOwnKeys-append, HaveOwnKeys-with, HaveOwnKeys-without}
 use Rattle.kq_kevent.proofs.QueueLaws.{has_key-queue_for_same, has_key-queue_for_other, AreOnce-queue_for, AreOnce-without}
-use Rattle.kq_kevent.proofs.CountLaws.{length-keys}
+use Rattle.kq_knote.proofs.CountLaws.{length-keys}
 
 pub waiting-none : is_waiting {h = tallying} None ≡ false
 unfolding is_waiting

@@ -9,7 +9,6 @@ use Rattle.kq_model.specs.Tallied.{Knote}
 use Rattle.kq_model.proofs.KeyLaws.{same_key}
 use Rattle.kq_model.proofs.KnoteLaws.{by_test, without_knote-absent}
 use Rattle.kq_table.specs.Rows.{find_row, without_row}
-use Rattle.kq_kevent.proofs.CountLaws.{length-without_one}
 
 abbrev found_at : Key → Option Key → Bool → Option Key
 found_at x rest b = cond b (Some x) rest
@@ -82,12 +81,3 @@ pub limit-without_key : (gone : Key) (keys : List Key) (found : Option Key) (roo
 limit-without_key gone keys None room left once is fact = omega (arith, fact, length-without_absent gone keys (sym is))
 limit-without_key gone keys (Some x) room left once is fact =
     omega (arith, fact, length-without_there gone keys once (sym is))
-
--- so does a knote
-pub limit-without_knote : (gone : Key) (ks : List Knote) (found : Option Knote) (room left : ℕ) → HaveOwnKeys ks
-    → found ≡ find_knote gone ks → MatchOption found (left ≡ room) (λ _. left ≡ room + 1)
-    → length (without_knote gone ks) + left ≡ length ks + room
-limit-without_knote gone ks None room left own is fact =
-    omega (arith, fact, ap (length {A = Knote}) (without_knote-absent gone ks (sym is)))
-limit-without_knote gone ks (Some k) room left own is fact =
-    omega (arith, fact, length-without_one gone ks k own (sym is))

@@ -1,2 +1,4 @@
 pub mod Ending
 pub mod Owned
+pub mod Decided
+pub mod Named

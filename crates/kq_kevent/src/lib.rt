@@ -1,11 +1,15 @@
-//! One kqueue of user events: registering changes, and kevent calls (kqueue(2)).
+//! One kqueue: registering changes, and kevent calls (kqueue(2)).
 #![tactic(auto)]
 
 mod call;
+mod close;
+mod decide;
 mod kq;
 mod look;
+mod named;
 mod process;
 mod queue;
+mod refusals;
 mod register;
 mod retrieve;
 

@@ -3,41 +3,30 @@ ghost use Rattle.kq_model.specs.Bits.{asks};
 ghost use Rattle.kq_model.specs.Call.{number_of};
 ghost use Rattle.kq_model.specs.ChangedKnote.{key_of, made, modified};
 ghost use Rattle.kq_model.specs.Hearing.{listed};
-ghost use Rattle.kq_model.specs.Knote.{find_knote, has_key};
+ghost use Rattle.kq_model.specs.Knote.{find_knote, has_key, is_timer};
 ghost use Rattle.kq_model.specs.Kqueue.{Kqueue};
 ghost use Rattle.kq_model.specs.Recast.{tallied};
-ghost use Rattle.kq_model.specs.Refusals.{is_malformed};
 ghost use Rattle.kq_model.specs.Registration.{register, queue_for, with_made, with_removed, with_modified};
 ghost use Rattle.kq_model.specs.RegistrationLaws.{IsRegistered};
-ghost use Rattle.kq_model.specs.declared.filter.Filter.{Filter};
+ghost use Rattle.kq_kevent.specs.Named.{HaveNames};
 ghost use Rattle.kq_kevent.specs.Owned.{caller, limit, IsTalliedRegistration};
 
 use crate::Kq;
+use crate::decide::Decision;
 use crate::look::attend;
+use crate::named::target_of;
 use crate::process::number_of;
 use crate::queue::Queue;
 use bitflags::Flags;
 use kq_filters::Views;
 use kq_knote::Knote;
-use kq_model::{Change, Errno, EvFlags, Filter, Key};
+use kq_model::{Change, Errno, EvFlags, Key};
 
 /// Whether the flags have this one.
 pub(crate) fn asks(flags: EvFlags, flag: EvFlags) -> bool
     ensures { result ≡ asks flags flag.0 }
 {
     flags.contains(flag)
-}
-
-/// Whether a change is refused whatever is there: its filter is not simulated, or it asks for
-/// ENABLE together with DISABLE.
-#[tactic(auto, unfolding(kq_model::specs::Look::is_simulated))]
-fn is_malformed(change: &Change) -> bool
-    ensures { result ≡ is_malformed change.now }
-{
-    if change.filter != Filter::User {
-        return true;
-    }
-    asks(change.flags, EvFlags::ENABLE) && asks(change.flags, EvFlags::DISABLE)
 }
 
 impl Queue {
@@ -69,6 +58,10 @@ impl Kq {
         // and a change that is refused leaves the knotes and the queue as they are.
         ensures laws { IsRegistered change.now self.old.kq self.new.kq result }
 
+        // Where the READ, WRITE and VNODE knotes watch what their numbers name, they still do.
+        ensures named { HaveNames (V.sees views.now) self.old.owner self.old.kq
+            → HaveNames (V.sees views.now) self.old.owner self.new.kq }
+
         // The same in the words of the definitions, which keep all that was heard.
         ensures model { (m : Kqueue listed) → self.old.kq ≡ tallied m → IsTalliedRegistration self.new.kq result
             (register (caller (V.sees views.now) self.old) change.now m) }
@@ -81,8 +74,7 @@ impl Kq {
         number_of(self.apply(change, views))
     }
 
-    /// Registers one change, and gives the error with which it is refused. The refusals stand in
-    /// their order: a filter that is not simulated, ENABLE with DISABLE, nothing there and no ADD.
+    /// Registers one change, and gives the error with which it is refused.
     pub(crate) fn apply<V: Views>(&mut self, change: &Change, views: &V) -> Option<Errno>
         requires { 0 < self.old.room }
         ensures kq { self.new.kq ≡ (register (caller (V.sees views.now) self.old) change.now self.old.kq).kq }
@@ -93,46 +85,42 @@ impl Kq {
         ensures room { self.old.room ≤ self.new.room + 1 }
         ensures limit { limit self.new ≡ limit self.old }
     {
-        if is_malformed(change) {
-            return Some(Errno::EINVAL);
-        }
-        let key = change.key();
-        match self.knotes.find(key) {
-            None => {
-                if !asks(change.flags, EvFlags::ADD) {
-                    return Some(Errno::ENOENT);
-                }
+        match self.decide(change, views) {
+            Decision::Refuse(error) => Some(error),
+            Decision::Remove => {
+                self.unmake(change.key());
+                None
+            }
+            Decision::Make => {
                 self.make(change, views);
+                None
             }
-            Some(knote) => {
-                if asks(change.flags, EvFlags::DELETE) {
-                    self.unmake(key);
-                } else {
-                    self.modify(knote, change, views);
-                }
+            Decision::Modify(knote) => {
+                self.modify(knote, change, views);
+                None
             }
         }
-        None
     }
 
     /// Makes the knote of a change.
     fn make<V: Views>(&mut self, change: &Change, views: &V)
         requires room { 0 < self.old.room }
-        requires user { change.now.filter ≡ Filter.User }
+        requires no_timer { is_timer change.now.filter ≡ false }
         requires absent { find_knote (key_of change.now) self.old.kq.knotes ≡ None }
         ensures kq { self.new.kq ≡ with_made (made (caller (V.sees views.now) self.old) change.now) self.old.kq }
         ensures owner { self.new.owner ≡ self.old.owner }
         ensures version { self.new.version ≡ self.old.version }
         ensures room { self.new.room + 1 ≡ self.old.room }
     {
-        let mut knote = Knote::first(change);
+        let target = target_of(self.owner, change, views);
+        let mut knote = Knote::first(change, target);
         attend(views, &mut knote);
         self.knotes.attach(knote);
         self.queue.place(&knote);
     }
 
     /// Takes out the knote of a key.
-    fn unmake(&mut self, key: Key)
+    pub(crate) fn unmake(&mut self, key: Key)
         ensures kq { self.new.kq ≡ with_removed key self.old.kq }
         ensures owner { self.new.owner ≡ self.old.owner }
         ensures version { self.new.version ≡ self.old.version }
@@ -145,7 +133,7 @@ impl Kq {
 
     /// Lets a change modify the knote of its key.
     fn modify<V: Views>(&mut self, present: Knote, change: &Change, views: &V)
-        requires user { change.now.filter ≡ Filter.User }
+        requires no_timer { is_timer change.now.filter ≡ false }
         requires present { find_knote (key_of change.now) self.old.kq.knotes ≡ Some present }
         ensures kq { self.new.kq
             ≡ with_modified change.now (modified (caller (V.sees views.now) self.old) change.now present) self.old.kq }

@@ -1,6 +1,6 @@
-ghost use Rattle.std.specs.Prelude.{◌≡◌, ◌+◌, ◌<◌, ◌≤◌, ◌∷◌, List, [], false, length, min};
+ghost use Rattle.std.specs.Prelude.{◌≡◌, ◌+◌, ◌<◌, ◌≤◌, ◌∷◌, List, [], Some, false, length, min};
 ghost use Rattle.std.specs.Vec.{vec_capacity};
-ghost use Rattle.kq_model.specs.Knote.{has_key};
+ghost use Rattle.kq_model.specs.Knote.{has_key, find_knote};
 ghost use Rattle.kq_model.specs.Kqueue.{HaveOwnKeys};
 ghost use Rattle.kq_model.specs.Retrieval.{knotes_after, back_after, turned, retrieval};
 ghost use Rattle.kq_model.specs.declared.key.Key.{Key};
@@ -18,6 +18,7 @@ use kq_model::Kevent;
 #[tactic(auto, unfolding(kq_model::specs::Retrieval::knotes_after, kq_model::specs::Retrieval::back_after, kq_model::specs::Retrieval::stays))]
 fn settle(knotes: &mut Knotes, queue: &mut Queue, delivered: &Knote)
     requires own_keys { HaveOwnKeys knotes.old.knotes }
+    requires there { find_knote delivered.now.key knotes.old.knotes ≡ Some delivered.now }
     requires absent { has_key delivered.now.key queue.old.keys ≡ false }
     requires capacity { length queue.old.keys < queue.old.capacity }
     ensures knotes { knotes.new.knotes ≡ knotes_after delivered.now knotes.old.knotes }

@@ -1,1 +1,4 @@
 pub mod RowLaws
+pub mod CountLaws
+pub mod IndexLaws
+pub mod TargetLaws

@@ -1,9 +1,10 @@
-ghost use Rattle.std.specs.Prelude.{◌≡◌, ℕ, ◌/◌};
+ghost use Rattle.std.specs.Prelude.{◌≡◌, ℕ, ◌/◌, false};
 ghost use Rattle.kq_model.specs.Bits.{asks};
 ghost use Rattle.kq_model.specs.Caller.{Caller};
-ghost use Rattle.kq_model.specs.ChangedKnote.{fresh, begun, replaced, changed, switched, controlled, key_of};
+ghost use Rattle.kq_model.specs.ChangedKnote.{always_clears, fresh, begun, replaced, changed, switched, controlled, key_of};
+ghost use Rattle.kq_model.specs.Knote.{is_timer};
+ghost use Rattle.kq_model.specs.Targets.{target_of};
 ghost use Rattle.kq_model.specs.Retrieval.{rested};
-ghost use Rattle.kq_model.specs.declared.filter.Filter.{Filter};
 
 use crate::{Knote, Tally};
 use bitflags::Flags;
@@ -24,32 +25,58 @@ fn controlled(how: u32, bits: u32, given: u32) -> u32
     }
 }
 
+/// PROC, SIGNAL and TIMER have CLEAR always.
+#[tactic(auto, unfolding(kq_model::specs::ChangedKnote::always_clears))]
+fn always_clears(filter: Filter) -> bool
+    ensures { result ≡ always_clears filter }
+{
+    matches!(filter, Filter::Proc | Filter::Signal | Filter::Timer)
+}
+
+/// A knote as it is before its filter makes anything of the change.
+#[tactic(auto, unfolding(kq_model::specs::ChangedKnote::fresh))]
+fn fresh(change: &Change, target: Option<Target>) -> Knote
+    ensures { (caller : Caller) → target ≡ target_of caller.views caller.owner change.now.filter change.now.ident
+        → result ≡ fresh caller change.now }
+{
+    let flags = change.flags;
+    Knote {
+        key: change.key(),
+        target,
+        fflags: change.fflags,
+        datum: change.datum,
+        udata: change.udata,
+        oneshot: flags.contains(EvFlags::ONESHOT),
+        clear: always_clears(change.filter) || flags.contains(EvFlags::CLEAR),
+        dispatch: flags.contains(EvFlags::DISPATCH),
+        enabled: !flags.contains(EvFlags::DISABLE),
+        active: false,
+        tally: Tally::empty(),
+        start: 0,
+        period: 0,
+        bits: 0,
+        triggered: false,
+    }
+}
+
 impl Knote {
-    /// The knote that a first ADD makes, before it is looked at: with the change's actions, and
-    /// enabled unless the change says DISABLE. Of a user event it stores the low 24 bits,
-    /// whatever the control bits.
-    #[tactic(auto, unfolding(kq_model::specs::ChangedKnote::begun, kq_model::specs::ChangedKnote::fresh, kq_model::specs::ChangedKnote::always_clears, kq_model::specs::Targets::target_of))]
-    pub fn first(change: &Change) -> Knote
-        requires { change.now.filter ≡ Filter.User }
-        ensures { (caller : Caller) → result ≡ begun change.now.filter caller change.now (fresh caller change.now) }
+    /// The knote that a first ADD of a filter other than TIMER makes, before it is looked at: with
+    /// the change's actions, and enabled unless the change says DISABLE. Of a user event it stores
+    /// the low 24 bits, whatever the control bits. `target` is what the change names.
+    #[tactic(auto, unfolding(kq_model::specs::ChangedKnote::begun, kq_model::specs::ChangedKnote::fresh, kq_model::specs::Knote::is_timer))]
+    pub fn first(change: &Change, target: Option<Target>) -> Knote
+        requires { is_timer change.now.filter ≡ false }
+        ensures { (caller : Caller) → target ≡ target_of caller.views caller.owner change.now.filter change.now.ident
+            → result ≡ begun change.now.filter caller change.now (fresh caller change.now) }
     {
-        let flags = change.flags;
-        Knote {
-            key: change.key(),
-            target: Some(Target::Own),
-            fflags: change.fflags,
-            datum: change.datum,
-            udata: change.udata,
-            oneshot: flags.contains(EvFlags::ONESHOT),
-            clear: flags.contains(EvFlags::CLEAR),
-            dispatch: flags.contains(EvFlags::DISPATCH),
-            enabled: !flags.contains(EvFlags::DISABLE),
-            active: false,
-            tally: Tally::empty(),
-            start: 0,
-            period: 0,
-            bits: change.fflags & NOTE_FFLAGSMASK,
-            triggered: change.fflags & NOTE_TRIGGER == NOTE_TRIGGER,
+        let knote = fresh(change, target);
+        match change.filter {
+            Filter::User => Knote {
+                bits: change.fflags & NOTE_FFLAGSMASK,
+                triggered: change.fflags & NOTE_TRIGGER == NOTE_TRIGGER,
+                ..knote
+            },
+            _ => knote,
         }
     }
 

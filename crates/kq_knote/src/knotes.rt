@@ -1,10 +1,13 @@
-ghost use Rattle.std.specs.Prelude.{◌≡◌, ◌<◌, ◌+◌, ◌++◌, ◌↔◌, ◌∷◌, IsTrue, [], None, OnOk, OnErr, MatchOption, slice_get, length, max};
+ghost use Rattle.std.specs.Prelude.{◌≡◌, ◌<◌, ◌≤◌, ◌+◌, ◌++◌, ◌↔◌, ◌∷◌, IsTrue, [], None, OnOk, OnErr, MatchOption, slice_get, length, filter, not, max};
 ghost use Rattle.kq_model.specs.Knote.{key_eq, find_knote, with_knote, without_knote};
+ghost use Rattle.std.specs.Vec.{vec_len, vec_capacity};
+ghost use Rattle.kq_model.specs.Close.{is_of_number};
+ghost use Rattle.kq_knote.specs.Index.{keys_watching, KeepsTarget};
 ghost use Rattle.kq_table.specs.Rows.{row_after};
 
 use crate::Knote;
-use kq_model::{Key, Memory};
-use kq_table::Table;
+use kq_model::{Filter, Key, Memory, Target};
+use kq_table::{Table, TargetIndex, Watch};
 use std::alloc::Global;
 use std::marker::Model;
 
@@ -14,6 +17,7 @@ use std::marker::Model;
 #[derive(Drop)]
 pub struct Knotes {
     rows: Table<Knote>,
+    index: TargetIndex<Key, Option<Target>>,
 }
 
 impl Model for Knotes {
@@ -21,7 +25,11 @@ impl Model for Knotes {
 
     ghost Value = { Reserved };
 
+    ghost use Rattle.kq_knote.specs.Index.{IsIndexed};
+
     ghost view = { λ k. record { knotes = k.rows.rows; room = k.rows.room } };
+
+    ghost invariant = { λ k. IsIndexed k.rows.rows k.rows.room k.index };
 }
 
 impl Knotes {
@@ -32,6 +40,7 @@ impl Knotes {
     {
         Knotes {
             rows: Table::new(alloc),
+            index: TargetIndex::new(alloc),
         }
     }
 
@@ -63,6 +72,7 @@ impl Knotes {
         // Memory comes only where the room was missing.
         ensures missing { OnErr result (self.old.room < more) }
     {
+        self.index.reserve(more)?;
         self.rows.reserve(more)
     }
 
@@ -96,10 +106,16 @@ impl Knotes {
         ensures room { self.new.room + 1 ≡ self.old.room }
     {
         self.rows.attach(knote);
+        self.index.attach(Watch {
+            key: knote.key,
+            target: knote.target,
+        });
     }
 
-    /// Puts a knote in the place of the one of its key; where there is none, nothing changes.
+    /// Puts a knote in the place of the one of its key, which watches the same target; where there
+    /// is none, nothing changes.
     pub fn modify(&mut self, knote: Knote)
+        requires { KeepsTarget knote self.old.knotes }
         ensures knotes { self.new.knotes ≡ with_knote knote self.old.knotes }
         ensures room { self.new.room ≡ self.old.room }
     {
@@ -111,7 +127,40 @@ impl Knotes {
         ensures removed { result ≡ find_knote key self.old.knotes }
         ensures knotes { self.new.knotes ≡ without_knote key self.old.knotes }
         ensures room { MatchOption result (self.new.room ≡ self.old.room) (λ _. self.new.room ≡ self.old.room + 1) }
+        ensures limit { length self.new.knotes + self.new.room ≡ length self.old.knotes + self.old.room }
     {
+        self.index.remove(key);
         self.rows.remove(key)
+    }
+
+    /// Takes out the READ, WRITE and VNODE knotes of a descriptor number: three keys at most. They
+    /// give their room back.
+    pub fn remove_descriptor(&mut self, number: u32)
+        ensures knotes { self.new.knotes ≡ filter (λ k. not (is_of_number number k.key)) self.old.knotes }
+        ensures limit { length self.new.knotes + self.new.room ≡ length self.old.knotes + self.old.room }
+    {
+        let ident = u64::from(number);
+        self.remove(Key {
+            ident,
+            filter: Filter::Read,
+        });
+        self.remove(Key {
+            ident,
+            filter: Filter::Write,
+        });
+        self.remove(Key {
+            ident,
+            filter: Filter::Vnode,
+        });
+    }
+
+    /// Adds behind `found` the keys of the knotes that watch a target, in order of registration, in
+    /// time in proportion to their number.
+    pub fn watching(&self, target: Target, found: &mut Vec<Key>)
+        requires { vec_len found.old + length (keys_watching target self.now.knotes) ≤ vec_capacity found.old }
+        ensures found { found.new.items ≡ found.old.items ++ keys_watching target self.now.knotes }
+        ensures capacity { vec_capacity found.new ≡ vec_capacity found.old }
+    {
+        self.index.watching(Some(target), found);
     }
 }

@@ -1,4 +1,11 @@
+ghost use Rattle.std.specs.Prelude.{◌≡◌};
+ghost use Rattle.kq_model.specs.Hearing.{Told, notes_of, tallying};
+
+use kq_model::Hint;
 use std::marker::Model;
+
+/// The greatest data of a kevent.
+const MOST_COUNTED: u64 = i64::MAX as u64;
 
 /// What a knote has heard since it was last reset. kqueue(2) gives events that trigger a filter
 /// more than once as one kevent.
@@ -21,13 +28,37 @@ impl Model for Tally {
 }
 
 impl Tally {
-    ghost use Rattle.std.specs.Prelude.{◌≡◌};
-    ghost use Rattle.kq_model.specs.Hearing.{tallying};
-
     /// Nothing was heard.
     pub fn empty() -> Self
         ensures { result ≡ tallying.empty }
     {
         Tally { count: 0, notes: 0 }
+    }
+
+    /// One hint more.
+    #[tactic(auto, unfolding(kq_model::specs::Hearing::notes_of))]
+    pub fn add(&mut self, hint: Hint)
+        ensures { self.new ≡ tallying.heard (Told hint) self.old }
+    {
+        self.count = self.count.saturating_add(1).min(MOST_COUNTED);
+        self.notes |= notes_of(hint);
+    }
+
+    /// Whether nothing was heard.
+    pub fn is_empty(&self) -> bool
+        ensures { result ≡ tallying.is_empty self.now }
+    {
+        self.count == 0
+    }
+}
+
+/// The notes of a hint, as bits of fflags.
+#[tactic(auto, unfolding(kq_model::specs::Hearing::notes_of))]
+fn notes_of(hint: Hint) -> u32
+    ensures { result ≡ notes_of (Told hint) }
+{
+    match hint {
+        Hint::Note(bits) => bits,
+        _ => 0,
     }
 }

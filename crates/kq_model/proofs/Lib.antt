@@ -20,10 +20,6 @@ pub mod MergedRows
 pub mod FoldRows
 pub mod PlannedCalls
 pub mod Projection
-pub mod UntouchedNumbers
-pub mod UntouchedTargets
-pub mod HistoryPushed
-pub mod PrivateItems
 pub mod ProjectionOpened
 pub mod ProjectionRuns
 pub mod PrivateRows
@@ -66,6 +62,7 @@ pub mod ChangeLines
 pub mod Spelled
 pub mod CountedObjects
 pub mod ObjectBuilders
+pub mod LookRows
 pub mod SocketRows
 pub mod PipeRows
 pub mod FileRows
@@ -90,3 +87,4 @@ pub mod ListedObjects
 pub mod ListedPlans
 pub mod PlanReasons
 pub mod ListedWorld
+pub mod NumberLaws

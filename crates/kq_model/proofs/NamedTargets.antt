@@ -20,7 +20,7 @@ use Rattle.kq_model.specs.NamedTargets.{IsNamed}
 use Rattle.kq_model.specs.Refusals.{is_malformed, is_unopened, own_refusal, invalid_if, is_readable, is_writable, is_file}
 use Rattle.kq_model.specs.Registration.{Decision, Refuse, Remove, Make, Modify, unless_refused, decided, decision}
 use Rattle.kq_model.specs.Subjects.{MakesSubject}
-use Rattle.kq_model.specs.Targets.{object_of, file_of, target_of}
+use Rattle.kq_model.specs.Targets.{named_in, object_of, file_of, target_of}
 
 -- ---- what is not refused names something
 
@@ -59,9 +59,9 @@ file-object None e = absurd (true≢false (sym e))
 target-there : (filter : Filter) (caller : Caller) (c : Change) → own_refusal filter caller true c ≡ None → watches_number filter ≡ true
     → is_some (target_of caller.views caller.owner filter c.ident) ≡ true
 unfolding own_refusal watches_number target_of
-target-there Read caller c e watches = readable-object (caller.views.descriptor caller.owner c.ident) (valid _ e)
-target-there Write caller c e watches = writable-object (caller.views.descriptor caller.owner c.ident) (valid _ e)
-target-there Vnode caller c e watches = file-object (caller.views.descriptor caller.owner c.ident) (valid _ e)
+target-there Read caller c e watches = readable-object (named_in caller.views caller.owner c.ident) (valid _ e)
+target-there Write caller c e watches = writable-object (named_in caller.views caller.owner c.ident) (valid _ e)
+target-there Vnode caller c e watches = file-object (named_in caller.views caller.owner c.ident) (valid _ e)
 target-there _ caller c e watches = absurd (true≢false (sym watches))
 
 -- ---- a knote is made only where the filter does not refuse

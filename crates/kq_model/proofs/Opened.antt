@@ -5,9 +5,9 @@ use Rattle.serde_json.proofs.OnLiterals.{serde_json_on_literals}
 use Rattle.kq_model.specs.Names.{filter_among, filter_named, names_of}
 use Rattle.kq_model.specs.Hearing as hearing
 use Rattle.kq_model.specs.Knote.{watches_number, is_timer, find_knote}
-use Rattle.kq_model.specs.Look.{look_user, look_by, look, is_simulated}
-use Rattle.kq_model.specs.Targets.{object_of, file_of, target_of, target_eq, is_target}
-use Rattle.kq_model.specs.Refusals.{invalid_if, is_readable, is_writable, is_file, is_live_process, process_refusal, own_refusal}
+use Rattle.kq_model.specs.Look.{side_seen, amount_seen, read_seen, write_seen, status_of, process_seen, notes_seen, count_seen, mark_of, look_user, look_by, look, is_simulated}
+use Rattle.kq_model.specs.Targets.{number_in, named_in, object_of, file_of, target_of, target_eq, is_target}
+use Rattle.kq_model.specs.Refusals.{invalid_if, is_readable, is_writable, is_file, is_live_process, process_in, process_refusal, own_refusal}
 use Rattle.kq_model.specs.ChangedKnote as knote
 use Rattle.kq_model.specs.Registration.{unless_refused, decided, decision, queue_for, carried_out, register}
 use Rattle.kq_model.specs.Retrieval.{event_flags, event_of, reset, rested, knotes_after, stays, back_after, turned_at_look, turned_at, turned, delivered, after_turn, retrieve, retrieval}
@@ -33,8 +33,8 @@ unfoldable pub system_opened : ⊤
 unfolding serde_json_on_literals digits
     filter_among filter_named names_of
     hearing.notes_of hearing.is_none_of watches_number is_timer find_knote
-    look_user look_by look is_simulated object_of file_of target_of target_eq is_target
-    invalid_if is_readable is_writable is_file is_live_process process_refusal own_refusal
+    side_seen amount_seen read_seen write_seen status_of process_seen notes_seen count_seen mark_of look_user look_by look is_simulated number_in named_in object_of file_of target_of target_eq is_target
+    invalid_if is_readable is_writable is_file is_live_process process_in process_refusal own_refusal
     knote.always_clears knote.period_in knote.controlled knote.fresh knote.started knote.begun knote.replaced knote.restarted knote.changed knote.switched knote.activated knote.attended knote.made knote.modified
     unless_refused decided decision queue_for carried_out register
     event_flags event_of reset rested knotes_after stays back_after turned_at_look turned_at turned delivered after_turn retrieve retrieval

@@ -1,16 +1,17 @@
 -- What is done to one knote commutes with a change of how what was heard is kept.
-use Rattle.std.proofs.Common.{◌≡◌, Bool, true, false, cond, not, List, [], ◌∷◌, map, filter, Option, Some, None, refl, sym, ap, ◌∙◌}
+use Rattle.std.proofs.Common.{◌≡◌, Bool, true, false, cond, not, List, [], ◌∷◌, map, filter, Option, Some, None, option_and_then, refl, sym, ap, ◌∙◌}
 use Rattle.std.specs.Option.{option_map}
 use Rattle.kq_model.specs.declared.change.Change.{Change}
 use Rattle.kq_model.specs.declared.filter.Filter.{Filter}
-use Rattle.kq_model.specs.declared.filter.Filter.TheVariants.{Timer, User}
+use Rattle.kq_model.specs.declared.filter.Filter.TheVariants.{Read, Write, Vnode, Proc, Signal, Timer, User, Aio, Lio, Fs, Procdesc, Sendfile, Empty}
 use Rattle.kq_model.specs.declared.key.Key.{Key}
+use Rattle.kq_model.specs.declared.object.View.{View}
 use Rattle.kq_model.specs.Bits.{asks, add}
 use Rattle.kq_model.specs.Caller.{Caller}
 use Rattle.kq_model.specs.ChangedKnote.{fresh, started, begun, replaced, restarted, changed, switched, activated, attended, made, modified}
 use Rattle.kq_model.specs.Hearing.{Hearing}
 use Rattle.kq_model.specs.Knote.{Knote, key_eq, find_knote, with_knote, without_knote}
-use Rattle.kq_model.specs.Look.{Seen, look_user, look_by, look}
+use Rattle.kq_model.specs.Look.{Seen, notes_seen, process_seen, status_of, count_seen, mark_of, look_user, look_by, look}
 use Rattle.kq_model.specs.Recast.{IsHearingMap, recast}
 use Rattle.kq_model.specs.Views.{Views}
 
@@ -50,14 +51,25 @@ module _ {S T : Type 0} {h : Hearing S} {g : Hearing T} {f : S → T} (is : IsHe
 
   -- ---- the look
 
-  look_by-recast : (filter : Filter) (views : Views) (k : Knote h) → look_by filter views (re k) ≡ look_by filter views k
-  unfolding look_by look_user
-  look_by-recast User views k = refl
-  look_by-recast _ views k = refl
+  look_by-recast : (filter : Filter) (view : Option View) (k : Knote h) → look_by filter view (re k) ≡ look_by filter view k
+  unfolding look_by look_user mark_of
+  look_by-recast Vnode view k = ap notes_seen (is.notes k.seen)
+  look_by-recast Proc view k = ap (λ notes. process_seen notes (status_of view)) (is.notes k.seen)
+  look_by-recast Signal view k = ap count_seen (is.count k.seen)
+  look_by-recast Timer view k = ap count_seen (is.count k.seen)
+  look_by-recast Read view k = refl
+  look_by-recast Write view k = refl
+  look_by-recast User view k = refl
+  look_by-recast Aio view k = refl
+  look_by-recast Lio view k = refl
+  look_by-recast Fs view k = refl
+  look_by-recast Procdesc view k = refl
+  look_by-recast Sendfile view k = refl
+  look_by-recast Empty view k = refl
 
   pub look-recast : (views : Views) (k : Knote h) → look views (re k) ≡ look views k
   unfolding look
-  look-recast views k = look_by-recast k.key.filter views k
+  look-recast views k = look_by-recast k.key.filter (option_and_then views.view k.target) k
 
   -- ---- what a change makes of a knote
 

@@ -14,6 +14,10 @@ tally count notes = record { count = count; notes = notes }
 count-more : (xs : List Occurrence) (x : Occurrence) → min (length (xs ++ x ∷ [])) most_counted ≡ min (min (length xs) most_counted + 1) most_counted
 count-more xs x = rw (length-append xs (x ∷ [])) (omega arith)
 
+-- what is counted up to the most is within it
+counted-once : (n : ℕ) → min (min n most_counted) most_counted ≡ min n most_counted
+counted-once n = omega arith
+
 union-more : (xs : List Occurrence) (x : Occurrence) → union (xs ++ x ∷ []) ≡ bit_or (union xs) (notes_of x)
 union-more xs x = fold-append (λ bits y. bit_or bits (notes_of y)) 0 xs (x ∷ [])
 
@@ -26,7 +30,7 @@ pub tally_of-map : IsHearingMap listed tallying tally_of
 tally_of-map = record {
   empty = refl;
   heard = λ x xs. ap (λ n. tally n (union (xs ++ x ∷ []))) (count-more xs x) ∙ ap (tally (min (min (length xs) most_counted + 1) most_counted)) (union-more xs x);
-  count = λ xs. refl;
+  count = λ xs. counted-once (length xs);
   notes = λ xs. refl;
   is_empty = counts_none;
 }

@@ -43,6 +43,12 @@ asks flags flag = bit_and flags.0 flag == flag
 abbrev pub flag_if : Bool → ℕ → EvFlags → EvFlags
 flag_if holds flag flags = if holds then record { 0 = bit_or flags.0 flag } else flags
 
+-- ---- fflags of READ and WRITE
+
+-- NOTE_LOWAT
+abbrev pub lowat_note : ℕ
+lowat_note = 1
+
 -- ---- fflags of PROC
 
 -- NOTE_EXIT

@@ -17,6 +17,10 @@ pub record Pair : Type 0 where
 abbrev pub has_pair : ℕ → ℕ → List Pair → Bool
 has_pair pid number pairs = list_any (λ p. (p.pid == pid) && (p.number == number)) pairs
 
+-- the key is of READ, WRITE or VNODE and of this number
+abbrev pub is_of_number : ℕ → Key → Bool
+is_of_number number key = watches_number key.filter && (number == key.ident)
+
 -- what such a key of this process watches was closed
 abbrev pub is_closed : ℕ → List Pair → Key → Bool
 is_closed owner pairs key = watches_number key.filter && has_pair owner key.ident pairs

@@ -64,7 +64,7 @@ abbrev pub tallying : Hearing Tally
 tallying = record {
   empty = record { count = 0; notes = 0 };
   heard = λ x t. record { count = min (t.count + 1) most_counted; notes = bit_or t.notes (notes_of x) };
-  count = λ t. t.count;
+  count = λ t. min t.count most_counted;
   notes = λ t. t.notes;
   is_empty = λ t. t.count == 0;
 }

@@ -1,6 +1,6 @@
 -- What the hints of one record do to a kqueue: a filter is run when something happens to its target
 -- (kqueue(2)). Which hints a filter takes, and in which order knotes hear them, is this project's choice.
-use Rattle.std.specs.Prelude.{ℕ, ◌==◌, Bool, true, false, List, [], ◌∷◌, ◌++◌, map, filter, Option, Some, None, if◌then◌else◌}
+use Rattle.std.specs.Prelude.{ℕ, ◌==◌, Bool, true, false, ◌&&◌, ◌||◌, List, [], ◌∷◌, ◌++◌, map, filter, Option, Some, None, if◌then◌else◌}
 use Rattle.std.specs.List.{list_any}
 use Rattle.std.specs.Int.RustNames.{bit_and}
 use Rattle.kq_model.specs.declared.filter.Filter.{Filter}
@@ -53,6 +53,17 @@ module _ {S : Type 0} {h : Hearing S} where
   unfoldable pub heard_by : List Hint → Knote h → Knote h
   heard_by [] k = k
   heard_by (hint ∷ hints) k = heard_by hints (added (kept k.fflags hint) k)
+
+  -- One hint alone, where the filter takes it; the exit of its process makes a knote ONESHOT.
+  unfoldable pub after_hint : Hint → Knote h → Knote h
+  after_hint hint k =
+      record (if takes k.key.filter hint then added (kept k.fflags hint) k else k) {
+        oneshot = k.oneshot || is_exit k.key.filter hint;
+      }
+
+  -- it heard of the exit and has nothing to tell, so it is to go
+  unfoldable pub is_done : Hint → Knote h → Bool
+  is_done hint k = is_exit k.key.filter hint && h.is_empty (after_hint hint k).seen
 
   -- one of the hints is the exit, whether or not the knote asked for it
   abbrev pub hears_exit : List Hint → Knote h → Bool

@@ -1,5 +1,6 @@
 -- What a change watches, and the hints that records give for it.
-use Rattle.std.specs.Prelude.{ℕ, Bool, true, false, ◌&&◌, ◌==◌, Option, Some, None}
+use Rattle.std.specs.Prelude.{ℕ, ◌^◌, Bool, true, false, ◌&&◌, ◌==◌, nat_lt, Option, Some, None, option_and_then, if◌then◌else◌}
+use Rattle.std.specs.Option.{option_map}
 use Rattle.kq_model.specs.declared.filter.Filter.{Filter}
 use Rattle.kq_model.specs.declared.filter.Filter.TheVariants.{Read, Write, Vnode, Proc, Signal, Timer, User}
 use Rattle.kq_model.specs.declared.object.Hint.{Hint}
@@ -10,6 +11,14 @@ use Rattle.kq_model.specs.declared.object.Target.TheVariants as target
 use Rattle.kq_model.specs.Views.{Views}
 
 -- ---- what is watched
+
+-- the number that an ident is: descriptors, pids and signals have 32 bits, and a greater ident is none of them
+unfoldable pub number_in : ℕ → Option ℕ
+number_in ident = if nat_lt ident (2 ^ 32) then Some ident else None
+
+-- what an ident names in a process
+unfoldable pub named_in : Views → ℕ → ℕ → Option Named
+named_in views owner ident = option_and_then (views.descriptor owner) (number_in ident)
 
 -- by READ or WRITE of an open number
 unfoldable pub object_of : Option Named → Option Target
@@ -27,11 +36,11 @@ file_of _ = None
 
 -- by a change of this filter and ident, made by this process
 unfoldable pub target_of : Views → ℕ → Filter → ℕ → Option Target
-target_of views owner Read ident = object_of (views.descriptor owner ident)
-target_of views owner Write ident = object_of (views.descriptor owner ident)
-target_of views owner Vnode ident = file_of (views.descriptor owner ident)
-target_of views owner Proc ident = Some (target.Process ident)
-target_of views owner Signal ident = Some (target.Signal owner ident)
+target_of views owner Read ident = object_of (named_in views owner ident)
+target_of views owner Write ident = object_of (named_in views owner ident)
+target_of views owner Vnode ident = file_of (named_in views owner ident)
+target_of views owner Proc ident = option_map target.Process (number_in ident)
+target_of views owner Signal ident = option_map (target.Signal owner) (number_in ident)
 target_of views owner Timer ident = Some target.Own
 target_of views owner User ident = Some target.Own
 target_of views owner _ ident = None

@@ -10,6 +10,8 @@ use Rattle.kq_model.specs.Tallied.{Called}
 use Rattle.kq_model.proofs.Tallied.{call-tallied}
 use Rattle.kq_kevent.specs.Owned.{OwnedKqueue, caller}
 use Rattle.kq_kevent.proofs.AnswerLaws.{call-answer, changes_then_poll}
+use Rattle.kq_kevent.specs.Named.{HaveNames}
+use Rattle.kq_kevent.proofs.NamedLaws.{call-named}
 use Rattle.kq_kevent.proofs.CallLaws.{same_caller, called, call-fails, call-full, call-entries, call-retrieves, process-from}
 use Rattle.kq_kevent.proofs.kq.Kq.call.Goals as goal
 use Rattle.kq_kevent.proofs.kq.Kq.call.Goals.{then-reads_pending, else-reads_pending}
@@ -151,3 +153,21 @@ returns-after-reads_pending-clause-model g c = λ m same.
     let by = caller (g.V.Views.sees c.args.views.now) c.args.self.now in
     call-tallied c.args.self.now.kq m same by c.args.room c.args.changes.now _ _
     (returns-after-reads_pending-clause-called g c)
+
+pub returns-in-Ended-Some-clause-named : goal.returns-in-Ended-Some-clause-named
+returns-in-Ended-Some-clause-named g c = λ all.
+    let by = caller (g.V.Views.sees c.args.views.now) c.args.self.now in
+    subst (λ (x : Called). HaveNames by.views by.owner x.kq) (sym (returns-in-Ended-Some-clause-called g c))
+    (call-named by c.args.room c.args.changes.now c.args.self.now.kq all)
+
+pub returns-in-Ended-None-clause-named : goal.returns-in-Ended-None-clause-named
+returns-in-Ended-None-clause-named g c = λ all.
+    let by = caller (g.V.Views.sees c.args.views.now) c.args.self.now in
+    subst (λ (x : Called). HaveNames by.views by.owner x.kq) (sym (returns-in-Ended-None-clause-called g c))
+    (call-named by c.args.room c.args.changes.now c.args.self.now.kq all)
+
+pub returns-after-reads_pending-clause-named : goal.returns-after-reads_pending-clause-named
+returns-after-reads_pending-clause-named g c = λ all.
+    let by = caller (g.V.Views.sees c.args.views.now) c.args.self.now in
+    subst (λ (x : Called). HaveNames by.views by.owner x.kq) (sym (returns-after-reads_pending-clause-called g c))
+    (call-named by c.args.room c.args.changes.now c.args.self.now.kq all)

@@ -4,6 +4,7 @@ use Rattle.kq_model.specs.ChangedKnote.{key_of, made}
 use Rattle.kq_model.specs.Hearing.{tallying}
 use Rattle.kq_model.specs.Knote.{find_knote}
 use Rattle.kq_model.specs.Registration.{with_made}
+use Rattle.kq_model.specs.Targets.{target_of}
 use Rattle.kq_model.specs.Tallied.{Knote, Kqueue}
 use Rattle.kq_kevent.specs.Owned.{OwnedKqueue, caller}
 use Rattle.kq_model.proofs.RegistrationLaws.{made-key}
@@ -14,8 +15,10 @@ use Rattle.kq_kevent.proofs.kq.Kq.make.Goals as goal
 pub attach-requires-clause-absent : goal.attach-requires-clause-absent
 attach-requires-clause-absent g c =
     let by = caller (g.V.Views.sees c.args.views.now) c.args.self.now in
+    let target = c.target_of-target.ensures
+    ∙ ap (λ (v : OwnedKqueue). target_of by.views v.owner c.args.change.now.filter c.args.change.now.ident) c.self.view_is in
     let is = made-by by c.args.change.now c.first-knote.result c.attend.new.knote
-    (c.first-knote.ensures by) c.attend.ensures in
+    (c.first-knote.ensures by target) c.attend.ensures in
     ap (λ (k : Knote). find_knote k.key c.self.inside.knotes.knotes) is
     ∙ ap (λ key. find_knote key c.self.inside.knotes.knotes) (made-key tallying by c.args.change.now)
     ∙ ap (λ (v : OwnedKqueue). find_knote (key_of c.args.change.now) v.kq.knotes) c.self.view_is ∙ c.requires.absent
@@ -35,10 +38,12 @@ place-requires g c = λ _.
 pub invariant_of-self : goal.invariant_of-self
 invariant_of-self g c =
     let by = caller (g.V.Views.sees c.args.views.now) c.args.self.now in
+    let target = c.target_of-target.ensures
+    ∙ ap (λ (v : OwnedKqueue). target_of by.views v.owner c.args.change.now.filter c.args.change.now.ident) c.self.view_is in
     let kq : Kqueue = record { knotes = c.self.inside.knotes.knotes; queue = c.self.inside.queue.keys } in
     let k = c.attend.new.knote in
     let is = made-by by c.args.change.now c.first-knote.result c.attend.new.knote
-    (c.first-knote.ensures by) c.attend.ensures in
+    (c.first-knote.ensures by target) c.attend.ensures in
     let absent = ap (λ (k : Knote). find_knote k.key kq.knotes) is ∙ ap (λ key. find_knote key kq.knotes)
     (made-key tallying by c.args.change.now)
     ∙ ap (λ (v : OwnedKqueue). find_knote (key_of c.args.change.now) v.kq.knotes) c.self.view_is ∙ c.requires.absent in
@@ -58,9 +63,11 @@ invariant_of-self g c =
 pub returns-clause-kq : goal.returns-clause-kq
 returns-clause-kq g c =
     let by = caller (g.V.Views.sees c.args.views.now) c.args.self.now in
+    let target = c.target_of-target.ensures
+    ∙ ap (λ (v : OwnedKqueue). target_of by.views v.owner c.args.change.now.filter c.args.change.now.ident) c.self.view_is in
     let kq : Kqueue = record { knotes = c.self.inside.knotes.knotes; queue = c.self.inside.queue.keys } in
     same_kqueue c.attach.new.self.knotes c.place.new.self.keys
     (with_made c.attend.new.knote kq) c.attach.ensures.knotes c.place.ensures.keys
     ∙ ap (λ k. with_made k kq) (made-by by c.args.change.now c.first-knote.result c.attend.new.knote
-    (c.first-knote.ensures by) c.attend.ensures)
+    (c.first-knote.ensures by target) c.attend.ensures)
     ∙ ap (λ (v : OwnedKqueue). with_made (made by c.args.change.now) v.kq) c.self.view_is

@@ -6,8 +6,9 @@ use Rattle.kq_model.specs.Registration.{with_modified}
 use Rattle.kq_model.specs.Tallied.{Knote, Kqueue}
 use Rattle.kq_model.proofs.KnoteLaws.{find_knote-key}
 use Rattle.kq_kevent.specs.Owned.{OwnedKqueue, caller}
-use Rattle.kq_kevent.proofs.CountLaws.{length-with_knote}
+use Rattle.kq_knote.proofs.CountLaws.{length-with_knote}
 use Rattle.kq_model.proofs.RegistrationLaws.{modified-key}
+use Rattle.kq_kevent.proofs.KeepLaws.{keeps-target, modified-target, found_here}
 use Rattle.kq_kevent.proofs.KnoteSteps.{modified-active}
 use Rattle.kq_kevent.proofs.RegisterLaws.{same_kqueue, IsSound-at, modified-by, modified-queue}
 use Rattle.kq_kevent.proofs.SoundLaws.{IsSound-modified, length-queue_besides}
@@ -20,7 +21,7 @@ place-requires g c = λ absent.
     let change = c.args.change.now in
     let found = ap (λ (v : OwnedKqueue). find_knote (key_of change) v.kq.knotes) c.self.view_is ∙ c.requires.present in
     let is = modified-by by change c.args.present c.replace.new.self c.control.new.self c.switch.new.self
-    c.attend.new.knote c.requires.user c.replace.ensures c.control.ensures c.switch.ensures c.attend.ensures in
+    c.attend.new.knote c.requires.no_timer c.replace.ensures c.control.ensures c.switch.ensures c.attend.ensures in
     let same : c.attend.new.knote.key ≡ key_of change = ap (λ (k : Knote). k.key) is
     ∙ modified-key tallying by change c.args.present
     ∙ sym (find_knote-key (key_of change) kq.knotes c.args.present found) in
@@ -39,13 +40,13 @@ invariant_of-self g c =
     let k = c.attend.new.knote in
     let found = ap (λ (v : OwnedKqueue). find_knote (key_of change) v.kq.knotes) c.self.view_is ∙ c.requires.present in
     let is = modified-by by change c.args.present c.replace.new.self c.control.new.self c.switch.new.self
-    c.attend.new.knote c.requires.user c.replace.ensures c.control.ensures c.switch.ensures c.attend.ensures in
+    c.attend.new.knote c.requires.no_timer c.replace.ensures c.control.ensures c.switch.ensures c.attend.ensures in
     let same : k.key ≡ key_of change = ap (λ (k : Knote). k.key) is ∙ modified-key tallying by change c.args.present
     ∙ sym (find_knote-key (key_of change) kq.knotes c.args.present found) in
     record {
       sound = IsSound-at c.modify.new.self.knotes c.place.new.self.keys
           (with_modified change k kq) c.modify.ensures.knotes
-          (c.place.ensures.keys ∙ modified-queue change k kq c.requires.user)
+          (c.place.ensures.keys ∙ modified-queue change k kq c.requires.no_timer)
           (IsSound-modified kq change k c.args.present c.self.invariant.sound same
           (ap (λ key. find_knote key kq.knotes) same ∙ found)
           (λ stays idle. modified-active by change c.args.present stays (ap (λ (k : Knote). k.active) (sym is)
@@ -67,8 +68,21 @@ returns-clause-kq g c =
     let change = c.args.change.now in
     let k = c.attend.new.knote in
     let is = modified-by by change c.args.present c.replace.new.self c.control.new.self c.switch.new.self
-    c.attend.new.knote c.requires.user c.replace.ensures c.control.ensures c.switch.ensures c.attend.ensures in
+    c.attend.new.knote c.requires.no_timer c.replace.ensures c.control.ensures c.switch.ensures c.attend.ensures in
     same_kqueue c.modify.new.self.knotes c.place.new.self.keys (with_modified change k kq) c.modify.ensures.knotes
-    (c.place.ensures.keys ∙ modified-queue change k kq c.requires.user)
+    (c.place.ensures.keys ∙ modified-queue change k kq c.requires.no_timer)
     ∙ ap (λ k. with_modified change k kq) is
     ∙ ap (λ (v : OwnedKqueue). with_modified change (modified by change c.args.present) v.kq) c.self.view_is
+
+pub modify-requires : goal.modify-requires
+modify-requires g c =
+    let by = caller (g.V.Views.sees c.args.views.now) c.args.self.now in
+    let kq : Kqueue = record { knotes = c.self.inside.knotes.knotes; queue = c.self.inside.queue.keys } in
+    let change = c.args.change.now in
+    let found = ap (λ (v : OwnedKqueue). find_knote (key_of change) v.kq.knotes) c.self.view_is ∙ c.requires.present in
+    let is = modified-by by change c.args.present c.replace.new.self c.control.new.self c.switch.new.self
+    c.attend.new.knote c.requires.no_timer c.replace.ensures c.control.ensures c.switch.ensures c.attend.ensures in
+    keeps-target c.args.present c.attend.new.knote kq.knotes
+    (ap (λ (k : Knote). k.key) is ∙ modified-key tallying by change c.args.present)
+    (ap (λ (k : Knote). k.target) is ∙ modified-target by change c.args.present)
+    (found_here (key_of change) kq.knotes c.args.present found)

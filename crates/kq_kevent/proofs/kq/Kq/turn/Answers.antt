@@ -6,7 +6,9 @@ use Rattle.kq_model.specs.Retrieval.{with_idle, with_delivered}
 use Rattle.kq_model.specs.Tallied.{Knote}
 use Rattle.kq_model.proofs.KnoteLaws.{find_knote-key}
 use Rattle.kq_kevent.specs.Owned.{OwnedKqueue}
-use Rattle.kq_kevent.proofs.CountLaws.{length-with_knote}
+use Rattle.kq_knote.proofs.CountLaws.{length-with_knote}
+use Rattle.kq_knote.specs.Index.{KeepsTarget}
+use Rattle.kq_kevent.proofs.KeepLaws.{found_here, keeps-target}
 use Rattle.kq_kevent.proofs.RegisterLaws.{same_kqueue, IsSound-at}
 use Rattle.kq_kevent.proofs.SoundLaws.{length-queue}
 use Rattle.kq_kevent.proofs.TurnLaws.{kqueue_of, IsTurn, IsTurn-idle, IsTurn-delivered}
@@ -125,3 +127,15 @@ returns-in-Some-look_in-clause-event g c =
     (IsTurn-delivered views (kqueue_of ks c.self.inside.queue.keys) next c.in-Some.key rest k c.in-Some-look_in.seen
     c.event_of.result c.in-Some.ensures.keys (sym c.in-Some-find.ensures) (sym c.in-Some-look_in.ensures)
     refl c.event_of.ensures)).gives
+
+pub modify-requires : goal.modify-requires
+modify-requires g c =
+    let ks = c.self.inside.knotes.knotes in
+    let k = c.in-Some-find.knote in
+    let here = found_here c.in-Some.key ks k (sym c.in-Some-find.ensures) in
+    subst (λ (n : Knote). KeepsTarget (record n { active = false }) ks) (sym c.knote.view_is)
+    (keeps-target k (record k { active = false }) ks refl refl here)
+
+pub settle-requires-clause-there : goal.settle-requires-clause-there
+settle-requires-clause-there g c =
+    found_here c.in-Some.key c.self.inside.knotes.knotes c.in-Some-find.knote (sym c.in-Some-find.ensures)

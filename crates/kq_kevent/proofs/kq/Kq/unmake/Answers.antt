@@ -2,10 +2,10 @@ use Rattle.std.proofs.Common.{length, ap, arith}
 use Rattle.kq_model.specs.Registration.{with_removed}
 use Rattle.kq_model.specs.Tallied.{Knote, Kqueue}
 use Rattle.kq_kevent.specs.Owned.{OwnedKqueue, limit}
-use Rattle.kq_kevent.proofs.CountLaws.{length-without_knote}
+use Rattle.kq_knote.proofs.CountLaws.{length-without_knote}
 use Rattle.kq_kevent.proofs.RegisterLaws.{IsSound-at}
 use Rattle.kq_kevent.proofs.SoundLaws.{IsSound-removed}
-use Rattle.kq_kevent.proofs.TableLaws.{limit-without_knote}
+use Rattle.kq_knote.proofs.CountLaws.{limit-without_knote}
 use Rattle.kq_kevent.proofs.kq.Kq.unmake.Goals as goal
 
 pub invariant_of-self : goal.invariant_of-self

@@ -1,10 +1,45 @@
-use Rattle.std.proofs.Common.{rules, ap, ◌∙◌}
-use Rattle.kq_model.specs.Knote.{find_knote}
+use Rattle.std.proofs.Common.{◌≡◌, ◌+◌, ◌≤◌, ℕ, List, length, map, Option, None, Some, rules, refl, sym, ap, ◌∙◌, subst, arith}
+use Rattle.std.specs.Option.{option_map, MatchOption}
+use Rattle.kq_model.specs.contracts.key.KeyPartialEq.TheImpl as key_equal
+use Rattle.kq_model.specs.Knote.{find_knote, without_knote}
+use Rattle.kq_model.specs.Kqueue.{HaveOwnKeys}
+use Rattle.kq_model.specs.Tallied.{Knote}
+use Rattle.kq_model.proofs.KnoteLaws.{HaveOwnKeys-without}
+use Rattle.kq_knote.specs.Index.{watch_of}
 use Rattle.kq_knote.specs.Reserved.{Reserved}
+use Rattle.kq_knote.proofs.CountLaws.{limit-without_knote}
+use Rattle.kq_knote.proofs.IndexLaws.{Watching, find-watch, without-watch, fits-after}
 use Rattle.kq_knote.proofs.RowLaws.{find_row-knotes}
+use Rattle.kq_table.specs.Rows.{find_row, without_row}
 use Rattle.kq_knote.proofs.knotes.Knotes.remove.Goals as goal
+
+pub invariant_of-self : goal.invariant_of-self
+invariant_of-self c =
+    let ks = c.self.inside.rows.rows in
+    let rows : c.remove-2.new.self.rows ≡ without_knote c.args.key ks = search rules in
+    let found = c.remove-2.ensures.removed ∙ find_row-knotes _ (λ a b. search rules) c.args.key ks in
+    let watched = c.remove.ensures.removed
+    ∙ ap (λ (ws : List Watching). find_row key_equal.eq-value.it (λ (w : Watching). w.key) c.args.key ws) c.self.invariant.watches
+    ∙ find-watch key_equal.eq-value.it (λ a b. search rules) c.args.key ks ∙ ap (option_map watch_of) (sym found) in
+    record {
+      own_keys = subst HaveOwnKeys (sym rows) (HaveOwnKeys-without c.args.key ks c.self.invariant.own_keys);
+      watches = c.remove.ensures.watches
+          ∙ ap (λ (ws : List Watching). without_row key_equal.eq-value.it (λ (w : Watching). w.key) c.args.key ws) c.self.invariant.watches
+          ∙ without-watch key_equal.eq-value.it (λ a b. search rules) c.args.key ks ∙ ap (map watch_of) (sym rows);
+      fits = fits-after c.remove-2.result c.remove.result _ _ _ _ watched c.remove-2.ensures.room c.remove.ensures.room
+          c.self.invariant.fits;
+    }
 
 pub returns-clause-removed : goal.returns-clause-removed
 returns-clause-removed c =
-    c.remove.ensures.removed ∙ find_row-knotes _ (λ a b. search rules) c.args.key c.self.inside.rows.rows
+    c.remove-2.ensures.removed ∙ find_row-knotes _ (λ a b. search rules) c.args.key c.self.inside.rows.rows
     ∙ ap (λ (v : Reserved). find_knote c.args.key v.knotes) c.self.view_is
+
+pub returns-clause-limit : goal.returns-clause-limit
+returns-clause-limit c =
+    let ks = c.self.inside.rows.rows in
+    let rows : c.remove-2.new.self.rows ≡ without_knote c.args.key ks = search rules in
+    let found = c.remove-2.ensures.removed ∙ find_row-knotes _ (λ a b. search rules) c.args.key ks in
+    let kept = limit-without_knote c.args.key ks c.remove-2.result c.self.inside.rows.room c.remove-2.new.self.room
+    c.self.invariant.own_keys found c.remove-2.ensures.room in
+    omega (arith, kept, ap (length {A = Knote}) rows, ap (λ (v : Reserved). length v.knotes + v.room) c.self.view_is)

@@ -141,3 +141,7 @@ returns-in_err-open-clause-impossible c = λ none.
     (kqueue_opens c.args.place c.args.pid c.args.number w (sym c.is_live.ensures ∙ c.if-not-is_live.false)
     (ap is_some (sym c.named.ensures) ∙ sym c.is_some.ensures ∙ c.if-is_some.false))
     (subst (λ (s : SystemState). IsImpossible c.args.place e (world_of s.world)) (sym c.self.view_is) none))
+
+-- the room was reserved before
+pub unreachable-requires : goal.unreachable-requires
+unreachable-requires c = grind (arith, c.in_ok-map_err.ensures.variant, c.reserve.ensures.ok, c.insert.ensures.succeeds)

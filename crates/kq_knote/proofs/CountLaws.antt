@@ -1,7 +1,8 @@
 -- Keys that differ and are all of some knote are no more than the knotes.
-use Rattle.std.proofs.Common.{◌≡◌, suc, ◌+◌, ◌≤◌, Bool, true, false, cond, not, List, [], ◌∷◌, length, None, Some, ap, refl, sym, ◌∙◌, subst, arith}
+use Rattle.std.proofs.Common.{◌≡◌, ℕ, suc, ◌+◌, ◌≤◌, Bool, true, false, cond, not, List, [], ◌∷◌, length, Option, None, Some, ap, refl, sym, ◌∙◌, subst, arith}
 use Rattle.std.proofs.lemmas.List.{length-map}
 use Rattle.std.proofs.lemmas.Option.{none-some}
+use Rattle.std.specs.Option.{MatchOption}
 use Rattle.std.proofs.lemmas.Bool.{or_right, or_left, true≢false}
 use Rattle.kq_model.specs.declared.key.Key.{Key}
 use Rattle.kq_model.specs.Knote.{key_eq, has_key, find_knote, without_knote, with_knote}
@@ -61,3 +62,12 @@ length-keys (k ∷ q) ks once present =
 
 pub length-with_knote : (k : Knote) (ks : List Knote) → length (with_knote k ks) ≡ length ks
 length-with_knote k ks = length-map ks (λ other. cond (key_eq k.key other.key) k other)
+
+-- a knote that is taken out gives its room back
+pub limit-without_knote : (gone : Key) (ks : List Knote) (found : Option Knote) (room left : ℕ) → HaveOwnKeys ks
+    → found ≡ find_knote gone ks → MatchOption found (left ≡ room) (λ _. left ≡ room + 1)
+    → length (without_knote gone ks) + left ≡ length ks + room
+limit-without_knote gone ks None room left own is fact =
+    omega (arith, fact, ap (length {A = Knote}) (without_knote-absent gone ks (sym is)))
+limit-without_knote gone ks (Some k) room left own is fact =
+    omega (arith, fact, length-without_one gone ks k own (sym is))

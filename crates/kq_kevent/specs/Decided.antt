@@ -1,0 +1,21 @@
+-- What is decided of a change in the code, and what is known of the knote that it is about.
+use Rattle.std.specs.Prelude.{◌≡◌, false, Option, Some, None}
+use Rattle.kq_model.specs.declared.filter.Filter.{Filter}
+use Rattle.kq_model.specs.Knote.{is_timer}
+use Rattle.kq_model.specs.Registration as registration
+use Rattle.kq_model.specs.Tallied as tallied
+use Rattle.kq_kevent.specs.declared.decide.Decision.{Decision}
+use Rattle.kq_kevent.specs.declared.decide.Decision.TheVariants.{Refuse, Remove, Make, Modify}
+
+abbrev pub decision_of : Decision → tallied.Decision
+decision_of (Refuse e) = registration.Refuse e
+decision_of Remove = registration.Remove
+decision_of Make = registration.Make
+decision_of (Modify k) = registration.Modify k
+
+-- a knote is made where there is none, and modified where it is there
+abbrev pub IsAbout : Decision → Option tallied.Knote → Filter → Type 0
+IsAbout (Refuse e) present filter = Unit {0}
+IsAbout Remove present filter = Unit {0}
+IsAbout Make present filter = (present ≡ None) × (is_timer filter ≡ false)
+IsAbout (Modify k) present filter = (present ≡ Some k) × (is_timer filter ≡ false)

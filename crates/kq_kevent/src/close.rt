@@ -1,0 +1,41 @@
+ghost use Rattle.std.specs.Prelude.{◌≡◌, ◌≤◌, ◌∷◌, []};
+ghost use Rattle.kq_model.specs.Close.{closed};
+ghost use Rattle.kq_model.specs.Views.{Views};
+ghost use Rattle.kq_kevent.specs.Named.{HaveNames, KeepsNames};
+ghost use Rattle.kq_kevent.specs.Owned.{limit};
+
+use crate::Kq;
+use kq_model::{Filter, Key};
+
+impl Kq {
+    /// A descriptor of the owner was closed: the READ, WRITE and VNODE knotes of its number are
+    /// gone, also where a duplicate stays open (kqueue(2)). It takes no memory.
+    pub fn closed(&mut self, number: u32)
+        ensures kq { self.new.kq
+            ≡ closed self.old.owner (record { pid = self.old.owner; number = number } ∷ []) self.old.kq }
+
+        // Where the READ, WRITE and VNODE knotes watched what their numbers named before the close,
+        // they watch what these name after it.
+        ensures named { (before after : Views) → KeepsNames before after self.old.owner number
+            → HaveNames before self.old.owner self.old.kq → HaveNames after self.old.owner self.new.kq }
+
+        ensures owner { self.new.owner ≡ self.old.owner }
+        ensures version { self.new.version ≡ self.old.version }
+        ensures room { self.old.room ≤ self.new.room }
+        ensures limit { limit self.new ≡ limit self.old }
+    {
+        let ident = u64::from(number);
+        self.unmake(Key {
+            ident,
+            filter: Filter::Read,
+        });
+        self.unmake(Key {
+            ident,
+            filter: Filter::Write,
+        });
+        self.unmake(Key {
+            ident,
+            filter: Filter::Vnode,
+        });
+    }
+}

@@ -1,0 +1,14 @@
+use Rattle.std.proofs.Common.{◌≡◌, ℕ, List, sym, ap, ◌∙◌}
+use Rattle.kq_model.specs.declared.filter.Filter.TheVariants.{Read, Write, Vnode}
+use Rattle.kq_model.specs.Knote.{without_knote}
+use Rattle.kq_model.specs.Tallied.{Knote}
+use Rattle.kq_model.proofs.NumberLaws.{without-number, three}
+use Rattle.kq_knote.proofs.knotes.Knotes.remove_descriptor.Goals as goal
+
+pub returns-clause-knotes : goal.returns-clause-knotes
+returns-clause-knotes c =
+    c.remove-3.ensures.knotes
+    ∙ ap (λ (ks : List Knote). without_knote (record { ident = c.from-ident.result; filter = Vnode }) ks)
+    (c.remove-2.ensures.knotes ∙ ap (λ (ks : List Knote). without_knote (record { ident = c.from-ident.result; filter = Write }) ks) c.remove.ensures.knotes)
+    ∙ ap (λ n. three n c.args.self.now.knotes) c.from-ident.ensures
+    ∙ without-number c.args.number c.args.self.now.knotes
