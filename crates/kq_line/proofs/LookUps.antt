@@ -6,15 +6,18 @@ use Rattle.serde_json.specs.Data.{Data, Members, negative, number, object, unsig
 use Rattle.serde_json.specs.Find.{get_member}
 use Rattle.kq_model.specs.declared.change.Change.{Change}
 use Rattle.kq_model.specs.declared.filter.Filter.{Filter}
+use Rattle.kq_model.specs.declared.record_kind.MemberType.TheVariants.{SideName}
+use Rattle.kq_model.specs.declared.side.Side.{Side}
 use Rattle.kq_model.specs.ChangeText.{change_list, filter_in, flags_in, is_change_list}
 use Rattle.kq_model.specs.Members.{has_member, i64_in, is_whole, member_count, optional, or_else, required, u32_in, u64_in}
-use Rattle.kq_model.specs.Names.{filter_named}
+use Rattle.kq_model.specs.Names.{filter_named, side_named}
+use Rattle.kq_model.specs.RecordText.{is_of, side_in}
 use Rattle.kq_line.specs.declared.found.Found.{Found}
 use Rattle.kq_line.specs.declared.piece.Piece.{Piece}
 use Rattle.kq_line.specs.declared.piece.Piece.TheVariants.{Number, Below, Name, Changes}
 use Rattle.kq_line.specs.Shows.{Agree, Holds, Shows, piece_in}
 use Rattle.kq_line.proofs.Letters.{same_name}
-use Rattle.kq_line.specs.Typed.{AreChanges, AreFlags, IsFilter, IsI64OrZero, IsText, IsU32, IsU32OrZero, IsU64, IsU64OrZero}
+use Rattle.kq_line.specs.Typed.{AreChanges, AreFlags, IsFilter, IsI64OrZero, IsSide, IsText, IsU32, IsU32OrZero, IsU64, IsU64OrZero}
 
 -- ---- the value of a member that was found
 
@@ -121,6 +124,11 @@ pub filter_found : (ms : Members) (name text : List ℕ) (filter : Filter) → I
 unfolding filter_in
 filter_found ms name text filter at named = record { there = ap is_some at; value = ap (option_and_then filter_in) at ∙ named }
 
+pub side_found : (ms : Members) (name text : List ℕ) (side : Side) → IsText ms name text → side_named text ≡ Some side → IsSide ms name side
+unfolding side_in is_of required
+side_found ms name text side at named =
+    record { there = ap (required (is_of SideName)) at ∙ ap is_some named; value = ap (option_and_then side_in) at ∙ named }
+
 pub flags_found : (found : Found) (name : List ℕ) (flags : ℕ) (p : Piece) → Some p ≡ piece_in found.members.items name
     → ((d : Data) → Holds found.changes.items p d → flags_in d ≡ Some flags) → (ms : Members) → Shows found ms → AreFlags ms name flags
 flags_found found name flags p is holds = λ ms shows.
@@ -149,6 +157,10 @@ unfolding Shows
 width_there found ms n shows is = is ∙ (shows found.changes.items (λ has. refl)).count
 
 -- ---- a name that is known
+
+pub known_alike : {A : Type 0} (named : List ℕ → Option A) (name other : List ℕ) (a : A) (b : Bool) → b ≡ true → b ≡ bytes_eq name other
+    → named other ≡ Some a → named name ≡ Some a
+known_alike named name other a b holds e known = ap named (same_name b name other holds e) ∙ known
 
 pub named_alike : (name other : List ℕ) (filter : Filter) (b : Bool) → b ≡ true → b ≡ bytes_eq name other → filter_named other ≡ Some filter → filter_named name ≡ Some filter
 named_alike name other filter b holds e known = ap filter_named (same_name b name other holds e) ∙ known
@@ -183,3 +195,8 @@ pub filter_tried : (found : Found) (name text : List ℕ) (o : Option Filter) �
     → IfSome o (λ filter. filter_named text ≡ Some filter) → IfSome o (λ filter. (ms : Members) → Shows found ms → IsFilter ms name filter)
 filter_tried found name text None at named = tt
 filter_tried found name text (Some filter) at named = λ ms shows. filter_found ms name text filter (at ms shows) named
+
+pub side_tried : (found : Found) (name text : List ℕ) (o : Option Side) → ((ms : Members) → Shows found ms → IsText ms name text)
+    → IfSome o (λ side. side_named text ≡ Some side) → IfSome o (λ side. (ms : Members) → Shows found ms → IsSide ms name side)
+side_tried found name text None at named = tt
+side_tried found name text (Some side) at named = λ ms shows. side_found ms name text side (at ms shows) named

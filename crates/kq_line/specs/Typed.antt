@@ -1,12 +1,18 @@
 -- What a typed look-up says of a member, in the words in which the reading of a record asks for it.
-use Rattle.std.specs.Prelude.{◌≡◌, ℕ, ℤ, pos, true, List, Some, codes, option_and_then}
+use Rattle.std.specs.Prelude.{◌≡◌, ℕ, ℤ, pos, true, List, Some, option_and_then}
 use Rattle.std.specs.Option.{is_some}
-use Rattle.serde_json.specs.Data.{Members, string}
+use Rattle.serde_json.specs.Data.{Members, object, string}
 use Rattle.serde_json.specs.Find.{get_member}
 use Rattle.kq_model.specs.declared.change.Change.{Change}
+use Rattle.kq_model.specs.declared.event.Event.{Event}
 use Rattle.kq_model.specs.declared.filter.Filter.{Filter}
+use Rattle.kq_model.specs.declared.record_kind.MemberType.TheVariants.{SideName}
+use Rattle.kq_model.specs.declared.record_kind.RecordKind.{RecordKind}
+use Rattle.kq_model.specs.declared.side.Side.{Side}
 use Rattle.kq_model.specs.ChangeText.{change_list, filter_in, flags_in, is_change_list}
+use Rattle.kq_model.specs.Kinds.{members_besides_op}
 use Rattle.kq_model.specs.Members.{i64_in, is_whole, optional, or_else, required, u32_in, u64_in}
+use Rattle.kq_model.specs.RecordText.{event_as, is_of, is_record, side_in}
 
 pub record IsU32 (ms : Members) (name : List ℕ) (n : ℕ) : Type 0 where
   pub there : is_some (get_member name ms) ≡ true
@@ -35,6 +41,10 @@ pub record IsFilter (ms : Members) (name : List ℕ) (filter : Filter) : Type 0 
   pub there : is_some (get_member name ms) ≡ true
   pub value : option_and_then filter_in (get_member name ms) ≡ Some filter
 
+pub record IsSide (ms : Members) (name : List ℕ) (side : Side) : Type 0 where
+  pub there : required (is_of SideName) (get_member name ms) ≡ true
+  pub value : option_and_then side_in (get_member name ms) ≡ Some side
+
 pub record AreFlags (ms : Members) (name : List ℕ) (bits : ℕ) : Type 0 where
   pub there : is_some (get_member name ms) ≡ true
   pub value : option_and_then flags_in (get_member name ms) ≡ Some bits
@@ -48,6 +58,7 @@ pub record AreChanges (ms : Members) (name : List ℕ) (changes : List Change) :
 abbrev pub IsText : Members → List ℕ → List ℕ → Type 0
 IsText ms name text = get_member name ms ≡ Some (string text)
 
--- the record is of this kind
-abbrev pub IsKind : Members → List ℕ → Type 0
-IsKind ms kind = IsText ms (codes "op") kind
+-- beside `op`, just the members of this kind, with the values of this event
+pub record IsRecord (kind : RecordKind) (ms : Members) (e : Event) : Type 0 where
+  pub typed : is_record (members_besides_op kind) (object ms) ≡ true
+  pub value : event_as kind (object ms) ≡ Some e

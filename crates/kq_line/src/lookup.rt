@@ -4,16 +4,16 @@
 ghost use Rattle.std.specs.Prelude.{◌≡◌, IfSome, Some, is_some};
 ghost use Rattle.serde_json.specs.Data.{Members};
 ghost use Rattle.kq_model.specs.Members.{has_member, member_count};
-ghost use Rattle.kq_model.specs.Names.{filter_named};
+ghost use Rattle.kq_model.specs.Names.{filter_named, side_named};
 ghost use Rattle.serde_json.specs.Data.{object};
 ghost use Rattle.kq_line.specs.Shows.{Shows, piece_in};
-ghost use Rattle.kq_line.specs.Typed.{AreChanges, AreFlags, IsFilter, IsI64OrZero, IsText, IsU32, IsU32OrZero, IsU64, IsU64OrZero};
+ghost use Rattle.kq_line.specs.Typed.{AreChanges, AreFlags, IsFilter, IsI64OrZero, IsSide, IsText, IsU32, IsU32OrZero, IsU64, IsU64OrZero};
 
 use crate::cursor::is;
 use crate::found::Found;
 use crate::numbers::{below, signed};
 use crate::piece::Piece;
-use kq_model::{Change, EvFlags, Filter};
+use kq_model::{Change, EvFlags, Filter, Side};
 
 impl<'a> Found<'a> {
     /// The piece of this name.
@@ -113,6 +113,13 @@ impl<'a> Found<'a> {
         filter_named(self.text_at(name)?)
     }
 
+    /// The side that the member names.
+    pub fn side_at(&self, name: &[u8]) -> Option<Side>
+        ensures { IfSome result (λ side. (ms : Members) → Shows self.now ms → IsSide ms name.now side) }
+    {
+        side_named(self.text_at(name)?)
+    }
+
     /// The flags that the member lists.
     pub fn flags_at(&self, name: &[u8]) -> Option<EvFlags>
         ensures { IfSome result (λ flags. (ms : Members) → Shows self.now ms → AreFlags ms name.now flags.0) }
@@ -179,6 +186,19 @@ fn left_out_filter_named(name: &[u8]) -> Option<Filter>
         Some(Filter::Sendfile)
     } else if is(name, b"EMPTY") {
         Some(Filter::Empty)
+    } else {
+        None
+    }
+}
+
+/// The side of this name.
+fn side_named(name: &[u8]) -> Option<Side>
+    ensures { IfSome result (λ side. side_named name.now ≡ Some side) }
+{
+    if is(name, b"read") {
+        Some(Side::Read)
+    } else if is(name, b"write") {
+        Some(Side::Write)
     } else {
         None
     }

@@ -2,25 +2,25 @@
 //!
 //! To add a kind, write
 //! - a function here that looks up each member by its type, tests that there are no others (`width` counts `op`
-//!   too) and makes the event, under the contract of `kqueue` with the kind's name; and its branch in [`event_from`];
-//! - in `proofs/RecordKinds.antt` a lemma that says which record these members are, in `proofs/records/` an answer
-//!   that cites it, and one for the branch;
+//!   too) and makes the event; its branches in [`kind_named`] and [`event_as`];
+//! - in `proofs/records/` an answer like that of `kqueue`, which says that each member is of its type, and one for
+//!   the branch of [`kind_named`];
 //! - for a member of a type that is new, a look-up in `lookup.rt`, what it says in `specs/Typed.antt`, and a lemma in
 //!   `proofs/LookUps.antt`. A kind of more than `MOST_MEMBERS` members needs that number raised.
 
-ghost use Rattle.std.specs.Prelude.{◌≡◌, IfSome, Some, Ok, codes};
+ghost use Rattle.std.specs.Prelude.{◌≡◌, IfSome, Some, Ok};
 ghost use Rattle.serde_json.specs.Data.{Members, object};
+ghost use Rattle.kq_model.specs.Kinds.{kind_named};
 ghost use Rattle.kq_model.specs.Reading.{event_of};
 ghost use Rattle.kq_line.specs.Shows.{Shows};
-ghost use Rattle.kq_line.specs.Typed.{IsKind};
+ghost use Rattle.kq_line.specs.Typed.{IsRecord};
 
 use crate::cursor::is;
 use crate::found::Found;
-use kq_model::{Event, Series};
+use kq_model::{Event, RecordKind, Series};
 
 fn proc(found: &Found) -> Option<Event>
-    ensures { IfSome result (λ e. (ms : Members) → Shows found.now ms → IsKind ms (codes "proc")
-        → event_of (Some (object ms)) ≡ Ok e) }
+    ensures { IfSome result (λ e. (ms : Members) → Shows found.now ms → IsRecord RecordKind.Proc ms e) }
 {
     let pid = found.u32_at(b"pid")?;
     if found.width() != 2 {
@@ -29,9 +29,30 @@ fn proc(found: &Found) -> Option<Event>
     Some(Event::Proc { pid })
 }
 
+fn fork(found: &Found) -> Option<Event>
+    ensures { IfSome result (λ e. (ms : Members) → Shows found.now ms → IsRecord RecordKind.Fork ms e) }
+{
+    let pid = found.u32_at(b"pid")?;
+    let child = found.u32_at(b"child")?;
+    if found.width() != 3 {
+        return None;
+    }
+    Some(Event::Fork { pid, child })
+}
+
+fn exit(found: &Found) -> Option<Event>
+    ensures { IfSome result (λ e. (ms : Members) → Shows found.now ms → IsRecord RecordKind.Exit ms e) }
+{
+    let pid = found.u32_at(b"pid")?;
+    let status = found.u32_at(b"status")?;
+    if found.width() != 3 {
+        return None;
+    }
+    Some(Event::Exit { pid, status })
+}
+
 fn kqueue(found: &Found) -> Option<Event>
-    ensures { IfSome result (λ e. (ms : Members) → Shows found.now ms → IsKind ms (codes "kqueue")
-        → event_of (Some (object ms)) ≡ Ok e) }
+    ensures { IfSome result (λ e. (ms : Members) → Shows found.now ms → IsRecord RecordKind.Kqueue ms e) }
 {
     let pid = found.u32_at(b"pid")?;
     let fd = found.u32_at(b"fd")?;
@@ -41,9 +62,190 @@ fn kqueue(found: &Found) -> Option<Event>
     Some(Event::Kqueue { pid, fd })
 }
 
+fn dup(found: &Found) -> Option<Event>
+    ensures { IfSome result (λ e. (ms : Members) → Shows found.now ms → IsRecord RecordKind.Dup ms e) }
+{
+    let pid = found.u32_at(b"pid")?;
+    let fd = found.u32_at(b"fd")?;
+    let to = found.u32_at(b"to")?;
+    if found.width() != 4 {
+        return None;
+    }
+    Some(Event::Dup { pid, fd, to })
+}
+
+fn close(found: &Found) -> Option<Event>
+    ensures { IfSome result (λ e. (ms : Members) → Shows found.now ms → IsRecord RecordKind.Close ms e) }
+{
+    let pid = found.u32_at(b"pid")?;
+    let fd = found.u32_at(b"fd")?;
+    if found.width() != 3 {
+        return None;
+    }
+    Some(Event::Close { pid, fd })
+}
+
+fn socket(found: &Found) -> Option<Event>
+    ensures { IfSome result (λ e. (ms : Members) → Shows found.now ms → IsRecord RecordKind.Socket ms e) }
+{
+    let pid = found.u32_at(b"pid")?;
+    let fd = found.u32_at(b"fd")?;
+    let rcv = found.u32_at(b"rcv")?;
+    let snd = found.u32_at(b"snd")?;
+    if found.width() != 5 {
+        return None;
+    }
+    Some(Event::Socket { pid, fd, rcv, snd })
+}
+
+fn listen(found: &Found) -> Option<Event>
+    ensures { IfSome result (λ e. (ms : Members) → Shows found.now ms → IsRecord RecordKind.Listen ms e) }
+{
+    let pid = found.u32_at(b"pid")?;
+    let fd = found.u32_at(b"fd")?;
+    let backlog = found.u32_at(b"backlog")?;
+    if found.width() != 4 {
+        return None;
+    }
+    Some(Event::Listen { pid, fd, backlog })
+}
+
+fn arrive(found: &Found) -> Option<Event>
+    ensures { IfSome result (λ e. (ms : Members) → Shows found.now ms → IsRecord RecordKind.Arrive ms e) }
+{
+    let pid = found.u32_at(b"pid")?;
+    let fd = found.u32_at(b"fd")?;
+    if found.width() != 3 {
+        return None;
+    }
+    Some(Event::Arrive { pid, fd })
+}
+
+fn accept(found: &Found) -> Option<Event>
+    ensures { IfSome result (λ e. (ms : Members) → Shows found.now ms → IsRecord RecordKind.Accept ms e) }
+{
+    let pid = found.u32_at(b"pid")?;
+    let fd = found.u32_at(b"fd")?;
+    let to = found.u32_at(b"to")?;
+    let rcv = found.u32_at(b"rcv")?;
+    let snd = found.u32_at(b"snd")?;
+    if found.width() != 6 {
+        return None;
+    }
+    Some(Event::Accept {
+        pid,
+        fd,
+        to,
+        rcv,
+        snd,
+    })
+}
+
+fn connect(found: &Found) -> Option<Event>
+    ensures { IfSome result (λ e. (ms : Members) → Shows found.now ms → IsRecord RecordKind.Connect ms e) }
+{
+    let pid = found.u32_at(b"pid")?;
+    let fd = found.u32_at(b"fd")?;
+    if found.width() != 3 {
+        return None;
+    }
+    Some(Event::Connect { pid, fd })
+}
+
+fn rx(found: &Found) -> Option<Event>
+    ensures { IfSome result (λ e. (ms : Members) → Shows found.now ms → IsRecord RecordKind.Rx ms e) }
+{
+    let pid = found.u32_at(b"pid")?;
+    let fd = found.u32_at(b"fd")?;
+    let n = found.u32_at(b"n")?;
+    if found.width() != 4 {
+        return None;
+    }
+    Some(Event::Rx { pid, fd, n })
+}
+
+fn tx(found: &Found) -> Option<Event>
+    ensures { IfSome result (λ e. (ms : Members) → Shows found.now ms → IsRecord RecordKind.Tx ms e) }
+{
+    let pid = found.u32_at(b"pid")?;
+    let fd = found.u32_at(b"fd")?;
+    let n = found.u32_at(b"n")?;
+    if found.width() != 4 {
+        return None;
+    }
+    Some(Event::Tx { pid, fd, n })
+}
+
+fn shut(found: &Found) -> Option<Event>
+    ensures { IfSome result (λ e. (ms : Members) → Shows found.now ms → IsRecord RecordKind.Shut ms e) }
+{
+    let pid = found.u32_at(b"pid")?;
+    let fd = found.u32_at(b"fd")?;
+    let side = found.side_at(b"side")?;
+    let error = found.u32_at(b"error")?;
+    if found.width() != 5 {
+        return None;
+    }
+    Some(Event::Shut {
+        pid,
+        fd,
+        side,
+        error,
+    })
+}
+
+fn lowat(found: &Found) -> Option<Event>
+    ensures { IfSome result (λ e. (ms : Members) → Shows found.now ms → IsRecord RecordKind.Lowat ms e) }
+{
+    let pid = found.u32_at(b"pid")?;
+    let fd = found.u32_at(b"fd")?;
+    let side = found.side_at(b"side")?;
+    let n = found.u32_at(b"n")?;
+    if found.width() != 5 {
+        return None;
+    }
+    Some(Event::Lowat { pid, fd, side, n })
+}
+
+fn pipe(found: &Found) -> Option<Event>
+    ensures { IfSome result (λ e. (ms : Members) → Shows found.now ms → IsRecord RecordKind.Pipe ms e) }
+{
+    let pid = found.u32_at(b"pid")?;
+    let rfd = found.u32_at(b"rfd")?;
+    let wfd = found.u32_at(b"wfd")?;
+    let cap = found.u32_at(b"cap")?;
+    if found.width() != 5 {
+        return None;
+    }
+    Some(Event::Pipe { pid, rfd, wfd, cap })
+}
+
+fn read(found: &Found) -> Option<Event>
+    ensures { IfSome result (λ e. (ms : Members) → Shows found.now ms → IsRecord RecordKind.Read ms e) }
+{
+    let pid = found.u32_at(b"pid")?;
+    let fd = found.u32_at(b"fd")?;
+    let n = found.u32_at(b"n")?;
+    if found.width() != 4 {
+        return None;
+    }
+    Some(Event::Read { pid, fd, n })
+}
+
+fn write(found: &Found) -> Option<Event>
+    ensures { IfSome result (λ e. (ms : Members) → Shows found.now ms → IsRecord RecordKind.Write ms e) }
+{
+    let pid = found.u32_at(b"pid")?;
+    let fd = found.u32_at(b"fd")?;
+    let n = found.u32_at(b"n")?;
+    if found.width() != 4 {
+        return None;
+    }
+    Some(Event::Write { pid, fd, n })
+}
+
 fn kevent(found: &Found) -> Option<Event>
-    ensures { IfSome result (λ e. (ms : Members) → Shows found.now ms → IsKind ms (codes "kevent")
-        → event_of (Some (object ms)) ≡ Ok e) }
+    ensures { IfSome result (λ e. (ms : Members) → Shows found.now ms → IsRecord RecordKind.Kevent ms e) }
 {
     let pid = found.u32_at(b"pid")?;
     let fd = found.u32_at(b"fd")?;
@@ -60,18 +262,84 @@ fn kevent(found: &Found) -> Option<Event>
     })
 }
 
+/// The kind of record of this name.
+fn kind_named(name: &[u8]) -> Option<RecordKind>
+    ensures { IfSome result (λ kind. kind_named name.now ≡ Some kind) }
+{
+    if is(name, b"kevent") {
+        Some(RecordKind::Kevent)
+    } else if is(name, b"read") {
+        Some(RecordKind::Read)
+    } else if is(name, b"write") {
+        Some(RecordKind::Write)
+    } else if is(name, b"rx") {
+        Some(RecordKind::Rx)
+    } else if is(name, b"tx") {
+        Some(RecordKind::Tx)
+    } else if is(name, b"arrive") {
+        Some(RecordKind::Arrive)
+    } else if is(name, b"accept") {
+        Some(RecordKind::Accept)
+    } else if is(name, b"close") {
+        Some(RecordKind::Close)
+    } else if is(name, b"socket") {
+        Some(RecordKind::Socket)
+    } else if is(name, b"connect") {
+        Some(RecordKind::Connect)
+    } else if is(name, b"listen") {
+        Some(RecordKind::Listen)
+    } else if is(name, b"shut") {
+        Some(RecordKind::Shut)
+    } else if is(name, b"lowat") {
+        Some(RecordKind::Lowat)
+    } else if is(name, b"pipe") {
+        Some(RecordKind::Pipe)
+    } else if is(name, b"dup") {
+        Some(RecordKind::Dup)
+    } else if is(name, b"fork") {
+        Some(RecordKind::Fork)
+    } else if is(name, b"exit") {
+        Some(RecordKind::Exit)
+    } else if is(name, b"kqueue") {
+        Some(RecordKind::Kqueue)
+    } else if is(name, b"proc") {
+        Some(RecordKind::Proc)
+    } else {
+        None
+    }
+}
+
+/// The record of this kind, where there are just its members.
+fn event_as(found: &Found, kind: RecordKind) -> Option<Event>
+    ensures { IfSome result (λ e. (ms : Members) → Shows found.now ms → IsRecord kind ms e) }
+{
+    match kind {
+        RecordKind::Proc => proc(found),
+        RecordKind::Fork => fork(found),
+        RecordKind::Exit => exit(found),
+        RecordKind::Kqueue => kqueue(found),
+        RecordKind::Dup => dup(found),
+        RecordKind::Close => close(found),
+        RecordKind::Socket => socket(found),
+        RecordKind::Listen => listen(found),
+        RecordKind::Arrive => arrive(found),
+        RecordKind::Accept => accept(found),
+        RecordKind::Connect => connect(found),
+        RecordKind::Rx => rx(found),
+        RecordKind::Tx => tx(found),
+        RecordKind::Shut => shut(found),
+        RecordKind::Lowat => lowat(found),
+        RecordKind::Pipe => pipe(found),
+        RecordKind::Read => read(found),
+        RecordKind::Write => write(found),
+        RecordKind::Kevent => kevent(found),
+    }
+}
+
 /// The record that has these members, and no further ones.
 pub fn event_from(found: &Found) -> Option<Event>
     ensures { IfSome result (λ e. (ms : Members) → Shows found.now ms → event_of (Some (object ms)) ≡ Ok e) }
 {
-    let op = found.text_at(b"op")?;
-    if is(op, b"kevent") {
-        kevent(found)
-    } else if is(op, b"kqueue") {
-        kqueue(found)
-    } else if is(op, b"proc") {
-        proc(found)
-    } else {
-        None
-    }
+    let kind = kind_named(found.text_at(b"op")?)?;
+    event_as(found, kind)
 }

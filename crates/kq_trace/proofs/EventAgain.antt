@@ -5,14 +5,18 @@ use Rattle.serde_json.specs.Data.{string}
 use Rattle.serde_json.specs.View.{items_of}
 use Rattle.kq_model.specs.declared.change.Change.{Change}
 use Rattle.kq_model.specs.declared.event.Event.{Event}
-use Rattle.kq_model.specs.declared.event.Event.TheVariants.{Proc, Kqueue, Kevent}
+use Rattle.kq_model.specs.declared.event.Event.TheVariants as event
 use Rattle.kq_model.specs.declared.filter.Filter.{Filter}
 use Rattle.kq_model.specs.declared.filter.Filter.TheVariants.{Read, Write, Vnode, Proc as ProcFilter, Signal, Timer, User, Aio, Lio, Fs, Procdesc, Sendfile, Empty}
+use Rattle.kq_model.specs.declared.side.Side.{Side}
+use Rattle.kq_model.specs.declared.side.Side.TheVariants as side
 use Rattle.kq_model.specs.ChangeText.{are_changes, change_list, change_of, change_with, changes_of, extra_width, filter_in, is_change, is_change_list, prepended}
 use Rattle.kq_model.specs.Members.{has_just, i64_in, is_whole, member_count, optional, or_else, required, shaped, u32_in, u64_in, width}
-use Rattle.kq_model.specs.Names.{filter_among, filter_name, filter_named}
-use Rattle.kq_model.specs.Reading.{event_by, event_of, header_version, is_kevent, is_kqueue, is_proc, is_version, kevent_of, kevent_with, kqueue_of, kqueue_with, proc_of, u32_at, version_in}
-use Rattle.kq_model.specs.Spelling.{change_data, header_data, integer, natural, record_data}
+use Rattle.kq_model.specs.Names.{filter_among, filter_name, filter_named, side_name, side_named}
+use Rattle.kq_model.specs.Kinds.{kind_among, kind_named}
+use Rattle.kq_model.specs.Reading.{event_by, event_of, header_version, is_version, version_in}
+use Rattle.kq_model.specs.RecordText.{changes_at, event_as, is_of, is_record, read_as, side_at, side_in, u32_at}
+use Rattle.kq_model.specs.Spelling.{change_data, header_data, integer, members_of, natural, record_data}
 use Rattle.kq_trace.specs.Again.{FitsChange, FitsChanges, FitsInteger, FitsRecord, HasNamedFlags, HaveNamedFlags, NamesItsFlags}
 use Rattle.kq_trace.proofs.FlagBits.{flags_again}
 
@@ -80,12 +84,32 @@ changes_again (c ∷ cs) fits named = rw (change_again c fits.0 named.0, changes
 
 -- ---- records
 
+side_again : (side : Side) → side_in (string (side_name side)) ≡ Some side
+unfolding side_in side_named
+side_again side.Read = refl
+side_again side.Write = refl
+
 pub event_again : (e : Event) → FitsRecord e → NamesItsFlags e → event_of (Some (record_data e)) ≡ Ok e
-unfolding event_of event_by record_data has_just width member_count required shaped is_proc proc_of is_kqueue kqueue_of kqueue_with is_kevent kevent_of kevent_with u32_at is_change_list change_list
-event_again (Proc pid) fits named = rw (whole_natural pid, u32_again pid fits) refl
-event_again (Kqueue pid fd) fits named = rw (whole_natural pid, whole_natural fd, u32_again pid fits.0, u32_again fd fits.1) refl
-event_again (Kevent pid fd changes room) fits named =
-    rw (whole_natural pid, whole_natural fd, are_changes_again changes named, whole_natural room, u32_again pid fits.0, u32_again fd fits.1, changes_again changes fits.2 named, u32_again room fits.3) refl
+unfolding event_of event_by kind_named kind_among read_as is_record is_of event_as u32_at side_at changes_at record_data members_of width member_count required shaped is_change_list change_list FitsRecord
+event_again (event.Proc pid) fits named = rw (whole_natural pid, u32_again pid fits.2.1) refl
+event_again (event.Fork pid child) fits named = rw (whole_natural pid, whole_natural child, u32_again pid fits.2.2.1, u32_again child fits.1) refl
+event_again (event.Exit pid status) fits named = rw (whole_natural pid, whole_natural status, u32_again pid fits.2.1, u32_again status fits.2.2.1) refl
+event_again (event.Kqueue pid fd) fits named = rw (whole_natural pid, whole_natural fd, u32_again pid fits.2.2.1, u32_again fd fits.1) refl
+event_again (event.Dup pid fd to) fits named = rw (whole_natural pid, whole_natural fd, whole_natural to, u32_again pid fits.2.2.1, u32_again fd fits.1, u32_again to fits.2.2.2.1) refl
+event_again (event.Close pid fd) fits named = rw (whole_natural pid, whole_natural fd, u32_again pid fits.2.2.1, u32_again fd fits.1) refl
+event_again (event.Socket pid fd rcv snd) fits named = rw (whole_natural pid, whole_natural fd, whole_natural rcv, whole_natural snd, u32_again pid fits.2.2.1, u32_again fd fits.1, u32_again rcv fits.2.2.2.1, u32_again snd fits.2.2.2.2.1) refl
+event_again (event.Listen pid fd backlog) fits named = rw (whole_natural pid, whole_natural fd, whole_natural backlog, u32_again pid fits.2.2.2.1, u32_again fd fits.2.1, u32_again backlog fits.1) refl
+event_again (event.Arrive pid fd) fits named = rw (whole_natural pid, whole_natural fd, u32_again pid fits.2.2.1, u32_again fd fits.1) refl
+event_again (event.Accept pid fd to rcv snd) fits named = rw (whole_natural pid, whole_natural fd, whole_natural to, whole_natural rcv, whole_natural snd, u32_again pid fits.2.2.1, u32_again fd fits.1, u32_again to fits.2.2.2.2.2.1, u32_again rcv fits.2.2.2.1, u32_again snd fits.2.2.2.2.1) refl
+event_again (event.Connect pid fd) fits named = rw (whole_natural pid, whole_natural fd, u32_again pid fits.2.2.1, u32_again fd fits.1) refl
+event_again (event.Rx pid fd n) fits named = rw (whole_natural pid, whole_natural fd, whole_natural n, u32_again pid fits.2.2.2.1, u32_again fd fits.1, u32_again n fits.2.1) refl
+event_again (event.Tx pid fd n) fits named = rw (whole_natural pid, whole_natural fd, whole_natural n, u32_again pid fits.2.2.2.1, u32_again fd fits.1, u32_again n fits.2.1) refl
+event_again (event.Shut pid fd side error) fits named = rw (whole_natural pid, whole_natural fd, side_again side, whole_natural error, u32_again pid fits.2.2.2.1, u32_again fd fits.2.1, u32_again error fits.1) refl
+event_again (event.Lowat pid fd side n) fits named = rw (whole_natural pid, whole_natural fd, side_again side, whole_natural n, u32_again pid fits.2.2.2.1, u32_again fd fits.1, u32_again n fits.2.1) refl
+event_again (event.Pipe pid rfd wfd cap) fits named = rw (whole_natural pid, whole_natural rfd, whole_natural wfd, whole_natural cap, u32_again pid fits.2.2.1, u32_again rfd fits.2.2.2.1, u32_again wfd fits.2.2.2.2.1, u32_again cap fits.1) refl
+event_again (event.Read pid fd n) fits named = rw (whole_natural pid, whole_natural fd, whole_natural n, u32_again pid fits.2.2.2.1, u32_again fd fits.1, u32_again n fits.2.1) refl
+event_again (event.Write pid fd n) fits named = rw (whole_natural pid, whole_natural fd, whole_natural n, u32_again pid fits.2.2.2.1, u32_again fd fits.1, u32_again n fits.2.1) refl
+event_again (event.Kevent pid fd changes room) fits named = rw (whole_natural pid, whole_natural fd, are_changes_again changes named, whole_natural room, u32_again pid fits.2.2.2.1, u32_again fd fits.2.1, changes_again changes fits.1 named, u32_again room fits.2.2.2.2.1) refl
 
 pub header_again : header_version (Some (header_data 1)) ≡ Some 1
 unfolding header_version has_just width member_count version_in is_version header_data natural

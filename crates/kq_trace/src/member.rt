@@ -5,7 +5,7 @@ ghost use Rattle.std.specs.List.{list_all};
 ghost use Rattle.serde_json.specs.Find.{get};
 ghost use Rattle.serde_json.specs.View.{view};
 ghost use Rattle.kq_model.specs.Members.{has_just, has_member, is_whole, i64_in, optional, or_else, required, u32_in, u64_in, width};
-ghost use Rattle.kq_model.specs.Reading.{u32_at};
+ghost use Rattle.kq_model.specs.RecordText.{u32_at};
 
 use serde_json::Value;
 
@@ -88,7 +88,7 @@ pub fn is_whole_at(value: &Value, name: &str) -> bool
 }
 
 /// The member, where it is a whole number of 32 bits.
-#[tactic(auto, unfolding(kq_model::specs::Reading::u32_at))]
+#[tactic(auto, unfolding(kq_model::specs::RecordText::u32_at))]
 pub fn u32_at(value: &Value, name: &str) -> Option<u32>
     ensures { result ≡ u32_at name.now (view value.now) }
 {

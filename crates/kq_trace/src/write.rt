@@ -5,7 +5,8 @@ ghost use Rattle.kq_model.specs.Reading.{Good, reading};
 ghost use Rattle.kq_model.specs.Spelling.{spelling};
 ghost use Rattle.kq_trace.specs.Again.{CanBeReadAgain};
 
-use crate::spell::{put_header, put_record};
+use crate::record_line::put_record;
+use crate::spell::put_header;
 use kq_model::{Memory, Trace};
 use std::alloc::Global;
 

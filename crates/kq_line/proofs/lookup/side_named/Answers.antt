@@ -1,0 +1,12 @@
+use Rattle.std.proofs.Common.{refl}
+use Rattle.kq_model.specs.Names.{side_named}
+use Rattle.kq_line.proofs.LookUps.{known_alike}
+use Rattle.kq_line.proofs.lookup.side_named.Goals as goal
+
+pub returns-then-is : goal.returns-then-is
+unfolding side_named
+returns-then-is c = known_alike side_named c.args.name.now _ _ _ c.if-is.true c.is.ensures refl
+
+pub returns-then-is-2 : goal.returns-then-is-2
+unfolding side_named
+returns-then-is-2 c = known_alike side_named c.args.name.now _ _ _ c.if-is-2.true c.is-else-is.ensures refl

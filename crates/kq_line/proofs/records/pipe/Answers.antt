@@ -1,0 +1,17 @@
+use Rattle.std.proofs.Common.{refl, sym, ◌∙◌}
+use Rattle.kq_model.specs.Members.{width}
+use Rattle.kq_model.specs.RecordText.{event_as, is_of, is_record, u32_at}
+use Rattle.kq_line.proofs.records.pipe.Goals as goal
+
+pub returns : goal.returns
+unfolding is_record is_of width event_as u32_at
+returns c = λ ms shows.
+    let pid = c.in_ok-pid.ensures ms shows in
+    let rfd = c.in_ok-rfd.ensures ms shows in
+    let wfd = c.in_ok-wfd.ensures ms shows in
+    let cap = c.in_ok-cap.ensures ms shows in
+    let count = sym (c.width.ensures ms shows) ∙ c.if-width-ne5.false in
+    record {
+      typed = rw (pid.whole, rfd.whole, wfd.whole, cap.whole, count) refl;
+      value = rw (pid.value, rfd.value, wfd.value, cap.value) refl;
+    }
