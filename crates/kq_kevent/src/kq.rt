@@ -49,6 +49,13 @@ impl Kq {
         }
     }
 
+    /// The pid of the process whose kqueue this is.
+    pub fn owner(&self) -> u32
+        ensures { result ≡ self.now.owner }
+    {
+        self.owner
+    }
+
     /// How many further knotes can be registered without memory.
     pub fn room(&self) -> usize
         ensures { result ≡ self.now.room }

@@ -15,7 +15,7 @@ use kq_model::{Change, Errno, EvFlags, Filter, Named, View};
 pub fn is_malformed(change: &Change) -> bool
     ensures { result ≡ is_malformed change.now }
 {
-    if change.filter != Filter::User {
+    if !matches!(change.filter, Filter::Read | Filter::Write | Filter::User) {
         return true;
     }
     asks(change.flags, EvFlags::ENABLE) && asks(change.flags, EvFlags::DISABLE)

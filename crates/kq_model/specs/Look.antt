@@ -19,6 +19,8 @@ pub record Seen : Type 0 where
 
 -- the filters that are simulated; all others are refused
 unfoldable pub is_simulated : Filter → Bool
+is_simulated Read = true
+is_simulated Write = true
 is_simulated User = true
 is_simulated _ = false
 

@@ -58,6 +58,13 @@ impl World {
         }
     }
 
+    /// Whether the pid names a live process.
+    pub fn is_live(&self, pid: u32) -> bool
+        ensures { result ≡ is_live pid (world_of self.now).processes }
+    {
+        self.processes.is_live(pid)
+    }
+
     /// What an open descriptor of a process names.
     #[tactic(auto, unfolding(kq_model::specs::World::named_by))]
     pub fn descriptor(&self, pid: u32, number: u32) -> Option<Named>

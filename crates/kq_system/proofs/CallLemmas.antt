@@ -5,14 +5,18 @@ use Rattle.std.specs.Map.{lookup, keys_of, set_value}
 use Rattle.std.proofs.lemmas.Bool.Decides.{nat_tests}
 use Rattle.std.proofs.lemmas.List.Elements.{All-weaker}
 use Rattle.kq_model.specs.declared.reply.Reply.{Reply}
+use Rattle.kq_kevent.specs.Owned.{caller}
+use Rattle.kq_model.specs.Call as kevent
+use Rattle.kq_model.specs.Caller.{Caller}
 use Rattle.kq_model.specs.Descriptors.{Descriptor}
 use Rattle.kq_model.specs.LiveKqueues.{NamesLive, has_live}
-use Rattle.kq_model.specs.Moment.{Moment, called_at}
+use Rattle.kq_model.specs.Moment.{Moment, called_at, caller_at}
 use Rattle.kq_model.specs.System.{answer, lived, stepped}
-use Rattle.kq_model.specs.Tallied.{Kqueue, Live}
+use Rattle.kq_model.specs.Tallied.{Called, Kqueue, Live}
+use Rattle.kq_model.specs.Views.{Views}
 use Rattle.kq_model.specs.World.{Call}
-use Rattle.kq_system.specs.SystemState.{AreOfVersion, AreUpTo, IsCalled, IsLive, NumberedKqueue, live_of}
-use Rattle.kq_system.proofs.QuietLemmas.{IsQuiet, called_one, called_other, lived_each}
+use Rattle.kq_system.specs.SystemState.{AreOfVersion, AreUpTo, IsCalled, IsLive, IsQuiet, NumberedKqueue, live_of}
+use Rattle.kq_system.proofs.QuietLemmas.{called_one, called_other, lived_each, unhappened}
 
 -- ---- what a look-up finds
 
@@ -268,3 +272,27 @@ pub keys_kept : (k : ℕ) (es : List (ℕ × NumberedKqueue)) (w : NumberedKqueu
     → keys_of (set_value (nat_eq k) es w) ≡ keys_of es
 keys_kept k [] w = refl
 keys_kept k (e ∷ es) w = keys_step k e es w (nat_eq k e.0) (keys_kept k es w)
+
+-- the kqueue's own call, and that of the moment
+pub call_at : (m : Moment) (c : Call) (v : NumberedKqueue) (views : Views) → IsQuiet m → m.views ≡ views
+    → v.kq.version ≡ m.version
+    → kevent.call (caller views v.kq) c.room c.changes v.kq.kq ≡ called_at v.kq.owner m c v.kq.kq
+unfolding called_at
+call_at m c v views quiet sees same =
+    ap₂ (λ (views : Views) (n : ℕ). let who : Caller = record { views = views; owner = v.kq.owner; version = n } in
+    kevent.call who c.room c.changes v.kq.kq)
+    (sym sees) same
+    ∙ ap (kevent.call (caller_at v.kq.owner m) c.room c.changes) (sym (unhappened m v.kq.owner v.kq.kq quiet))
+
+-- a call at a quiet moment, by the kqueue's own contract
+pub called_quiet : (m : Moment) (c : Call) (views : Views) (es : List (ℕ × NumberedKqueue)) (v w : NumberedKqueue)
+    (r : Reply) → IsQuiet m → m.views ≡ views → AreOfVersion m.version es → m.call ≡ Some c
+    → IsDistinct nat_eq (keys_of es) → lookup (nat_eq c.kqueue) es ≡ Some v → w.number ≡ v.number
+    → w.kq.owner ≡ v.kq.owner
+    → ◌≡◌ {A = Called} (record { kq = w.kq.kq; reply = r })
+    (kevent.call (caller views v.kq) c.room c.changes v.kq.kq)
+    → IsCalled m c (map live_of es) (map live_of (set_value (nat_eq c.kqueue) es w)) r
+called_quiet m c views es v w r quiet sees versions calls distinct found number owner does =
+    let same = call_at m c v views quiet sees (version_found m.version c.kqueue es v found versions) in
+    called_some m c quiet calls es v w r distinct found number owner
+    (ap (λ (done : Called). done.kq) (does ∙ same)) (ap (λ (done : Called). done.reply) (does ∙ same))

@@ -16,17 +16,7 @@ use Rattle.kq_model.specs.ProcessPlans.{plan_proc}
 use Rattle.kq_model.specs.Tallied.{World}
 use Rattle.kq_model.specs.World.{Plan, Impossible, Possible, idle, named_by, seen_world}
 use Rattle.kq_model.proofs.SeenWorld.{seen-counted}
-use Rattle.kq_system.specs.SystemState.{IsImpossible, call_plan, start_of}
-
-pub proc_used : (place pid : ℕ) (w : World) → was_used pid w.processes ≡ true
-    → plan place (Proc pid) w ≡ Impossible UsedPid
-unfolding plan plan_proc
-proc_used place pid w used = rw used refl
-
-pub proc_starts : (place pid : ℕ) (w : World) → was_used pid w.processes ≡ false
-    → plan place (Proc pid) w ≡ Possible (record idle { started = Some (start_of pid) })
-unfolding plan plan_proc
-proc_starts place pid w used = rw used refl
+use Rattle.kq_system.specs.SystemState.{IsImpossible, call_plan}
 
 pub kqueue_no_process : (place pid fd : ℕ) (w : World) → is_live pid w.processes ≡ false
     → plan place (Kqueue pid fd) w ≡ Impossible NoProcess

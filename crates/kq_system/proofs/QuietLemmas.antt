@@ -11,13 +11,9 @@ use Rattle.kq_model.specs.System.{lived, stepped}
 use Rattle.kq_model.specs.Tallied.{Knote, Kqueue, Live}
 use Rattle.kq_model.specs.Views.{Views}
 use Rattle.kq_model.specs.World.{Call}
+use Rattle.kq_system.specs.SystemState.{IsQuiet}
 
-pub record IsQuiet (m : Moment) : Type 0 where
-  pub closed : m.closed ≡ []
-  pub hints : m.hints ≡ []
-  pub clock : m.clock ≡ None
-
-all_kept : {X : Type 0} (p : X → Bool) (xs : List X) → ((x : X) → p x ≡ true) → filter p xs ≡ xs
+pub all_kept : {X : Type 0} (p : X → Bool) (xs : List X) → ((x : X) → p x ≡ true) → filter p xs ≡ xs
 all_kept p [] passes = refl
 all_kept p (x ∷ xs) passes = rw (passes x) (ap (λ l. x ∷ l) (all_kept p xs passes))
 
@@ -29,7 +25,7 @@ not_both : (b : Bool) → not (b && false) ≡ true
 not_both true = refl
 not_both false = refl
 
-closed_none : (owner : ℕ) (kq : Kqueue) → closed owner [] kq ≡ kq
+pub closed_none : (owner : ℕ) (kq : Kqueue) → closed owner [] kq ≡ kq
 unfolding closed
 closed_none owner kq =
     ap₂ (λ (ks : List Knote) (queue : List Key). let k : Kqueue = record { knotes = ks; queue = queue } in k)

@@ -25,7 +25,7 @@ pub rows-begin : (version : ℕ) (es : List Event) (s : System) → s ≡ empty_
 unfolding rows_by
 rows-begin version es s is = ap (λ (t : System). rows_after 1 t es) is ∙ sym (rows-tallied version es)
 
-drop_next : (es : List Event) (i : ℕ) (e : Event) → i < length es → e ≡ get_or es i e → drop i es ≡ e ∷ drop (i + 1) es
+pub drop_next : {X : Type 0} (es : List X) (i : ℕ) (e : X) → i < length es → e ≡ get_or es i e → drop i es ≡ e ∷ drop (i + 1) es
 drop_next es i e lt is = drop-cons es i e lt ∙ ap₂ (λ x n. x ∷ drop n es) (sym is) (sym (add-one i))
 
 rows_step : (es : List Event) (i : ℕ) (e : Event) (s : System) → i < length es → e ≡ get_or es i e

@@ -1,27 +1,27 @@
 -- One step of the system by its plan.
-use Rattle.std.proofs.Common.{◌≡◌, ◌∙◌, ℕ, List, [], ◌∷◌, ◌++◌, None, Some, refl, sym, ap, ap₂, subst, append-nil}
+use Rattle.std.proofs.Common.{◌≡◌, ◌∙◌, ℕ, List, [], ◌∷◌, ◌++◌, Option, None, Some, Result, Ok, Err, IsOk, refl, sym, ap, ap₂, subst, append-nil}
 use Rattle.kq_model.specs.declared.event.Event.{Event}
 use Rattle.kq_model.specs.declared.reply.Reply.{Reply}
 use Rattle.kq_model.specs.declared.reply.Reply.TheVariants as reply
 use Rattle.kq_model.specs.declared.why.Why.{Why}
-use Rattle.kq_kevent.specs.Owned.{caller}
-use Rattle.kq_model.specs.Call as kevent
-use Rattle.kq_model.specs.Caller.{Caller}
+use Rattle.kq_model.specs.Close.{Pair}
 use Rattle.kq_model.specs.Descriptors.{Descriptor, with_descriptors}
-use Rattle.kq_model.specs.Kqueue.{empty_kqueue}
 use Rattle.kq_model.specs.LiveKqueues.{AreAllLive}
-use Rattle.kq_model.specs.Moment.{Moment, called_at, caller_at, moment_of}
+use Rattle.kq_model.specs.Moment.{Moment, moment_of}
 use Rattle.kq_model.specs.Objects.{all_done}
 use Rattle.kq_model.specs.Plans.{plan}
 use Rattle.kq_model.specs.Processes.{with_process, without_process, with_disposition}
 use Rattle.kq_model.specs.System.{born, lived, reply_to, step, step_by}
 use Rattle.kq_model.specs.Tallied.{Live, System, World}
+use Rattle.kq_model.specs.Targets.{Posted}
 use Rattle.kq_model.specs.World.{Call, Impossible, Plan, Planned, Possible, carried_out, clock_after, idle, views_of, seen_world, with_kqueue}
-use Rattle.kq_model.specs.Views.{Views}
 use Rattle.kq_model.proofs.LiveKqueues.{step-live}
 use Rattle.kq_model.proofs.SeenWorld.{seen-counted}
-use Rattle.kq_system.specs.SystemState.{IsCalled, IsStep, NumberedKqueue, call_plan, start_of}
-use Rattle.kq_system.proofs.QuietLemmas.{IsQuiet, lived_none, none_closed, unhappened}
+use Rattle.kq_process.specs.declared.effect.Effect.{Effect}
+use Rattle.kq_process.specs.Effects.{IsEffectOf, pairs_in}
+use Rattle.kq_system.specs.SystemState.{IsCalled, IsQuiet, IsStep, call_plan, happened_to_all}
+use Rattle.kq_system.proofs.HappenLemmas.{IsTold, told_all}
+use Rattle.kq_system.proofs.QuietLemmas.{lived_none, none_closed}
 
 -- ---- steps by their plans
 
@@ -41,37 +41,16 @@ impossible place e s why is = by_plan place e (Impossible why) s s (reply.Imposs
 
 -- ---- the worlds that plans leave
 
-started_world : (place pid : ℕ) (w : World) → record w { processes = with_process (Some (start_of pid)) w.processes }
-    ≡ carried_out place (record idle { started = Some (start_of pid) }) w
-unfolding carried_out without_process with_disposition with_kqueue with_descriptors all_done clock_after
-started_world place pid w =
-    ap (λ (table : List Descriptor). record w {
-      processes = with_process
-          (Some (start_of pid)) w.processes;
-      table = table;
-    }) (sym (none_closed w.table))
-
-opened_world : (place pid number : ℕ) (w : World) → record w
-    { table = with_kqueue place (Some (record { pid = pid; number = number })) w.table }
-    ≡ carried_out place (record idle { born = Some (record { pid = pid; number = number }) }) w
-unfolding carried_out with_process without_process with_disposition with_descriptors all_done clock_after
-opened_world place pid number w =
-    ap (λ (table : List Descriptor). record w {
-      table = with_kqueue place
-          (Some (record { pid = pid; number = number })) table;
-    }) (sym (none_closed w.table))
-
 called_world : (place : ℕ) (c : Call) (w : World) → w ≡ carried_out place (call_plan c) w
 unfolding carried_out with_process without_process with_disposition with_kqueue with_descriptors all_done clock_after
 called_world place c w = ap (λ (table : List Descriptor). record w { table = table }) (sym (none_closed w.table))
 
 -- kqueues that are called see the world as it was
-called_views : (version place : ℕ) (c : Call) (w : World) → (moment_of version place (call_plan c) w).views ≡ views_of w
+pub called_views : (version place : ℕ) (c : Call) (w : World)
+    → (moment_of version place (call_plan c) w).views ≡ views_of w
 unfolding moment_of
 called_views version place c w = ap views_of (seen-counted (carried_out place (call_plan c) w)
     ∙ sym (called_world place c w))
-
--- ---- the three steps
 
 pub quiet_call : (version place : ℕ) (c : Call) (w : World) → IsQuiet (moment_of version place (call_plan c) w)
 unfolding moment_of
@@ -81,57 +60,12 @@ pub call_of : (version place : ℕ) (c : Call) (w : World) → (moment_of versio
 unfolding moment_of
 call_of version place c w = refl
 
-version_of : (version place : ℕ) (c : Call) (w : World) → (moment_of version place (call_plan c) w).version ≡ version
+pub version_of : (version place : ℕ) (c : Call) (w : World)
+    → (moment_of version place (call_plan c) w).version ≡ version
 unfolding moment_of
 version_of version place c w = refl
 
--- the kqueue's own call, and that of the moment
-pub call_at : (version place : ℕ) (c : Call) (w : World) (v : NumberedKqueue) → v.kq.version ≡ version
-    → kevent.call (caller (views_of w) v.kq) c.room c.changes v.kq.kq ≡ called_at v.kq.owner
-    (moment_of version place (call_plan c) w) c v.kq.kq
-unfolding called_at
-call_at version place c w v same =
-    let m : Moment = moment_of version place (call_plan c) w in
-    ap₂ (λ (views : Views) (n : ℕ). let who : Caller = record { views = views; owner = v.kq.owner; version = n } in
-    kevent.call who c.room c.changes v.kq.kq)
-    (sym (called_views version place c w)) (same ∙ sym (version_of version place c w))
-    ∙ ap (kevent.call (caller_at v.kq.owner m) c.room c.changes)
-    (sym (unhappened m v.kq.owner v.kq.kq (quiet_call version place c w)))
-
-pub started : (place pid : ℕ) (e : Event) (old : System) (world : World)
-    → plan place e old.world ≡ Possible (record idle { started = Some (start_of pid) })
-    → world ≡ record old.world { processes = with_process (Some (start_of pid)) old.world.processes }
-    → IsStep place e old (record old { world = world }) reply.Done
-unfolding step_by born reply_to moment_of
-started place pid e old world is new =
-    let p : Plan = record idle { started = Some (start_of pid) } in
-    by_plan place e (Possible p) old (record old { world = world }) reply.Done is (
-      ap₂ (λ (w : World) (ls : List Live). record old { world = w; live = ls })
-          (new ∙ started_world place pid old.world)
-          (sym (lived_none (moment_of old.version place p old.world) old.live
-          (record { closed = refl; hints = refl; clock = refl }) refl) ∙ sym (append-nil _)),
-      refl,
-    )
-
-pub opened : (place pid number : ℕ) (e : Event) (old : System) (world : World) (live : List Live)
-    → plan place e old.world ≡ Possible (record idle { born = Some (record { pid = pid; number = number }) })
-    → world ≡ record old.world {
-      table = with_kqueue place (Some (record { pid = pid; number = number }))
-          old.world.table;
-    }
-    → live ≡ old.live ++ record { place = place; owner = pid; number = number; kq = empty_kqueue } ∷ []
-    → IsStep place e old (record old { world = world; live = live }) reply.Done
-unfolding step_by born reply_to moment_of
-opened place pid number e old world live is new grown =
-    let p : Plan = record idle { born = Some (record { pid = pid; number = number }) } in
-    let one : List Live = record { place = place; owner = pid; number = number; kq = empty_kqueue } ∷ [] in
-    by_plan place e (Possible p) old (record old { world = world; live = live }) reply.Done is (
-      ap₂ (λ (w : World) (ls : List Live). record old { world = w; live = ls })
-          (new ∙ opened_world place pid number old.world)
-          (grown ∙ ap (λ ls. ls ++ one) (sym (lived_none (moment_of old.version place p old.world) old.live
-          (record { closed = refl; hints = refl; clock = refl }) refl))),
-      refl,
-    )
+-- ---- calls
 
 pub called : (place : ℕ) (e : Event) (c : Call) (old : System) (live : List Live) (r : Reply)
     → plan place e old.world ≡ Possible (call_plan c)
@@ -144,6 +78,89 @@ called place e c old live r is does =
           (does.0 ∙ sym (append-nil _)),
       does.1,
     )
+
+-- ---- effects and plans
+
+clash : {T E : Type 0} (r : Result T E) (e : E) → IsOk r → r ≡ Err e → ⊥
+clash (Ok x) e ok err = cc
+clash (Err x) e ok err = cc
+
+-- an effect that is refused is that of an impossible record
+pub refused : (planned : Planned) (e : Effect) (why : Why) → IsEffectOf planned e → e.verdict ≡ Err why
+    → planned ≡ Impossible why
+refused (Impossible other) e why is err =
+    let both : Err other ≡ Err why = sym is.verdict ∙ err in
+    let same : other ≡ why = cc in ap Impossible same
+refused (Possible p) e why is err = absurd (clash e.verdict why is.verdict err)
+
+-- what a possible record did
+pub record HasDone (planned : Planned) (closed : List Pair) (hints : List Posted) : Type 0 where
+  pub plan_is : Plan
+  pub is : planned ≡ Possible plan_is
+  pub closed_is : closed ≡ plan_is.closed
+  pub hints_is : hints ≡ plan_is.hints
+
+pub done : (planned : Planned) (e : Effect) → IsEffectOf planned e → IsOk e.verdict
+    → HasDone planned (pairs_in e.closed) e.hints
+done (Impossible why) e is ok = absurd (clash e.verdict why ok is.verdict)
+done (Possible p) e is ok = record { plan_is = p; is = refl; closed_is = is.closed; hints_is = is.hints }
+
+-- ---- a record that calls nothing
+
+-- what is told at the moment of such a plan
+told_at : (version place : ℕ) (p : Plan) (w w' : World) (closed : List Pair) (hints : List Posted)
+    → closed ≡ p.closed → hints ≡ p.hints → p.clock ≡ None → p.call ≡ None → w' ≡ carried_out place p w
+    → IsTold closed hints (views_of w') (moment_of version place p w)
+unfolding moment_of
+told_at version place p w w' closed hints same_closed same_hints clock call world = record {
+  closed_is = sym same_closed;
+  hints_is = sym same_hints;
+  views_is = ap views_of (seen-counted (carried_out place p w) ∙ sym world);
+  clock = clock;
+  call = call;
+}
+
+pub told : (place : ℕ) (e : Event) (p : Plan) (old : System) (w : World) (live : List Live) (closed : List Pair)
+    (hints : List Posted) → plan place e old.world ≡ Possible p
+    → closed ≡ p.closed → hints ≡ p.hints → p.clock ≡ None → p.call ≡ None → w ≡ carried_out place p old.world
+    → live ≡ happened_to_all closed hints (views_of w) old.live ++ born place p.born
+    → IsStep place e old (record old { world = w; live = live }) reply.Done
+unfolding step_by reply_to
+told place e p old w live closed hints is same_closed same_hints clock call world lives =
+    let m = moment_of old.version place p old.world in
+    let all = told_all closed hints (views_of w) m old.live
+    (told_at old.version place p old.world w closed hints same_closed same_hints clock call world) in
+    by_plan place e (Possible p) old (record old { world = w; live = live }) reply.Done is (
+      ap₂ (λ (w : World) (ls : List Live). record old { world = w; live = ls }) world
+          (lives ∙ ap (λ ls. ls ++ born place p.born) (sym all)),
+      ap (λ (c : Option Call). reply_to m c old.live) (sym call),
+    )
+
+-- ---- a kqueue that is made
+
+bears : (place pid number : ℕ) (e : Event) (old : System) (w : World) (live : List Live)
+    → plan place e old.world ≡ Possible (record idle { born = Some (record { pid = pid; number = number }) })
+    → w ≡ carried_out place (record idle { born = Some (record { pid = pid; number = number }) }) old.world
+    → live ≡ old.live ++ born place (Some (record { pid = pid; number = number }))
+    → IsStep place e old (record old { world = w; live = live }) reply.Done
+unfolding step_by reply_to moment_of
+bears place pid number e old w live planned world grown =
+    let q : Plan = record idle { born = Some (record { pid = pid; number = number }) } in
+    by_plan place e (Possible q) old (record old { world = w; live = live }) reply.Done planned (
+      ap₂ (λ (w : World) (ls : List Live). record old { world = w; live = ls }) world
+          (grown ∙ ap (λ ls. ls ++ born place q.born) (sym (lived_none (moment_of old.version place q old.world)
+          old.live (record { closed = refl; hints = refl; clock = refl }) refl))),
+      refl,
+    )
+
+pub opened : (place pid number : ℕ) (e : Event) (p : Plan) (old : System) (w : World) (live : List Live)
+    → plan place e old.world ≡ Possible p → p ≡ record idle { born = Some (record { pid = pid; number = number }) }
+    → w ≡ carried_out place p old.world
+    → live ≡ old.live ++ born place (Some (record { pid = pid; number = number }))
+    → IsStep place e old (record old { world = w; live = live }) reply.Done
+opened place pid number e p old w live planned is world grown =
+    bears place pid number e old w live (planned ∙ ap Possible is)
+    (world ∙ ap (λ (p : Plan). carried_out place p old.world) is) grown
 
 -- after a step a number that names a kqueue names a live one, where it did before
 pub stays_live : (place : ℕ) (e : Event) (old new : System) (r : Reply) → IsStep place e old new r → AreAllLive old

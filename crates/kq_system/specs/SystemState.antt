@@ -1,52 +1,31 @@
 -- The system of the code as contracts see it, and how its tables stand for the model's lists.
-use Rattle.std.specs.Prelude.{◌≡◌, ◌==◌, ◌≤◌, ℕ, true, List, [], ◌∷◌, map, Some}
+use Rattle.std.specs.Prelude.{◌≡◌, ◌==◌, ◌+◌, ◌≤◌, ℕ, Bool, true, not, List, [], ◌∷◌, map, filter, Some, None, All}
 use Rattle.std.specs.List.{list_any}
 use Rattle.std.specs.Map.{keys_of}
 use Rattle.kq_kevent.specs.Owned.{OwnedKqueue}
 use Rattle.kq_model.specs.declared.event.Event.{Event}
-use Rattle.kq_model.specs.declared.object.Named.{Named}
 use Rattle.kq_model.specs.declared.reply.Reply.{Reply}
 use Rattle.kq_model.specs.declared.why.Why.{Why}
-use Rattle.kq_model.specs.Descriptors.{Descriptor}
+use Rattle.kq_model.specs.Close.{Pair, IsNotClosed, closed, has_pair}
+use Rattle.kq_model.specs.CountedWorld.{IsCountedWorld}
+use Rattle.kq_model.specs.Hints.{notified}
 use Rattle.kq_model.specs.LiveKqueues.{AreAllLive}
 use Rattle.kq_model.specs.Moment.{Moment}
-use Rattle.kq_model.specs.Objects.{counted, no_objects}
 use Rattle.kq_model.specs.Plans.{plan}
-use Rattle.kq_model.specs.Processes.{Process, Start, started, ignores_none}
+use Rattle.kq_model.specs.Subjects.{HaveSubjects}
 use Rattle.kq_model.specs.System as system
 use Rattle.kq_model.specs.Tallied.{Live, System, World}
-use Rattle.kq_model.specs.World.{Call, Plan, Impossible, idle, seen_world}
-
--- ---- what contracts see of a world, and the world that it is
-
--- the pids that were ever used, each live, and the open descriptors, all in rising order
-pub record WorldState : Type 0 where
-  pub pids : List ℕ
-  pub table : List Descriptor
-
--- a process that starts and ignores no signal
-abbrev pub start_of : ℕ → Start
-start_of pid = record { pid = pid; ignores = ignores_none }
-
-abbrev pub live_process : ℕ → Process
-live_process pid = started (start_of pid)
-
--- no object was made, and the clock stands at its first moment
-abbrev pub world_with : List Process → List Descriptor → World
-world_with processes table = record { processes = processes; table = table; objects = no_objects counted; now = 0 }
-
-abbrev pub world_of : WorldState → World
-world_of w = world_with (map live_process w.pids) w.table
-
--- what a number of a process names
-abbrev pub descriptor_of : (ℕ × ℕ) × Named → Descriptor
-descriptor_of e = record { pid = e.0.0; number = e.0.1; named = e.1 }
+use Rattle.kq_model.specs.Targets.{Posted}
+use Rattle.kq_model.specs.Views.{Views}
+use Rattle.kq_model.specs.World.{Call, Plan, Impossible, Possible, idle, seen_world}
+use Rattle.kq_process.specs.declared.world.World as code
+use Rattle.kq_process.specs.World.{world_of}
 
 -- ---- what contracts see of a system, and the system that it is
 
 pub record SystemState : Type 0 where
   pub version : ℕ
-  pub world : WorldState
+  pub world : code.World
   pub live : List Live
   -- events so far
   pub applied : ℕ
@@ -64,7 +43,7 @@ abbrev pub live_of : ℕ × NumberedKqueue → Live
 live_of e = record { place = e.0; owner = e.1.kq.owner; number = e.1.number; kq = e.1.kq.kq }
 
 -- what is seen of the code's system with these tables
-abbrev pub state_of : ℕ → WorldState → List (ℕ × NumberedKqueue) → ℕ → SystemState
+abbrev pub state_of : ℕ → code.World → List (ℕ × NumberedKqueue) → ℕ → SystemState
 state_of version world live applied = record {
   version = version;
   world = world;
@@ -74,6 +53,10 @@ state_of version world live applied = record {
 
 -- ---- what calls promise
 
+-- nothing has changed
+abbrev pub IsUnchanged : SystemState → SystemState → Type 0
+IsUnchanged old new = (system_of new ≡ system_of old) × (new.applied ≡ old.applied)
+
 -- the event at this place takes the old system to the new one, with this reply
 abbrev pub IsStep : ℕ → Event → System → System → Reply → Type 0
 IsStep place event old new reply =
@@ -82,6 +65,15 @@ IsStep place event old new reply =
 -- the event can't happen at this place of this world
 abbrev pub IsImpossible : ℕ → Event → World → Type 0
 IsImpossible place event world = (why : Why) × (plan place event (seen_world world) ≡ Impossible why)
+
+-- the kqueue has no READ, WRITE or VNODE knote of one of these numbers of its process
+abbrev pub HasNoneOf : List Pair → Live → Type 0
+HasNoneOf pairs l = HaveSubjects (IsNotClosed l.owner pairs) l.kq.knotes
+
+-- after the event no kqueue has such a knote of a number that it closed, also where a duplicate stays open
+abbrev pub ClosesAll : ℕ → Event → System → System → Type 0
+ClosesAll place event old new =
+    (p : Plan) → plan place event (seen_world old.world) ≡ Possible p → All (HasNoneOf p.closed) new.live
 
 -- the plan of a call, and of nothing else
 abbrev pub call_plan : Call → Plan
@@ -95,6 +87,31 @@ IsCalled m c old new reply = (new ≡ system.lived m old) × (reply ≡ system.a
 abbrev pub IsLive : ℕ → List Live → Type 0
 IsLive place live = list_any (λ (l : Live). l.place == place) live ≡ true
 
+-- the record calls no kqueue, makes none and leaves the clock as it is, where it is possible
+pub record IsPlain (event : Event) : Type 0 where
+  pub call : (place : ℕ) (w : World) (p : Plan) → plan place event w ≡ Possible p → p.call ≡ None
+  pub born : (place : ℕ) (w : World) (p : Plan) → plan place event w ≡ Possible p → p.born ≡ None
+  pub clock : (place : ℕ) (w : World) (p : Plan) → plan place event w ≡ Possible p → p.clock ≡ None
+
+-- ---- what a record does to the kqueues
+
+-- a moment without closes, hints and clock
+pub record IsQuiet (m : Moment) : Type 0 where
+  pub closed : m.closed ≡ []
+  pub hints : m.hints ≡ []
+  pub clock : m.clock ≡ None
+
+-- a kqueue that goes on and is not called: closes, then hints
+abbrev pub happened_to : List Pair → List Posted → Views → Live → Live
+happened_to pairs hints views l = record l { kq = notified views hints (closed l.owner pairs l.kq) }
+
+-- one whose own number is closed ends
+abbrev pub goes_on : List Pair → Live → Bool
+goes_on pairs l = not (has_pair l.owner l.number pairs)
+
+abbrev pub happened_to_all : List Pair → List Posted → Views → List Live → List Live
+happened_to_all pairs hints views live = map (happened_to pairs hints views) (filter (goes_on pairs) live)
+
 -- ---- what every system of the code keeps
 
 -- the numbers are at most this one
@@ -107,10 +124,17 @@ abbrev pub AreOfVersion : ℕ → List (ℕ × NumberedKqueue) → Type 0
 AreOfVersion version [] = Unit {0}
 AreOfVersion version (e ∷ es) = (e.1.kq.version ≡ version) × AreOfVersion version es
 
-pub record IsLawful (version applied : ℕ) (world : WorldState) (live : List (ℕ × NumberedKqueue)) : Type 0 where
+-- no kqueue came, and those that stay go by the version that they went by
+pub record HaveStayed (old new : List (ℕ × NumberedKqueue)) : Type 0 where
+  pub of_version : (version : ℕ) → AreOfVersion version old → AreOfVersion version new
+  pub up_to : (most : ℕ) → AreUpTo most (keys_of old) → AreUpTo most (keys_of new)
+
+pub record IsLawful (version applied : ℕ) (world : code.World) (live : List (ℕ × NumberedKqueue)) : Type 0 where
   pub version_one : version ≡ 1
   pub of_version : AreOfVersion version live
   -- no place of birth is later than the last event
   pub born : AreUpTo applied (keys_of live)
   -- a number that names a kqueue names a live one, under this number and of this process
   pub all_live : AreAllLive (record { version = version; world = world_of world; live = map live_of live })
+  -- what descriptors name was made by earlier records, and is counted by them
+  pub counted : IsCountedWorld (applied + 1) (world_of world)

@@ -11,7 +11,7 @@ impl System {
     pub fn run(alloc: Global, trace: &Trace) -> Result<Vec<Row>, Memory>
         ensures { IfOk result (λ rs. rs.items ≡ rows trace.now.version trace.now.events) }
     {
-        let mut system = System::new(alloc, trace.version);
+        let mut system = System::new(alloc, trace.version)?;
         let mut rows = Vec::new(alloc);
         for event in trace.events.as_slice() {
             let reply = system.apply(event)?;

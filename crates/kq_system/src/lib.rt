@@ -2,8 +2,9 @@
 //! of a trace, and the rows of a whole trace.
 #![tactic(auto)]
 
+mod all_live;
 mod fold;
+mod live;
 mod system;
-mod world;
 
 pub use system::System;

@@ -1,27 +1,13 @@
-ghost use Rattle.std.specs.Prelude.{◌≡◌, ◌+◌, ◌-◌, ◌^◌, ◌<◌, ◌≤◌, ℕ, IfOk, IsOk, OnErr};
+ghost use Rattle.std.specs.Prelude.{◌≡◌, ◌+◌, ◌-◌, ◌^◌, ◌<◌, ℕ, true, None, Some, IfOk, IfSome, OnErr, OnOk};
+ghost use Rattle.kq_model.specs.declared.object.Named.TheVariants as named_as;
 
-use crate::world::World;
+use crate::all_live::{bear, call_on, happen_to_all, reserve_one};
+use crate::live::Live;
 use indexmap::IndexMap;
-use kq_kevent::Kq;
-use kq_model::limits::{MOST_CHANGES, MOST_ROOM};
-use kq_model::{Change, Event, Memory, Named, Reply, Why};
+use kq_model::{Change, Event, Memory, Named, Reply};
+use kq_process::World;
 use std::alloc::Global;
 use std::marker::Model;
-
-/// A live kqueue and the number under which its process opened it.
-#[derive(Drop)]
-struct Live {
-    number: u32,
-    kq: Kq,
-}
-
-impl Model for Live {
-    ghost use Rattle.kq_system.specs.SystemState.{NumberedKqueue};
-
-    ghost Value = { NumberedKqueue };
-
-    ghost view = { λ l. record { number = l.number; kq = l.kq } };
-}
 
 /// The simulated system: a world, and the live kqueues in order of birth. A number of a process that
 /// names a kqueue names a live one.
@@ -34,9 +20,13 @@ pub struct System {
 }
 
 impl Model for System {
+    ghost use Rattle.std.specs.Coded.{codes};
+    ghost use Rattle.kq_process.specs.contracts.world.World as code;
     ghost use Rattle.kq_system.specs.SystemState.{IsLawful, SystemState, state_of};
 
     ghost Value = { SystemState };
+
+    ghost coded = { Prim.hlevel (codes, code.the_row.coded) };
 
     ghost view = { λ s. state_of s.version s.world s.live.entries s.applied };
 
@@ -48,17 +38,17 @@ impl System {
     ghost use Rattle.kq_system.specs.SystemState.{system_of};
 
     /// The system before the first record of a trace of this version, which is 1.
-    pub fn new(alloc: Global, version: u32) -> Self
+    pub fn new(alloc: Global, version: u32) -> Result<Self, Memory>
         requires { version ≡ 1 }
-        ensures system { system_of result ≡ empty_system version }
-        ensures applied { result.applied ≡ 0 }
+        ensures system { IfOk result (λ s. system_of s ≡ empty_system version) }
+        ensures applied { IfOk result (λ s. s.applied ≡ 0) }
     {
-        System {
+        Ok(System {
             version,
-            world: World::new(alloc),
+            world: World::new(alloc)?,
             live: IndexMap::new(alloc),
             applied: 0,
-        }
+        })
     }
 
     /// How many events were applied.
@@ -69,90 +59,111 @@ impl System {
     }
 }
 
-impl System {
-    ghost use Rattle.kq_model.specs.Moment.{moment_of};
-    ghost use Rattle.kq_model.specs.World.{Call};
-    ghost use Rattle.kq_system.specs.SystemState.{IsCalled, IsImpossible, IsLive, IsStep, call_plan, system_of, world_of};
+/// The kqueue that a number names.
+fn kqueue_named(named: Option<Named>) -> Option<u64>
+    ensures found { IfSome result (λ kqueue. named ≡ Some (named_as.Kqueue kqueue)) }
+    ensures none { result ≡ None → (kqueue : ℕ) → named ≡ Some (named_as.Kqueue kqueue) → ⊥ }
+{
+    match named {
+        Some(Named::Kqueue(kqueue)) => Some(kqueue),
+        _ => None,
+    }
+}
 
-    /// Applies one event, and gives the reply to it.
+impl System {
+    ghost use Rattle.kq_model.specs.declared.event.Event.TheVariants as event_of;
+    ghost use Rattle.kq_model.specs.DescriptorPlans.{plan_kqueue};
+    ghost use Rattle.kq_model.specs.World.{Plan, Possible};
+    ghost use Rattle.kq_process.specs.World.{world_of};
+    ghost use Rattle.kq_system.specs.SystemState.{ClosesAll, IsPlain, IsStep, IsUnchanged, system_of};
+
+    /// Applies one event, and gives the reply to it. A record that is possible changes the world, then
+    /// closes, then tells the knotes, which see the world after the whole record.
     ///
-    /// After [`Memory`] nothing has changed; a record that is impossible takes no memory.
+    /// After [`Memory`] nothing has changed.
     pub fn apply(&mut self, event: &Event) -> Result<Reply, Memory>
         requires { self.old.applied < 2 ^ 31 - 1 }
         ensures reply { IfOk result
             (IsStep (self.old.applied + 1) event.now (system_of self.old) (system_of self.new)) }
+
+        // No kqueue keeps a knote of a number that was closed, also where a duplicate stays open.
+        ensures closed { OnOk result
+            (ClosesAll (self.old.applied + 1) event.now (system_of self.old) (system_of self.new)) }
         ensures applied { IfOk result (λ _. self.new.applied ≡ self.old.applied + 1) }
-        ensures impossible { IsImpossible (self.old.applied + 1) event.now (world_of self.old.world)
-            → IsOk result }
-        ensures memory { OnErr result (self.new ≡ self.old) }
+        ensures memory { OnErr result (IsUnchanged self.old self.new) }
     {
-        let place = self.applied + 1;
-        let reply = self.carry_out(place, event)?;
-        self.applied = place;
-        Ok(reply)
+        self.step(event)
     }
 
-    fn carry_out(&mut self, place: u64, event: &Event) -> Result<Reply, Memory>
-        requires { self.old.applied < place }
-        ensures reply { IfOk result (IsStep place event.now (system_of self.old) (system_of self.new)) }
-        ensures applied { self.new.applied ≤ place }
-        ensures impossible { IsImpossible place event.now (world_of self.old.world) → IsOk result }
-        ensures memory { OnErr result (self.new ≡ self.old) }
+    fn step(&mut self, event: &Event) -> Result<Reply, Memory>
+        requires { self.old.applied < 2 ^ 31 - 1 }
+        ensures reply { IfOk result
+            (IsStep (self.old.applied + 1) event.now (system_of self.old) (system_of self.new)) }
+        ensures applied { IfOk result (λ _. self.new.applied ≡ self.old.applied + 1) }
+        ensures memory { OnErr result (IsUnchanged self.old self.new) }
     {
         match event {
-            Event::Proc { pid } => self.start(*pid),
-            Event::Kqueue { pid, fd } => self.open(place, *pid, *fd),
+            Event::Kqueue { pid, fd } => self.open(event, *pid, *fd),
             Event::Kevent {
                 pid,
                 fd,
                 changes,
                 room,
             } => self.call(*pid, *fd, changes.as_slice(), *room),
+            _ => self.happen(event),
         }
     }
 
-    /// A process starts.
-    fn start(&mut self, pid: u32) -> Result<Reply, Memory>
-        ensures reply { (place : ℕ) → IfOk result
-            (IsStep place (Event.Proc pid) (system_of self.old) (system_of self.new)) }
-        ensures applied { self.new.applied ≡ self.old.applied }
-        ensures impossible { (place : ℕ) → IsImpossible place (Event.Proc pid) (world_of self.old.world)
-            → IsOk result }
-        ensures memory { OnErr result (self.new ≡ self.old) }
+    /// A record that opens no kqueue and calls none.
+    fn happen(&mut self, event: &Event) -> Result<Reply, Memory>
+        requires applied { self.old.applied < 2 ^ 31 - 1 }
+        requires plain { IsPlain event.now }
+        ensures reply { IfOk result
+            (IsStep (self.old.applied + 1) event.now (system_of self.old) (system_of self.new)) }
+        ensures applied { IfOk result (λ _. self.new.applied ≡ self.old.applied + 1) }
+        ensures memory { OnErr result (IsUnchanged self.old self.new) }
     {
-        if self.world.was_used(pid) {
-            return Ok(Reply::Impossible(Why::UsedPid));
+        let place = self.applied + 1;
+        let effect = self.world.apply(place, event)?;
+        self.applied = place;
+        if let Err(why) = effect.verdict {
+            return Ok(Reply::Impossible(why));
         }
-        self.world.start(pid)?;
+        happen_to_all(
+            &mut self.live,
+            effect.closed.as_slice(),
+            effect.hints.as_slice(),
+            &self.world,
+        );
         Ok(Reply::Done)
     }
 
-    /// A process opens a kqueue under a number that is not open.
-    fn open(&mut self, place: u64, pid: u32, number: u32) -> Result<Reply, Memory>
-        requires { self.old.applied < place }
-        ensures reply { IfOk result
-            (IsStep place (Event.Kqueue pid number) (system_of self.old) (system_of self.new)) }
-        ensures applied { self.new.applied ≤ place }
-        ensures impossible { IsImpossible place (Event.Kqueue pid number) (world_of self.old.world)
-            → IsOk result }
-        ensures memory { OnErr result (self.new ≡ self.old) }
+    /// Whether the process is live and the number is not open.
+    fn can_open(&self, pid: u32, number: u32) -> bool
+        ensures { (p : Plan) → plan_kqueue pid number (world_of self.now.world) ≡ Possible p → result ≡ true }
     {
-        if !self.world.is_live(pid) {
-            return Ok(Reply::Impossible(Why::NoProcess));
+        self.world.is_live(pid) && self.world.descriptor(pid, number).is_none()
+    }
+
+    /// A process opens a kqueue under a number that is not open.
+    fn open(&mut self, event: &Event, pid: u32, number: u32) -> Result<Reply, Memory>
+        requires applied { self.old.applied < 2 ^ 31 - 1 }
+        requires event { event.now ≡ event_of.Kqueue pid number }
+        ensures reply { IfOk result
+            (IsStep (self.old.applied + 1) event.now (system_of self.old) (system_of self.new)) }
+        ensures applied { IfOk result (λ _. self.new.applied ≡ self.old.applied + 1) }
+        ensures memory { OnErr result (IsUnchanged self.old self.new) }
+    {
+        let place = self.applied + 1;
+        let opens = self.can_open(pid, number);
+        reserve_one(&mut self.live, opens)?;
+        let effect = self.world.apply(place, event)?;
+        self.applied = place;
+        if let Err(why) = effect.verdict {
+            return Ok(Reply::Impossible(why));
         }
-        if self.world.named(pid, number).is_some() {
-            return Ok(Reply::Impossible(Why::UsedDescriptor));
-        }
-        let kq = Kq::new(*self.live.allocator(), pid);
-        self.live.reserve(1).map_err(|_| Memory)?;
-        self.world.open(place, pid, number)?;
-        match self.live.insert(place, Live { number, kq }) {
-            Ok(_) => {
-                self.applied = place;
-                Ok(Reply::Done)
-            }
-            Err(_) => unreachable!(),
-        }
+        bear(&mut self.live, place, pid, number);
+        Ok(Reply::Done)
     }
 
     /// A process calls kevent(2).
@@ -163,44 +174,23 @@ impl System {
         changes: &[Change],
         room: u32,
     ) -> Result<Reply, Memory>
-        ensures reply { (place : ℕ) → IfOk result
-            (IsStep place (Event.Kevent pid number changes.now room) (system_of self.old) (system_of self.new)) }
-        ensures applied { self.new.applied ≡ self.old.applied }
-        ensures impossible { (place : ℕ)
-            → IsImpossible place (Event.Kevent pid number changes.now room) (world_of self.old.world)
-            → IsOk result }
-        ensures memory { OnErr result (self.new ≡ self.old) }
+        requires { self.old.applied < 2 ^ 31 - 1 }
+        ensures reply { IfOk result (IsStep (self.old.applied + 1)
+            (event_of.Kevent pid number changes.now room) (system_of self.old) (system_of self.new)) }
+        ensures applied { IfOk result (λ _. self.new.applied ≡ self.old.applied + 1) }
+        ensures memory { OnErr result (IsUnchanged self.old self.new) }
     {
-        if !self.world.is_live(pid) {
-            return Ok(Reply::Impossible(Why::NoProcess));
+        let place = self.applied + 1;
+        let effect = self.world.kevent(pid, number, changes, room);
+        if let Err(why) = effect.verdict {
+            self.applied = place;
+            return Ok(Reply::Impossible(why));
         }
-        let Some(named) = self.world.named(pid, number) else {
-            return Ok(Reply::Impossible(Why::NoDescriptor));
-        };
-        let Named::Kqueue(kqueue) = named else {
-            return Ok(Reply::Impossible(Why::WrongKind));
-        };
-        if changes.len() > MOST_CHANGES || room > MOST_ROOM {
-            return Ok(Reply::Impossible(Why::TooMany));
-        }
-        self.call_on(kqueue, changes, room)
-    }
-
-    /// The call, on the live kqueue that was born at a place.
-    fn call_on(&mut self, kqueue: u64, changes: &[Change], room: u32) -> Result<Reply, Memory>
-        requires { IsLive kqueue self.old.live }
-        ensures reply { (place : ℕ) → IfOk result (λ reply.
-            let c : Call = record { kqueue = kqueue; changes = changes.now; room = room } in
-            IsCalled (moment_of self.old.version place (call_plan c) (world_of self.old.world)) c
-            self.old.live self.new.live reply) }
-        ensures version { self.new.version ≡ self.old.version }
-        ensures world { self.new.world ≡ self.old.world }
-        ensures applied { self.new.applied ≡ self.old.applied }
-        ensures memory { OnErr result (self.new ≡ self.old) }
-    {
-        let Some(live) = self.live.get_mut(&kqueue) else {
+        let Some(kqueue) = kqueue_named(self.world.descriptor(pid, number)) else {
             unreachable!();
         };
-        live.kq.call(changes, room, &self.world)
+        let reply = call_on(&mut self.live, kqueue, changes, room, &self.world)?;
+        self.applied = place;
+        Ok(reply)
     }
 }

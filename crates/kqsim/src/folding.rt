@@ -11,7 +11,7 @@ use std::alloc::Global;
 pub fn folded(alloc: Global, trace: &Trace) -> Result<Vec<u8>, Memory>
     ensures { IfOk result (λ text. text.items ≡ report_of trace.now.version trace.now.events) }
 {
-    let mut system = System::new(alloc, trace.version);
+    let mut system = System::new(alloc, trace.version)?;
     let mut text = ReportText::new(alloc);
     for event in trace.events.as_slice() {
         let reply = system.apply(event)?;

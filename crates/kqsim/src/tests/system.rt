@@ -5,7 +5,7 @@ use std::test::Fail;
 
 #[test]
 fn a_pid_is_used_once(rt: HostRuntime) -> Result<(), Fail> {
-    let mut system = System::new(rt.alloc(), 1);
+    let mut system = System::new(rt.alloc(), 1).map_err(|_| "memory")?;
     let first = system.apply(&Event::Proc { pid: 7 }).map_err(|_| "memory")?;
     assert!(rt; matches!(&first, Reply::Done));
     let second = system.apply(&Event::Proc { pid: 7 }).map_err(|_| "memory")?;

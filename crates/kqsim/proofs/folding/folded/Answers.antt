@@ -12,9 +12,9 @@ use Rattle.kqsim.proofs.folding.folded.Goals as goal
 pub loop-event-init : goal.loop-event-init
 loop-event-init c =
     let es = c.as_slice-event-items.result.now in (
-      ap₂ with_rows (rows-begin c.args.trace.now.version es (system_of c.new-system.result) c.new-system.ensures.system)
+      ap₂ with_rows (rows-begin c.args.trace.now.version es (system_of c.in_ok-system.system) c.in_ok-system.ensures.system)
           c.new-text.ensures,
-      c.new-system.ensures.applied,
+      c.in_ok-system.ensures.applied,
     )
 
 pub loop-event-preserved : goal.loop-event-preserved

@@ -1,18 +1,11 @@
-use Rattle.std.proofs.Common.{◌≤◌, ◌+◌, ap, sym, subst}
-use Rattle.indexmap.specs.IndexMap.{keys}
-use Rattle.kq_system.specs.SystemState.{SystemState}
-use Rattle.kq_system.proofs.CallLemmas.{up_to_more}
+use Rattle.std.proofs.Common.{◌+◌}
+use Rattle.std.proofs.lemmas.Result.{IfOk-weaker}
+use Rattle.kq_system.specs.SystemState.{system_of}
+use Rattle.kq_system.proofs.ClosedLemmas.{closes_all}
 use Rattle.kq_system.proofs.system.System.apply.Goals as goal
 
-pub invariant_of-self : goal.invariant_of-self
-invariant_of-self c =
-    let kept = c.self-2.invariant in
-    let least : c.self-2.inside.applied ≤ c.self.inside.applied + 1 =
-    subst (λ n. n ≤ c.self.inside.applied + 1) (ap (λ (s : SystemState). s.applied) (sym c.self-2.view_is))
-    c.carry_out.ensures.applied in
-    record {
-      version_one = kept.version_one;
-      of_version = kept.of_version;
-      born = up_to_more c.self-2.inside.applied (c.self.inside.applied + 1) (keys c.self-2.inside.live) least kept.born;
-      all_live = kept.all_live;
-    }
+pub returns-clause-closed : goal.returns-clause-closed
+returns-clause-closed c =
+    IfOk-weaker c.step.result _ _ (λ r steps.
+    closes_all (c.args.self.now.applied + 1) c.args.event.now (system_of c.args.self.now) (system_of c.step.new.self) r
+    steps) c.step.ensures.reply

@@ -1,116 +1,105 @@
-use Rattle.std.proofs.Common.{◌≡◌, ◌∙◌, ℕ, Some, map, length, refl, rules, sym, ap, subst}
-use Rattle.std.proofs.lemmas.Result.{IfOk-weaker}
+use Rattle.std.proofs.Common.{◌≡◌, ◌∙◌, ◌+◌, ℕ, IsOk, Some, map, refl, rules, sym, ap, subst}
 use Rattle.kq_model.specs.declared.event.Event.{Event}
 use Rattle.kq_model.specs.declared.event.Event.TheVariants.{Kevent}
 use Rattle.kq_model.specs.declared.object.Named.TheVariants as named
+use Rattle.kq_model.specs.declared.reply.Reply.{Reply}
 use Rattle.kq_model.specs.declared.reply.Reply.TheVariants as reply
-use Rattle.kq_model.specs.declared.why.Why.TheVariants.{NoProcess, NoDescriptor, TooMany, WrongKind}
-use Rattle.kq_model.specs.DescriptorPlans.{plan_call}
+use Rattle.kq_model.specs.DescriptorPlans.{plan_kevent}
+use Rattle.kq_model.specs.Moment.{Moment, moment_of}
 use Rattle.kq_model.specs.Plans.{plan}
-use Rattle.kq_model.specs.Tallied.{System}
-use Rattle.kq_model.specs.World.{Call, Possible, named_by}
+use Rattle.kq_model.specs.Tallied.{Live, System, World}
+use Rattle.kq_model.specs.World.{Call, Plan, Possible, named_by}
 use Rattle.kq_model.proofs.LiveKqueues.{named_among-live}
-use Rattle.kq_system.specs.SystemState.{IsImpossible, IsLive, IsStep, SystemState, WorldState, call_plan, live_of, state_of, system_of, world_of}
+use Rattle.kq_process.specs.World.{world_of}
+use Rattle.kq_system.specs.SystemState.{AreOfVersion, IsLawful, IsLive, IsStep, SystemState, call_plan, live_of, state_of, system_of}
 use Rattle.kq_system.proofs.CallLemmas.{live_by_place}
-use Rattle.kq_system.proofs.PlanLemmas.{calls, kevent_no_descriptor, kevent_no_process, kevent_on, not_impossible, not_too_many, too_many, too_many_asked, wrong_kind}
-use Rattle.kq_system.proofs.SystemLemmas.{called, impossible}
+use Rattle.kq_system.proofs.StepLemmas.{IsOn, call_planned, counted_later, kevent_plan, lawful_after, lawful_same, possible_call, stayed_same}
+use Rattle.kq_system.proofs.SystemLemmas.{HasDone, call_of, called, called_views, done, impossible, quiet_call, refused, stays_live, version_of}
 use Rattle.kq_system.proofs.system.System.call.Goals as goal
 
-pub returns-then-not-is_live-clause-reply : goal.returns-then-not-is_live-clause-reply
-returns-then-not-is_live-clause-reply c = λ place.
-    let e : Event = Kevent c.args.pid c.args.number c.args.changes.now c.args.room in
-    let old = state_of c.self.inside.version c.self.inside.world c.self.inside.live.entries c.self.inside.applied in
-    subst (λ (s : SystemState). IsStep place e (system_of s) (system_of s) (reply.Impossible NoProcess)) c.self.view_is
-    (impossible place e (system_of old) NoProcess
-    (kevent_no_process place c.args.pid c.args.number c.args.room c.args.changes.now (world_of old.world)
-    (sym c.is_live.ensures ∙ c.if-not-is_live.true)))
+pub invariant_of-self : goal.invariant_of-self
+invariant_of-self c =
+    let old = c.self.inside in
+    lawful_after old.version old.applied old.world old.world old.live.entries old.live.entries c.self.invariant
+    (stayed_same old.live.entries) c.self.invariant.all_live
+    (counted_later (old.applied + 1) (world_of old.world) c.self.invariant.counted)
 
-pub returns-in_default-clause-reply : goal.returns-in_default-clause-reply
-returns-in_default-clause-reply c = λ place.
+pub returns-in-Err-clause-reply : goal.returns-in-Err-clause-reply
+returns-in-Err-clause-reply c =
     let e : Event = Kevent c.args.pid c.args.number c.args.changes.now c.args.room in
-    let old = state_of c.self.inside.version c.self.inside.world c.self.inside.live.entries c.self.inside.applied in
-    subst (λ (s : SystemState). IsStep place e (system_of s) (system_of s) (reply.Impossible NoDescriptor))
+    let old : SystemState = state_of c.self.inside.version c.self.inside.world c.self.inside.live.entries
+    c.self.inside.applied in
+    let w = world_of c.self.inside.world in
+    subst (λ (s : SystemState). IsStep (s.applied + 1) e (system_of s) (system_of old) (reply.Impossible c.in-Err.why))
     c.self.view_is
-    (impossible place e (system_of old) NoDescriptor (kevent_no_descriptor place c.args.pid c.args.number c.args.room
-    c.args.changes.now (world_of old.world)
-    (sym c.is_live.ensures ∙ c.if-not-is_live.false) (sym c.in_default.ensures)))
+    (impossible (old.applied + 1) e (system_of old) c.in-Err.why
+    (kevent_plan (old.applied + 1) c.args.pid c.args.number c.args.room c.args.changes.now w
+    ∙ refused (plan_kevent c.args.pid c.args.number c.args.changes.now c.args.room w) c.kevent-effect.result
+    c.in-Err.why c.kevent-effect.ensures.effect c.in-Err.is))
 
-pub returns-in_default-named : goal.returns-in_default-named
-returns-in_default-named c =
-    let e : Event = Kevent c.args.pid c.args.number c.args.changes.now c.args.room in
-    let old = state_of c.self.inside.version c.self.inside.world c.self.inside.live.entries c.self.inside.applied in
-    record {
-      reply = λ place. subst (λ (s : SystemState). IsStep place e (system_of s) (system_of s)
-          (reply.Impossible WrongKind)) c.self.view_is
-          (impossible place e (system_of old) WrongKind
-          (kevent_on place c.args.pid c.args.number c.args.room c.args.changes.now (world_of old.world) c.in-Some.named
-          (sym c.is_live.ensures ∙ c.if-not-is_live.false) (sym c.in-Some.ensures)
-          ∙ wrong_kind c.args.changes.now c.args.room c.in-Some.named c.in_default-named.not-Kqueue));
-      applied = refl;
-      impossible = λ place none. search rules;
-      memory = search rules;
-    }
-
-pub returns-then-changes-gt-MOST_CHANGES-clause-reply : goal.returns-then-changes-gt-MOST_CHANGES-clause-reply
-returns-then-changes-gt-MOST_CHANGES-clause-reply c = λ place.
-    let e : Event = Kevent c.args.pid c.args.number c.args.changes.now c.args.room in
-    let old = state_of c.self.inside.version c.self.inside.world c.self.inside.live.entries c.self.inside.applied in
-    subst (λ (s : SystemState). IsStep place e (system_of s) (system_of s) (reply.Impossible TooMany)) c.self.view_is
-    (impossible place e (system_of old) TooMany
-    (kevent_on place c.args.pid c.args.number c.args.room c.args.changes.now (world_of old.world) c.in-Some.named
-    (sym c.is_live.ensures ∙ c.if-not-is_live.false) (sym c.in-Some.ensures)
-    ∙ ap (plan_call c.args.changes.now c.args.room) c.in-Kqueue.is
-    ∙ too_many_asked c.args.changes.now c.args.room c.in-Kqueue.kqueue
-    (too_many (length c.args.changes.now) c.args.room c.then-changes-gt-MOST_CHANGES.either)))
+-- the call is on what the number names
+pub unreachable-requires : goal.unreachable-requires
+unreachable-requires c =
+    let w = world_of c.self.inside.world in
+    let ok : IsOk c.kevent-effect.result.verdict = subst IsOk (sym c.in_default.is) refl in
+    let d = done (plan_kevent c.args.pid c.args.number c.args.changes.now c.args.room w) c.kevent-effect.result
+    c.kevent-effect.ensures.effect ok in
+    let on = possible_call c.args.pid c.args.number c.args.room c.args.changes.now w d.plan_is d.is in
+    c.kqueue_named.ensures.none c.in_default-kqueue_named.is on.kqueue (c.descriptor.ensures ∙ on.there)
 
 pub call_on-requires : goal.call_on-requires
 unfolding named_by
 call_on-requires c =
     let live = map live_of c.self.inside.live.entries in
-    let named : named_by c.args.pid c.args.number (world_of c.self.inside.world) ≡ Some
-    (named.Kqueue c.in-Kqueue.kqueue) =
-    sym c.in-Some.ensures ∙ ap Some c.in-Kqueue.is in
-    subst (λ (s : SystemState). IsLive c.in-Kqueue.kqueue s.live) c.self.view_is
-    (live_by_place c.in-Kqueue.kqueue c.args.pid c.args.number live
-    (named_among-live live c.args.pid c.args.number c.in-Kqueue.kqueue c.self.inside.world.table
-    c.self.invariant.all_live named))
+    live_by_place c.in-Some.kqueue c.args.pid c.args.number live
+    (named_among-live live c.args.pid c.args.number c.in-Some.kqueue (world_of c.self.inside.world).table
+    c.self.invariant.all_live (sym c.descriptor.ensures ∙ c.in-Some.ensures.found))
+
+pub invariant_of-self-in_err-reply : goal.invariant_of-self-in_err-reply
+invariant_of-self-in_err-reply c =
+    let old = c.self.inside in
+    lawful_same old.version old.applied old.world old.live.entries c.call_on.new.live.entries c.self.invariant
+    c.in_err-reply.ensures.stayed c.in_err-reply.ensures.memory
+
+pub invariant_of-self-2 : goal.invariant_of-self-2
+invariant_of-self-2 c =
+    let old = c.self.inside in
+    let s : SystemState = state_of old.version old.world old.live.entries old.applied in
+    let w = world_of old.world in
+    let place = old.applied + 1 in
+    let e : Event = Kevent c.args.pid c.args.number c.args.changes.now c.args.room in
+    let call : Call = record { kqueue = c.in-Some.kqueue; changes = c.args.changes.now; room = c.args.room } in
+    let m = moment_of old.version place (call_plan call) w in
+    let ok : IsOk c.kevent-effect.result.verdict = subst IsOk (sym c.in_default.is) refl in
+    let planned = call_planned place c.args.pid c.args.number c.args.room c.args.changes.now w c.kevent-effect.result
+    c.in-Some.kqueue c.kevent-effect.ensures.effect ok (sym c.descriptor.ensures ∙ c.in-Some.ensures.found) in
+    let does = c.in_ok-reply.ensures.called m (quiet_call old.version place call w)
+    (called_views old.version place call w)
+    (subst (λ v. AreOfVersion v old.live.entries) (sym (version_of old.version place call w))
+    c.self.invariant.of_version) (call_of old.version place call w) in
+    let steps = called place e call (system_of s) (map live_of c.call_on.new.live.entries) c.in_ok-reply.reply planned
+    does in
+    lawful_after old.version old.applied old.world old.world old.live.entries c.call_on.new.live.entries
+    c.self.invariant c.in_ok-reply.ensures.stayed
+    (stays_live place e (system_of s) _ c.in_ok-reply.reply steps c.self.invariant.all_live)
+    (counted_later place w c.self.invariant.counted)
 
 pub returns-clause-reply : goal.returns-clause-reply
-returns-clause-reply c = λ place.
+returns-clause-reply c =
+    let old = c.self.inside in
+    let s : SystemState = state_of old.version old.world old.live.entries old.applied in
+    let w = world_of old.world in
+    let place = old.applied + 1 in
     let e : Event = Kevent c.args.pid c.args.number c.args.changes.now c.args.room in
-    let call : Call = record { kqueue = c.in-Kqueue.kqueue; changes = c.args.changes.now; room = c.args.room } in
-    let now : System = system_of c.args.self.now in
-    let new = c.call_on.new.self in
-    let planned = kevent_on place c.args.pid c.args.number c.args.room c.args.changes.now
-    (world_of c.self.inside.world) c.in-Some.named
-    (sym c.is_live.ensures ∙ c.if-not-is_live.false) (sym c.in-Some.ensures)
-    ∙ ap (plan_call c.args.changes.now c.args.room) c.in-Kqueue.is
-    ∙ calls c.args.changes.now c.args.room c.in-Kqueue.kqueue
-    (not_too_many (length c.args.changes.now) c.args.room c.if-changes-gt-MOST_CHANGES.false
-    c.if-room-gt-MOST_ROOM.false) in
-    let plan_now = subst (λ (s : SystemState). plan place e (world_of s.world) ≡ Possible (call_plan call))
-    c.self.view_is planned in
-    IfOk-weaker c.call_on.result _ _ (λ r does.
-    subst (λ (v : ℕ). IsStep place e now (record { version = v; world = world_of new.world; live = new.live }) r)
-    (sym c.call_on.ensures.version)
-    (subst (λ (w : WorldState). IsStep place e now (record {
-      version = now.version;
-      world = world_of w;
-      live = new.live;
-    }) r) (sym c.call_on.ensures.world)
-    (called place e call now new.live r plan_now does)))
-    (c.call_on.ensures.reply place)
-
-pub returns-clause-impossible : goal.returns-clause-impossible
-returns-clause-impossible c = λ place none.
-    let e : Event = Kevent c.args.pid c.args.number c.args.changes.now c.args.room in
-    let call : Call = record { kqueue = c.in-Kqueue.kqueue; changes = c.args.changes.now; room = c.args.room } in
-    let w = world_of c.self.inside.world in
-    absurd (not_impossible place e w (call_plan call)
-    (kevent_on place c.args.pid c.args.number c.args.room c.args.changes.now w c.in-Some.named
-    (sym c.is_live.ensures ∙ c.if-not-is_live.false) (sym c.in-Some.ensures)
-    ∙ ap (plan_call c.args.changes.now c.args.room) c.in-Kqueue.is
-    ∙ calls c.args.changes.now c.args.room c.in-Kqueue.kqueue
-    (not_too_many (length c.args.changes.now) c.args.room c.if-changes-gt-MOST_CHANGES.false
-    c.if-room-gt-MOST_ROOM.false))
-    (subst (λ (s : SystemState). IsImpossible place e (world_of s.world)) (sym c.self.view_is) none))
+    let call : Call = record { kqueue = c.in-Some.kqueue; changes = c.args.changes.now; room = c.args.room } in
+    let m = moment_of old.version place (call_plan call) w in
+    let ok : IsOk c.kevent-effect.result.verdict = subst IsOk (sym c.in_default.is) refl in
+    let planned = call_planned place c.args.pid c.args.number c.args.room c.args.changes.now w c.kevent-effect.result
+    c.in-Some.kqueue c.kevent-effect.ensures.effect ok (sym c.descriptor.ensures ∙ c.in-Some.ensures.found) in
+    let does = c.in_ok-reply.ensures.called m (quiet_call old.version place call w)
+    (called_views old.version place call w)
+    (subst (λ v. AreOfVersion v old.live.entries) (sym (version_of old.version place call w))
+    c.self.invariant.of_version) (call_of old.version place call w) in
+    subst (λ (now : SystemState). IsStep (now.applied + 1) e (system_of now)
+    (record (system_of s) { live = map live_of c.call_on.new.live.entries }) c.in_ok-reply.reply) c.self.view_is
+    (called place e call (system_of s) (map live_of c.call_on.new.live.entries) c.in_ok-reply.reply planned does)

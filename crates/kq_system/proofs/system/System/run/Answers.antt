@@ -7,9 +7,9 @@ use Rattle.kq_system.proofs.system.System.run.Goals as goal
 pub loop-event-init : goal.loop-event-init
 loop-event-init c =
     let es = c.as_slice-event-items.result.now in (
-      ap (λ l. l ++ rows_after 1 (system_of c.new-system.result) es) c.new-rows.ensures.items
-          ∙ rows-begin c.args.trace.now.version es (system_of c.new-system.result) c.new-system.ensures.system,
-      c.new-system.ensures.applied,
+      ap (λ l. l ++ rows_after 1 (system_of c.in_ok-system.system) es) c.new-rows.ensures.items
+          ∙ rows-begin c.args.trace.now.version es (system_of c.in_ok-system.system) c.in_ok-system.ensures.system,
+      c.in_ok-system.ensures.applied,
     )
 
 pub loop-event-preserved : goal.loop-event-preserved

@@ -1,0 +1,89 @@
+ghost use Rattle.std.specs.Prelude.{◌≡◌, ◌==◌, ◌&&◌, ◌∷◌, [], not, true};
+ghost use Rattle.kq_model.specs.Close.{closed, has_pair};
+ghost use Rattle.kq_model.specs.Hints.{notified};
+ghost use Rattle.kq_process.specs.Effects.{pair_of, pairs_in};
+
+use kq_filters::Views;
+use kq_kevent::Kq;
+use kq_model::{Hint, Target};
+use std::marker::Model;
+
+/// A live kqueue and the number under which its process opened it.
+#[derive(Drop)]
+pub struct Live {
+    pub number: u32,
+    pub kq: Kq,
+}
+
+impl Model for Live {
+    ghost use Rattle.kq_system.specs.SystemState.{NumberedKqueue};
+
+    ghost Value = { NumberedKqueue };
+
+    ghost view = { λ l. record { number = l.number; kq = l.kq } };
+}
+
+impl Live {
+    /// A record that does not call this kqueue: whether it goes on, which it does unless its own number
+    /// was closed. The knotes of the numbers that were closed in its process are gone, and then the others
+    /// hear the hints.
+    pub fn happen<V: Views>(
+        &mut self,
+        pairs: &[(u32, u32)],
+        hints: &[(Target, Hint)],
+        views: &V,
+    ) -> bool
+        ensures goes_on { result ≡ not (has_pair self.old.kq.owner self.old.number (pairs_in pairs.now)) }
+        ensures kq { result ≡ true → self.new.kq.kq ≡ notified (V.sees views.now) hints.now
+            (closed self.old.kq.owner (pairs_in pairs.now) self.old.kq.kq) }
+        ensures number { self.new.number ≡ self.old.number }
+        ensures owner { self.new.kq.owner ≡ self.old.kq.owner }
+        ensures version { self.new.kq.version ≡ self.old.kq.version }
+    {
+        if is_closed(self.kq.owner(), self.number, pairs) {
+            return false;
+        }
+        close(&mut self.kq, pairs);
+        self.kq.notify(hints, views);
+        true
+    }
+}
+
+/// Whether a number of a process is among these.
+fn is_closed(pid: u32, number: u32, pairs: &[(u32, u32)]) -> bool
+    ensures { result ≡ has_pair pid number (pairs_in pairs.now) }
+{
+    for pair in pairs {
+        if is_pair(*pair, pid, number) {
+            return true;
+        }
+    }
+    false
+}
+
+fn is_pair(pair: (u32, u32), pid: u32, number: u32) -> bool
+    ensures { result ≡ ((pair.0 == pid) && (pair.1 == number)) }
+{
+    pair.0 == pid && pair.1 == number
+}
+
+/// These numbers, each of its process, were closed.
+fn close(kq: &mut Kq, pairs: &[(u32, u32)])
+    ensures kq { kq.new.kq ≡ closed kq.old.owner (pairs_in pairs.now) kq.old.kq }
+    ensures owner { kq.new.owner ≡ kq.old.owner }
+    ensures version { kq.new.version ≡ kq.old.version }
+{
+    for pair in pairs {
+        close_one(kq, *pair);
+    }
+}
+
+fn close_one(kq: &mut Kq, pair: (u32, u32))
+    ensures kq { kq.new.kq ≡ closed kq.old.owner (pair_of pair ∷ []) kq.old.kq }
+    ensures owner { kq.new.owner ≡ kq.old.owner }
+    ensures version { kq.new.version ≡ kq.old.version }
+{
+    if pair.0 == kq.owner() {
+        kq.closed(pair.1);
+    }
+}
