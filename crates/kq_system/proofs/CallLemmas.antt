@@ -1,15 +1,13 @@
 -- A call in the table of live kqueues: the one that is called makes its step in its place.
 use Rattle.std.proofs.Common.{◌≡◌, ◌∙◌, ◌==◌, ◌||◌, ◌&&◌, ◌<◌, ◌≤◌, ◌++◌, ℕ, Bool, true, false, nat_eq, List, [], ◌∷◌, map, Option, None, Some, refl, sym, ap, ap₂, cond, arith}
-use Rattle.std.specs.List.{AllByRecursion, All, IsDistinct, list_any}
+use Rattle.std.specs.List.{AllByRecursion, IsDistinct, list_any}
 use Rattle.std.specs.Map.{lookup, keys_of, set_value}
 use Rattle.std.proofs.lemmas.Bool.Decides.{nat_tests}
-use Rattle.std.proofs.lemmas.List.Elements.{All-weaker}
 use Rattle.kq_model.specs.declared.reply.Reply.{Reply}
 use Rattle.kq_kevent.specs.Owned.{caller}
 use Rattle.kq_model.specs.Call as kevent
 use Rattle.kq_model.specs.Caller.{Caller}
-use Rattle.kq_model.specs.Descriptors.{Descriptor}
-use Rattle.kq_model.specs.LiveKqueues.{NamesLive, has_live}
+use Rattle.kq_model.specs.LiveKqueues.{has_live}
 use Rattle.kq_model.specs.Moment.{Moment, called_at, caller_at}
 use Rattle.kq_model.specs.System.{answer, lived, stepped}
 use Rattle.kq_model.specs.Tallied.{Called, Kqueue, Live}
@@ -208,38 +206,6 @@ pub version_push : (version : ℕ) (es : List (ℕ × NumberedKqueue)) (e : ℕ 
     → AreOfVersion version (es ++ e ∷ [])
 version_push version [] e all is = (is, tt)
 version_push version (x ∷ xs) e all is = (all.0, version_push version xs e all.1 is)
-
-named_step : (place pid number k : ℕ) (e : ℕ × NumberedKqueue) (es : List (ℕ × NumberedKqueue)) (v w : NumberedKqueue)
-    (b : Bool)
-    → cond b (Some e.1) (lookup (nat_eq k) es) ≡ Some v → w.number ≡ v.number → w.kq.owner ≡ v.kq.owner
-    → (lookup (nat_eq k) es ≡ Some v → has_live place pid number
-    (map live_of (set_value (nat_eq k) es w)) ≡ has_live place pid number (map live_of es))
-    → has_live place pid number (map live_of (cond b ((e.0, w) ∷ es) (e ∷ set_value (nat_eq k) es w)))
-    ≡ has_live place pid number (map live_of (e ∷ es))
-named_step place pid number k e es v w true found same_number same_owner rest =
-    let same : e.1 ≡ v = cc in
-    ap₂ (λ (o n : ℕ). ((e.0 == place) && ((o == pid) && (n == number))) || has_live place pid number (map live_of es))
-    (same_owner ∙ ap (λ (u : NumberedKqueue). u.kq.owner) (sym same))
-    (same_number ∙ ap (λ (u : NumberedKqueue). u.number) (sym same))
-named_step place pid number k e es v w false found same_number same_owner rest =
-    ap (λ b. ((e.0 == place) && ((e.1.kq.owner == pid) && (e.1.number == number))) || b) (rest found)
-
-named_same : (place pid number k : ℕ) (es : List (ℕ × NumberedKqueue)) (v w : NumberedKqueue)
-    → lookup (nat_eq k) es ≡ Some v → w.number ≡ v.number → w.kq.owner ≡ v.kq.owner
-    → has_live place pid number (map live_of (set_value (nat_eq k) es w)) ≡ has_live place pid number (map live_of es)
-named_same place pid number k [] v w found same_number same_owner = refl
-named_same place pid number k (e ∷ es) v w found same_number same_owner =
-    named_step place pid number k e es v w (nat_eq k e.0) found same_number same_owner
-    (λ there. named_same place pid number k es v w there same_number same_owner)
-
-pub named_kept : (k : ℕ) (es : List (ℕ × NumberedKqueue)) (v w : NumberedKqueue) → lookup (nat_eq k) es ≡ Some v
-    → w.number ≡ v.number → w.kq.owner ≡ v.kq.owner
-    → (table : List Descriptor) → All (NamesLive (map live_of es)) table
-    → All (NamesLive (map live_of (set_value (nat_eq k) es w))) table
-named_kept k es v w found same_number same_owner table all =
-    All-weaker (NamesLive (map live_of es)) (NamesLive (map live_of (set_value (nat_eq k) es w)))
-    (λ d names place is. named_same place d.pid d.number k es v w found same_number same_owner ∙ names place is) table
-    all
 
 -- ---- places of birth
 

@@ -16,7 +16,7 @@ use Rattle.kq_model.specs.Views.{Views}
 use Rattle.kq_process.specs.Effects.{pair_of, pairs_in}
 use Rattle.kq_system.specs.SystemState.{AreOfVersion, AreUpTo, HaveStayed, NumberedKqueue, goes_on, happened_to, happened_to_all, live_of}
 use Rattle.kq_system.proofs.CallLemmas.{same_live}
-use Rattle.kq_system.proofs.QuietLemmas.{all_kept, closed_none}
+use Rattle.kq_system.proofs.QuietLemmas.{all_kept, closed_none, notified_none}
 
 -- ---- whether a number was closed
 
@@ -135,7 +135,6 @@ module _ {F : Type 0} (T : F → ℕ → NumberedKqueue → Bool → NumberedKqu
     (hints : List Posted) (views : Views) (f : F)
     (says : (k : ℕ) (v : NumberedKqueue) (b : Bool) (w : NumberedKqueue) (g : F) → T f k v b w g
     → Says pairs hints views f v b w g) where
-
   written_step : (e : ℕ × NumberedKqueue) (w : NumberedKqueue) (b : Bool) (g : F) (rest : List (ℕ × NumberedKqueue))
       (ls : List Live) → Says pairs hints views f e.1 b w g → map live_of rest ≡ map (happened_to pairs hints views) ls
       → map live_of (cond b ((e.0, w) ∷ rest) rest) ≡ map (happened_to pairs hints views) (cond b (live_of e ∷ ls) ls)
@@ -188,6 +187,25 @@ module _ {F : Type 0} (T : F → ℕ → NumberedKqueue → Bool → NumberedKqu
     of_version = λ version all. of_version version es kept h all;
     up_to = λ most all. up_to most es kept h all;
   }
+
+-- ---- where nothing is closed and nobody is told
+
+untouched : (views : Views) (ls : List Live) → happened_to_all [] [] views ls ≡ ls
+untouched views [] = refl
+untouched views (l ∷ ls) =
+    ap₂ (λ (l : Live) (r : List Live). l ∷ r)
+    (ap (λ (kq : Kqueue). record l { kq = kq }) (notified_none views (closed l.owner [] l.kq)
+    ∙ closed_none l.owner l.kq))
+    (untouched views ls)
+
+pub nothing_happened : (ps : List (ℕ × ℕ)) (hints : List Posted) (views : Views) (ls : List Live) → ps ≡ [] → hints ≡ []
+    → ls ≡ happened_to_all (pairs_in ps) hints views ls
+nothing_happened ps hints views ls none nobody =
+    sym (ap₂ (λ (ps : List (ℕ × ℕ)) (hs : List Posted). happened_to_all (pairs_in ps) hs views ls) none nobody
+    ∙ untouched views ls)
+
+pub stayed_same : (es : List (ℕ × NumberedKqueue)) → HaveStayed es es
+stayed_same es = record { of_version = λ version all. all; up_to = λ most all. all }
 
 -- ---- a moment in which no kqueue is called
 

@@ -1,4 +1,3 @@
-pub mod PlanLemmas
 pub mod QuietLemmas
 pub mod CallLemmas
 pub mod SystemLemmas

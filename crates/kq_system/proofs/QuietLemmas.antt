@@ -42,7 +42,7 @@ unfolding queue_after_all queue_noticing
 queue_kept views [] queue = refl
 queue_kept views (k ∷ ks) queue = queue_kept views ks queue
 
-notified_none : (views : Views) (kq : Kqueue) → notified views [] kq ≡ kq
+pub notified_none : (views : Views) (kq : Kqueue) → notified views [] kq ≡ kq
 unfolding notified
 notified_none views kq =
     ap₂ (λ (ks : List Knote) (queue : List Key). let k : Kqueue = record { knotes = ks; queue = queue } in k)

@@ -33,9 +33,6 @@ use Rattle.kq_system.proofs.SystemLemmas.{HasDone, done, impossible, told}
 
 -- ---- places rise
 
-pub stayed_same : (es : List (ℕ × NumberedKqueue)) → HaveStayed es es
-stayed_same es = record { of_version = λ version all. all; up_to = λ most all. all }
-
 pub counted_later : (place : ℕ) (w : World) → IsCountedWorld place w → IsCountedWorld (place + 1) w
 counted_later place w c = record {
   counts = c.counts;

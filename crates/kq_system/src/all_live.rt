@@ -1,5 +1,5 @@
 // What a record does to all live kqueues.
-ghost use Rattle.std.specs.Prelude.{◌≡◌, ◌++◌, ◌<◌, ◌≤◌, ℕ, map, true, nat_eq, None, Some, IfOk, OnErr, OnOk};
+ghost use Rattle.std.specs.Prelude.{◌≡◌, ◌++◌, ◌<◌, ◌≤◌, ℕ, [], map, true, nat_eq, None, Some, IfOk, OnErr, OnOk};
 ghost use Rattle.std.specs.Map.{keys_of};
 ghost use Rattle.indexmap.specs.IndexMap.{get, spare};
 ghost use Rattle.kq_model.specs.Moment.{Moment};
@@ -25,7 +25,18 @@ pub fn happen_to_all<V: Views>(
         ≡ happened_to_all (pairs_in pairs.now) hints.now (V.sees views.now) (map live_of live.old.entries) }
     ensures stayed { HaveStayed live.old.entries live.new.entries }
 {
+    if is_quiet(pairs, hints) {
+        return;
+    }
     live.retain(|_, one| one.happen(pairs, hints, views));
+}
+
+/// Whether nothing is closed and nobody is told.
+fn is_quiet(pairs: &[(u32, u32)], hints: &[(Target, Hint)]) -> bool
+    ensures pairs { result ≡ true → pairs.now ≡ [] }
+    ensures hints { result ≡ true → hints.now ≡ [] }
+{
+    pairs.is_empty() && hints.is_empty()
 }
 
 /// A call on the live kqueue that was made at a place.

@@ -13,7 +13,8 @@ use Rattle.kq_model.proofs.LiveKqueues.{named_among-live}
 use Rattle.kq_process.specs.World.{world_of}
 use Rattle.kq_system.specs.SystemState.{AreOfVersion, IsLawful, IsLive, IsStep, SystemState, call_plan, live_of, state_of, system_of}
 use Rattle.kq_system.proofs.CallLemmas.{live_by_place}
-use Rattle.kq_system.proofs.StepLemmas.{IsOn, call_planned, counted_later, kevent_plan, lawful_after, lawful_same, possible_call, stayed_same}
+use Rattle.kq_system.proofs.HappenLemmas.{stayed_same}
+use Rattle.kq_system.proofs.StepLemmas.{IsOn, call_planned, counted_later, kevent_plan, lawful_after, lawful_same, possible_call}
 use Rattle.kq_system.proofs.SystemLemmas.{HasDone, call_of, called, called_views, done, impossible, quiet_call, refused, stays_live, version_of}
 use Rattle.kq_system.proofs.system.System.call.Goals as goal
 

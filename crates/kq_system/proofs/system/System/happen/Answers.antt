@@ -8,7 +8,8 @@ use Rattle.kq_model.specs.World.{Planned, views_of}
 use Rattle.kq_process.specs.Effects.{pairs_in}
 use Rattle.kq_process.specs.World.{world_of}
 use Rattle.kq_system.specs.SystemState.{IsStep, SystemState, happened_to_all, live_of, state_of, system_of}
-use Rattle.kq_system.proofs.StepLemmas.{happened_step, lawful_after, refused_step, stayed_same}
+use Rattle.kq_system.proofs.HappenLemmas.{stayed_same}
+use Rattle.kq_system.proofs.StepLemmas.{happened_step, lawful_after, refused_step}
 use Rattle.kq_system.proofs.SystemLemmas.{refused, stays_live}
 use Rattle.kq_system.proofs.system.System.happen.Goals as goal
 

@@ -11,7 +11,8 @@ use Rattle.kq_process.specs.Effects.{world_after}
 use Rattle.kq_process.specs.World.{world_of}
 use Rattle.kq_system.specs.SystemState.{AreOfVersion, AreUpTo, IsLawful, IsStep, NumberedKqueue, SystemState, live_of, state_of, system_of}
 use Rattle.kq_system.proofs.CallLemmas.{not_born, up_to_more}
-use Rattle.kq_system.proofs.StepLemmas.{Opens, kqueue_plan, lawful_after, possible_kqueue, refused_step, stayed_same}
+use Rattle.kq_system.proofs.HappenLemmas.{stayed_same}
+use Rattle.kq_system.proofs.StepLemmas.{Opens, kqueue_plan, lawful_after, possible_kqueue, refused_step}
 use Rattle.kq_system.proofs.SystemLemmas.{HasDone, done, opened, refused, stays_live}
 use Rattle.kq_system.proofs.system.System.open.Goals as goal
 
