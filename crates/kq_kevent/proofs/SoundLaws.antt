@@ -36,6 +36,11 @@ pub IsSound-absent : (kq : Kqueue) → IsSound kq → (key : Key) → find_knote
     → has_key key kq.queue ≡ false
 IsSound-absent kq sound key absent = sound.waiting key ∙ ap is_waiting absent ∙ waiting-none
 
+-- that of a knote is there exactly where the knote is active and enabled
+pub waiting-present : (kq : Kqueue) → IsSound kq → (key : Key) (k : Knote) → find_knote key kq.knotes ≡ Some k
+    → has_key key kq.queue ≡ is_waiting (Some k)
+waiting-present kq sound key k there = sound.waiting key ∙ ap is_waiting there
+
 -- the queue has no more keys than there are knotes
 pub length-queue : (kq : Kqueue) → IsSound kq → length kq.queue ≤ length kq.knotes
 length-queue kq sound =

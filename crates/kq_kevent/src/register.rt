@@ -4,7 +4,7 @@ ghost use Rattle.kq_model.specs.Call.{number_of};
 ghost use Rattle.kq_model.specs.ChangedKnote.{key_of, made, modified};
 ghost use Rattle.kq_model.specs.Hearing.{listed};
 ghost use Rattle.kq_model.specs.Knote.{find_knote, has_key, is_timer};
-ghost use Rattle.kq_model.specs.Kqueue.{Kqueue};
+ghost use Rattle.kq_model.specs.Kqueue.{is_waiting, Kqueue};
 ghost use Rattle.kq_model.specs.Recast.{tallied};
 ghost use Rattle.kq_model.specs.Registration.{register, queue_for, with_made, with_removed, with_modified};
 ghost use Rattle.kq_model.specs.RegistrationLaws.{IsRegistered};
@@ -29,18 +29,27 @@ pub(crate) fn asks(flags: EvFlags, flag: EvFlags) -> bool
     flags.contains(flag)
 }
 
+/// Whether a knote waits to be returned.
+#[tactic(auto, unfolding(kq_model::specs::Kqueue::is_waiting))]
+fn is_waiting(knote: &Knote) -> bool
+    ensures { result ≡ is_waiting (Some knote.now) }
+{
+    knote.active && knote.enabled
+}
+
 impl Queue {
     /// Keeps the key of a knote where it now belongs: out of the queue when disabled, and when it
-    /// is to be returned at the back, unless it waits already.
+    /// is to be returned at the back, unless it waits already, which the caller knows.
     #[tactic(auto, unfolding(kq_model::specs::Registration::queue_for))]
-    pub fn place(&mut self, knote: &Knote)
-        requires { has_key knote.now.key self.old.keys ≡ false → length self.old.keys < self.old.capacity }
+    pub fn place(&mut self, knote: &Knote, waits: bool)
+        requires waits { has_key knote.now.key self.old.keys ≡ waits }
+        requires room { waits ≡ false → length self.old.keys < self.old.capacity }
         ensures keys { self.new.keys ≡ queue_for knote.now self.old.keys }
         ensures capacity { self.new.capacity ≡ self.old.capacity }
     {
         if !knote.enabled {
             self.take_out(knote.key);
-        } else if knote.active && !self.has(knote.key) {
+        } else if knote.active && !waits {
             self.put_in(knote.key);
         }
     }
@@ -116,7 +125,7 @@ impl Kq {
         let mut knote = Knote::first(change, target);
         attend(views, &mut knote);
         self.knotes.attach(knote);
-        self.queue.place(&knote);
+        self.queue.place(&knote, false);
     }
 
     /// Takes out the knote of a key.
@@ -141,12 +150,14 @@ impl Kq {
         ensures version { self.new.version ≡ self.old.version }
         ensures room { self.new.room ≡ self.old.room }
     {
+        // The queue holds just the knotes that are active and enabled, so it need not be asked.
+        let waits = is_waiting(&present);
         let mut knote = present;
         knote.replace(change);
         knote.control(change);
         knote.switch(change);
         attend(views, &mut knote);
         self.knotes.modify(knote);
-        self.queue.place(&knote);
+        self.queue.place(&knote, waits);
     }
 }

@@ -1,4 +1,5 @@
-use Rattle.std.proofs.Common.{◌≡◌, ◌∙◌, ◌+◌, ◌<◌, ◌≤◌, ℕ, ℤ, pos, negsuc, Bool, true, false, List, [], ◌∷◌, ◌++◌, map, length, drop, get_or, refl, sym, ap, codes, add-one, append_assoc, append-nil, drop-cons, drop_of_length-le}
+use Rattle.std.proofs.Common.{◌≡◌, ◌∙◌, ◌+◌, ◌<◌, ◌≤◌, ℕ, ℤ, pos, negsuc, Bool, true, false, List, [], ◌∷◌, ◌++◌, map, length, drop, get_or, arith, eqb, refl, sym, ap, codes, add-one, append_assoc, append-nil, drop-cons, drop_of_length-le}
+use Rattle.std.proofs.lemmas.Bool.{eqb-true}
 use Rattle.std.specs.Prelude.{decimal}
 use Rattle.std.specs.Fmt.{signed_decimal}
 use Rattle.json.specs.Print.{escape, escape_byte}
@@ -70,6 +71,17 @@ unfolding reply_line line_text
 returned_line place es =
     ap (λ text. text ++ 10 ∷ []) (returned_text place es)
     ∙ regrouped (codes "{\"at\":") (decimal place) (codes ",\"events\":[") (events_text false es) (codes "}") (10 ∷ [])
+
+is_nothing : (es : List Kevent) → eqb (length es) 0 ≡ true → es ≡ []
+is_nothing [] is = refl
+is_nothing (e ∷ es) is = let none = eqb-true (length (e ∷ es)) 0 is in absurd (omega arith)
+
+pub nothing_returned_line : (place : ℕ) (es : List Kevent) → eqb (length es) 0 ≡ true → reply_line place (Events es)
+    ≡ (codes "{\"at\":" ++ decimal place) ++ codes ",\"events\":[]}\n"
+unfolding events_text
+nothing_returned_line place es none =
+    returned_line place es
+    ∙ ap (λ (l : List Kevent). (codes "{\"at\":" ++ decimal place) ++ (codes ",\"events\":[" ++ (events_text false l ++ codes "}\n"))) (is_nothing es none)
 
 pub failed_line : (place : ℕ) (e : Errno) → reply_line place (Failed e)
     ≡ (codes "{\"at\":" ++ decimal place) ++ (codes ",\"failed\":" ++ (decimal (error_number e) ++ codes "}\n"))

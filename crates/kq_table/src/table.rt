@@ -187,10 +187,14 @@ impl<T: Keyed> Table<T> {
             (λ row. self.old.rows ≡ row ∷ self.new.rows) }
         ensures room { MatchOption result (self.new.room ≡ self.old.room) (λ _. self.new.room ≡ self.old.room + 1) }
     {
-        let Some(row) = self.first() else {
-            return None;
-        };
-        self.remove(row.key())
+        while let Some(front) = self.slots.pop_front() {
+            self.base += 1;
+            if let Some(row) = front {
+                self.count -= 1;
+                return Some(row);
+            }
+        }
+        None
     }
 
     /// Drops the empty slots at the front, so that a search for the first row is short.

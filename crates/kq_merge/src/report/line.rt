@@ -24,6 +24,9 @@ fn put_returned(out: &mut Vec<u8>, at: u64, events: &[Kevent]) -> Result<(), Mem
     ensures { OnOk result (Adds out.old.items (reply_line at (Reply.Events events.now)) out.new.items) }
 {
     put_place(out, at)?;
+    if events.is_empty() {
+        return put(out, ",\"events\":[]}\n");
+    }
     put(out, ",\"events\":[")?;
     put_events(out, events)?;
     put(out, "}\n")

@@ -9,7 +9,7 @@ use Rattle.kq_model.specs.Tallied.{Knote, Kqueue}
 use Rattle.kq_kevent.specs.Owned.{OwnedKqueue, caller}
 use Rattle.kq_model.proofs.RegistrationLaws.{made-key}
 use Rattle.kq_kevent.proofs.RegisterLaws.{same_kqueue, IsSound-at, made-by}
-use Rattle.kq_kevent.proofs.SoundLaws.{IsSound-made, length-queue}
+use Rattle.kq_kevent.proofs.SoundLaws.{IsSound-absent, IsSound-made, length-queue}
 use Rattle.kq_kevent.proofs.kq.Kq.make.Goals as goal
 
 pub attach-requires-clause-absent : goal.attach-requires-clause-absent
@@ -23,8 +23,20 @@ attach-requires-clause-absent g c =
     ∙ ap (λ key. find_knote key c.self.inside.knotes.knotes) (made-key tallying by c.args.change.now)
     ∙ ap (λ (v : OwnedKqueue). find_knote (key_of c.args.change.now) v.kq.knotes) c.self.view_is ∙ c.requires.absent
 
-pub place-requires : goal.place-requires
-place-requires g c = λ _.
+pub place-requires-clause-waits : goal.place-requires-clause-waits
+place-requires-clause-waits g c =
+    let by = caller (g.V.Views.sees c.args.views.now) c.args.self.now in
+    let kq : Kqueue = record { knotes = c.self.inside.knotes.knotes; queue = c.self.inside.queue.keys } in
+    let k = c.attend.new.knote in
+    let is = made-by by c.args.change.now c.first-knote.result c.attend.new.knote
+    (c.first-knote.ensures by) c.attend.ensures in
+    let absent = ap (λ (k : Knote). find_knote k.key kq.knotes) is ∙ ap (λ key. find_knote key kq.knotes)
+    (made-key tallying by c.args.change.now)
+    ∙ ap (λ (v : OwnedKqueue). find_knote (key_of c.args.change.now) v.kq.knotes) c.self.view_is ∙ c.requires.absent in
+    IsSound-absent kq c.self.invariant.sound k.key absent
+
+pub place-requires-clause-room : goal.place-requires-clause-room
+place-requires-clause-room g c = λ _.
     let kq : Kqueue = record { knotes = c.self.inside.knotes.knotes; queue = c.self.inside.queue.keys } in
     omega (
       arith,

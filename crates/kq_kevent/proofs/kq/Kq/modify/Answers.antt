@@ -11,11 +11,11 @@ use Rattle.kq_model.proofs.RegistrationLaws.{modified-key}
 use Rattle.kq_kevent.proofs.KeepLaws.{keeps-target, modified-target, found_here}
 use Rattle.kq_kevent.proofs.KnoteSteps.{modified-active}
 use Rattle.kq_kevent.proofs.RegisterLaws.{same_kqueue, IsSound-at, modified-by, modified-queue}
-use Rattle.kq_kevent.proofs.SoundLaws.{IsSound-modified, length-queue_besides}
+use Rattle.kq_kevent.proofs.SoundLaws.{IsSound-modified, length-queue_besides, waiting-present}
 use Rattle.kq_kevent.proofs.kq.Kq.modify.Goals as goal
 
-pub place-requires : goal.place-requires
-place-requires g c = λ absent.
+pub place-requires-clause-waits : goal.place-requires-clause-waits
+place-requires-clause-waits g c =
     let by = caller (g.V.Views.sees c.args.views.now) c.args.self.now in
     let kq : Kqueue = record { knotes = c.self.inside.knotes.knotes; queue = c.self.inside.queue.keys } in
     let change = c.args.change.now in
@@ -25,10 +25,19 @@ place-requires g c = λ absent.
     let same : c.attend.new.knote.key ≡ key_of change = ap (λ (k : Knote). k.key) is
     ∙ modified-key tallying by change c.args.present
     ∙ sym (find_knote-key (key_of change) kq.knotes c.args.present found) in
+    waiting-present kq c.self.invariant.sound c.attend.new.knote.key c.args.present
+    (ap (λ key. find_knote key kq.knotes) same ∙ found) ∙ sym c.is_waiting-waits.ensures
+
+pub place-requires-clause-room : goal.place-requires-clause-room
+place-requires-clause-room g c = λ idle.
+    let by = caller (g.V.Views.sees c.args.views.now) c.args.self.now in
+    let kq : Kqueue = record { knotes = c.self.inside.knotes.knotes; queue = c.self.inside.queue.keys } in
+    let change = c.args.change.now in
+    let found = ap (λ (v : OwnedKqueue). find_knote (key_of change) v.kq.knotes) c.self.view_is ∙ c.requires.present in
     omega (
       arith,
-      length-queue_besides kq c.self.invariant.sound c.attend.new.knote.key c.args.present
-          (ap (λ key. find_knote key kq.knotes) same ∙ found) absent,
+      length-queue_besides kq c.self.invariant.sound (key_of change) c.args.present found
+          (waiting-present kq c.self.invariant.sound (key_of change) c.args.present found ∙ sym c.is_waiting-waits.ensures ∙ idle),
       c.self.invariant.capacity,
     )
 
