@@ -56,3 +56,8 @@ pub mod WorldPlayed
 pub mod WorldDescriptors
 pub mod WorldObjects
 pub mod NumberLaws
+pub mod KnoteMiddle
+pub mod HeardAlong
+pub mod KeyLists
+pub mod HintLaws
+pub mod SameTarget

@@ -35,7 +35,7 @@ module _ {S : Type 0} (h : Hearing S) (P : Filter → ℕ → Option Target → 
   abbrev Are : List (Knote h) → Type 0
   Are ks = HaveSubjects P ks
 
-  abbrev IfIs : Option (Knote h) → Type 0
+  abbrev pub IfIs : Option (Knote h) → Type 0
   IfIs None = Unit {0}
   IfIs (Some k) = Is k
 
@@ -150,7 +150,7 @@ module _ {S : Type 0} (h : Hearing S) (P : Filter → ℕ → Option Target → 
   unless_silent-subject false k has = has
   unless_silent-subject true k has = cond_both (h.is_empty k.seen) _ _ IfIs (λ _. tt) (λ _. has)
 
-  noticed-subject : (views : Views) (hints : List Hint) (k : Knote h) → Is k → IfIs (noticed views hints k)
+  pub noticed-subject : (views : Views) (hints : List Hint) (k : Knote h) → Is k → IfIs (noticed views hints k)
   unfolding noticed
   noticed-subject views [] k has = has
   noticed-subject views (hint ∷ hints) k has =

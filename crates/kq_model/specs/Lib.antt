@@ -17,6 +17,8 @@ pub mod Retrieval
 pub mod Call
 pub mod CallLaws
 pub mod Hints
+pub mod HintLaws
+pub mod Noticing
 pub mod Close
 pub mod TimerWalk
 pub mod Clock
