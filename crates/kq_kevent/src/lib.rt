@@ -7,6 +7,7 @@ mod decide;
 mod kq;
 mod look;
 mod named;
+mod notify;
 mod process;
 mod queue;
 mod refusals;

@@ -57,10 +57,11 @@ step_at : (posted : List Posted) (knotes past ahead : List Knote) (k : Knote) �
     → is_hinted posted k ≡ false → (first_hinted posted ahead ≡ first_hinted posted (drop 1 ahead)) × (after k.key knotes ≡ slice_get (drop 1 ahead) 0)
 step_at posted knotes past [] k own parts is apart = absurd (none-some k (sym is))
 step_at posted knotes past (x ∷ ks) k own parts is apart =
-    let it : k ≡ x = same_Some k x is in
-    (first-cons posted x ks ∙ ap (λ b. cond b (Some x.key) (first_hinted posted ks)) (ap (is_hinted posted) (sym it) ∙ apart),
-    ap (λ (n : Knote). after n.key knotes) it ∙ ap (after x.key) parts
-    ∙ after-middle past x ks (apart-middle past x ks (subst HaveOwnKeys parts own)).0)
+    let it : k ≡ x = same_Some k x is in (
+      first-cons posted x ks ∙ ap (λ b. cond b (Some x.key) (first_hinted posted ks)) (ap (is_hinted posted) (sym it) ∙ apart),
+      ap (λ (n : Knote). after n.key knotes) it ∙ ap (after x.key) parts
+          ∙ after-middle past x ks (apart-middle past x ks (subst HaveOwnKeys parts own)).0,
+    )
 
 pub walk-step : (posted : List Posted) (knotes past ahead : List Knote) (steps : ℕ) (k : Knote) → HaveOwnKeys knotes → knotes ≡ past ++ ahead
     → Some k ≡ slice_get (drop steps ahead) 0 → is_hinted posted k ≡ false

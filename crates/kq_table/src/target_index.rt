@@ -88,7 +88,7 @@ impl<K: Copy + Eq + Hash, G: Copy + Eq + Hash> TargetIndex<K, G> {
         ensures { MatchOption (find_row K.eq (λ w. w.key) key self.now.watches)
             (result ≡ None)
             (λ w. result ≡ slice_get (keys_watching G.eq w.target
-                (rows_behind K.eq (λ w. w.key) key self.now.watches)) 0) }
+            (rows_behind K.eq (λ w. w.key) key self.now.watches)) 0) }
     {
         after(&self.links, key)
     }
