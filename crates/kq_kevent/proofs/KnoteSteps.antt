@@ -15,7 +15,7 @@ use Rattle.kq_model.specs.Registration.{is_restart}
 use Rattle.kq_model.specs.Tallied.{Knote}
 use Rattle.kq_model.proofs.KnoteLaws.{by_test}
 
-activated-active : (seen : Option Seen) (k : Knote) → (activated seen k).active ≡ false → k.active ≡ false
+pub activated-active : (seen : Option Seen) (k : Knote) → (activated seen k).active ≡ false → k.active ≡ false
 unfolding activated
 activated-active None k idle = idle
 activated-active (Some seen) k idle = absurd (true≢false idle)

@@ -11,3 +11,6 @@ pub mod AnswerLaws
 pub mod KeepLaws
 pub mod CloseLaws
 pub mod NamedLaws
+pub mod TellLaws
+pub mod NotifyLaws
+pub mod NotifiedLaws

@@ -124,6 +124,17 @@ IsSound-modified kq c k before sound of_key there stays =
         ≡ find_knote key kq.knotes
     others = λ key apart. find_knote-with_other key k kq.knotes apart
 
+-- a knote takes the place of the one of its key, which was active only if it is
+pub IsSound-put_back : (kq : Kqueue) (k before : Knote) → IsSound kq → find_knote k.key kq.knotes ≡ Some before
+    → (k.active ≡ false → before.active ≡ false)
+    → IsSound (record { knotes = with_knote k kq.knotes; queue = queue_for k kq.queue })
+IsSound-put_back kq k before sound there stays =
+    IsSound-put kq (with_knote k kq.knotes) kq.queue k sound (HaveOwnKeys-with k kq.knotes sound.own_keys)
+    (find_knote-with_same k kq.knotes ∙ ap (option_map (λ _. k)) there)
+    (λ key apart. find_knote-with_other key k kq.knotes apart) sound.once (λ _ _. refl)
+    (λ idle. sound.waiting k.key ∙ ap is_waiting there ∙ waiting-some before ∙ and_left before.active before.enabled
+    (stays idle))
+
 pub IsSound-removed : (kq : Kqueue) (gone : Key) → IsSound kq → IsSound (with_removed gone kq)
 IsSound-removed kq gone sound = record {
   own_keys = HaveOwnKeys-without gone kq.knotes sound.own_keys;

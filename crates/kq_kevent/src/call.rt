@@ -10,7 +10,7 @@ ghost use Rattle.kq_kevent.specs.Owned.{caller, limit};
 use crate::Kq;
 use crate::process::Ending;
 use kq_filters::Views;
-use kq_model::{Change, Kevent, Memory, Reply, Series};
+use kq_model::{Change, Filter, Kevent, Memory, Reply, Series};
 
 /// The answer that has these events, and keeps no memory besides.
 fn answer(mut events: Vec<Kevent>) -> Reply
@@ -25,6 +25,20 @@ fn reads_pending(placed: &[Kevent]) -> bool
     ensures { IsTrue result ↔ (placed.now ≡ []) }
 {
     placed.is_empty()
+}
+
+/// How many changes may make a knote that watches what others may watch too: a timer and a user
+/// event are their own.
+fn shared_in(changes: &[Change]) -> usize
+    ensures { result ≤ length changes.now }
+{
+    let mut shared = 0;
+    for change in changes {
+        if !matches!(change.filter, Filter::Timer | Filter::User) {
+            shared += 1;
+        }
+    }
+    shared
 }
 
 impl Kq {
@@ -67,7 +81,7 @@ impl Kq {
         ensures ok { length changes.now ≤ self.old.room
             → min room (length self.old.kq.queue + length changes.now) ≡ 0 → IsOk result }
     {
-        self.reserve(changes.len())?;
+        self.reserve_for(changes.len(), shared_in(changes))?;
         let room = room as usize;
         let most = room.min(self.queue.len().saturating_add(changes.len()));
         let mut events = Vec::with_capacity(self.queue.allocator(), most).map_err(|_| Memory)?;

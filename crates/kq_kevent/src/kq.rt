@@ -75,6 +75,21 @@ impl Kq {
         // Memory comes only where the room was missing.
         ensures missing { OnErr result (self.old.room < changes) }
     {
+        // Each of them may watch what others may watch too.
+        self.reserve_for(changes, changes)
+    }
+
+    /// Makes the room at least `changes`, of which so many may watch what others may watch too. For
+    /// these alone the index by target takes memory.
+    pub(crate) fn reserve_for(&mut self, changes: usize, shared: usize) -> Result<(), Memory>
+        ensures kq { self.new.kq ≡ self.old.kq }
+        ensures owner { self.new.owner ≡ self.old.owner }
+        ensures version { self.new.version ≡ self.old.version }
+        ensures room { OnOk result (self.new.room ≡ max self.old.room changes) }
+        ensures err { OnErr result (self.new.room ≡ self.old.room) }
+        ensures missing { OnErr result (self.old.room < changes) }
+    {
+        self.knotes.reserve_shared(shared);
         if changes <= self.room() {
             return Ok(());
         }

@@ -1,55 +1,162 @@
-ghost use Rattle.std.specs.Prelude.{◌≡◌};
-ghost use Rattle.kq_model.specs.Hints.{notified};
+ghost use Rattle.std.specs.Prelude.{◌≡◌, ◌≤◌, false};
+ghost use Rattle.kq_model.specs.ChangedKnote.{activated};
+ghost use Rattle.kq_model.specs.Hearing.{listed};
+ghost use Rattle.kq_model.specs.HintLaws.{IsNotified};
+ghost use Rattle.kq_model.specs.Hints.{notified, hints_for};
+ghost use Rattle.kq_model.specs.Kqueue.{Kqueue};
+ghost use Rattle.kq_model.specs.Knote.{find_knote, with_knote};
+ghost use Rattle.kq_model.specs.Look.{look};
+ghost use Rattle.kq_model.specs.Noticing.{is_for, left_by, with_noticed, noticed_at};
+ghost use Rattle.kq_model.specs.Recast as recast;
+ghost use Rattle.kq_model.specs.Registration.{queue_for};
+ghost use Rattle.kq_kevent.specs.Named.{HaveNames};
 ghost use Rattle.kq_kevent.specs.Owned.{limit};
+ghost use Rattle.kq_kevent.specs.Telling.{told_one, told_all, StandsFor};
 
 use crate::Kq;
 use crate::look::look_in;
-use kq_filters::{Views, hear, takes};
+use kq_filters::{Heard, Views, hear, takes};
 use kq_knote::Knote;
-use kq_model::notes::NOTE_EXIT;
-use kq_model::{Filter, Hint, Target};
+use kq_model::{Hint, Key, Target};
+
+/// A knote that is being told the hints of a record.
+#[derive(Debug, Drop, Clone, Copy)]
+pub struct Telling {
+    /// As it is after those that it was told.
+    pub knote: Knote,
+    /// It was told one.
+    pub any: bool,
+    /// At one of them it was to go.
+    pub done: bool,
+}
+
+/// Whether a hint is for the knote's target, and its filter takes it.
+fn is_for(knote: &Knote, target: Target, hint: Hint) -> bool
+    ensures { result ≡ is_for knote.now (target, hint) }
+{
+    knote.target == Some(target) && takes(knote.key.filter, hint)
+}
+
+/// Tells a knote the next hint of a record, where it is for it.
+#[tactic(auto, unfolding(crate::specs::Telling::told_one))]
+fn tell(telling: Telling, target: Target, hint: Hint) -> Telling
+    ensures { result ≡ told_one (target, hint) telling }
+{
+    if !is_for(&telling.knote, target, hint) {
+        return telling;
+    }
+    let mut knote = telling.knote;
+    let heard = hear(&mut knote, hint);
+    Telling {
+        knote,
+        any: true,
+        done: telling.done || heard == Heard::Drop,
+    }
+}
+
+/// Tells a knote the hints of a record that are for it, in their order.
+fn tell_all(knote: Knote, hints: &[(Target, Hint)]) -> Telling
+    ensures { result ≡ told_all hints.now (record { knote = knote; any = false; done = false }) }
+{
+    let mut telling = Telling {
+        knote,
+        any: false,
+        done: false,
+    };
+    for posted in hints {
+        telling = tell(telling, posted.0, posted.1);
+    }
+    telling
+}
+
+/// Looks at a knote, enabled or not; it is active where the look sees something.
+#[tactic(auto, unfolding(kq_model::specs::ChangedKnote::activated))]
+fn looked_at<V: Views>(views: &V, knote: Knote) -> Knote
+    ensures { result ≡ activated (look (V.sees views.now) knote) knote }
+{
+    let active = knote.active || look_in(views, &knote).is_some();
+    Knote { active, ..knote }
+}
 
 impl Kq {
-    /// The knotes hear the hints of one record, in order of registration: each those for its target that
-    /// its filter takes. Then they are looked at in the world after the whole record. It takes no memory.
+    /// The knotes of the hinted targets hear the hints of a record, in order of registration; each
+    /// is looked at in the world after the record, becomes active where its condition holds, and
+    /// goes to the back of the queue where it is enabled and not there. A PROC knote whose process
+    /// has exited is gone where it has nothing to tell. It takes no memory.
     pub fn notify<V: Views>(&mut self, hints: &[(Target, Hint)], views: &V)
         ensures kq { self.new.kq ≡ notified (V.sees views.now) hints.now self.old.kq }
+        // What this comes to for a user: no knote comes, the others keep their order, and the queue
+        // keeps its own and has those that begin to wait behind it, in order of registration.
+        ensures laws { IsNotified self.old.kq self.new.kq }
+
+        // The same in the words of the definitions, which keep all that was heard.
+        ensures model { (m : Kqueue listed) → self.old.kq ≡ recast.tallied m
+            → self.new.kq ≡ recast.tallied (notified (V.sees views.now) hints.now m) }
+
+        // Where the READ, WRITE and VNODE knotes watch what their numbers name, they still do.
+        ensures named { HaveNames (V.sees views.now) self.old.owner self.old.kq
+            → HaveNames (V.sees views.now) self.old.owner self.new.kq }
+
         ensures owner { self.new.owner ≡ self.old.owner }
         ensures version { self.new.version ≡ self.old.version }
+        ensures room { self.old.room ≤ self.new.room }
         ensures limit { limit self.new ≡ limit self.old }
     {
-        let mut next = self.knotes.first();
-        for _turn in 0..self.knotes.len() {
-            let Some(knote) = next else {
+        let mut next = self.knotes.first_hinted(hints);
+        for _step in 0..self.knotes.len() {
+            let Some(key) = next else {
                 return;
             };
-            next = self.knotes.next_after(knote.key);
-            self.tell(knote, hints, views);
+            next = self.knotes.next_hinted(hints, key);
+            self.notice(key, hints, views);
         }
     }
 
-    fn tell<V: Views>(&mut self, mut knote: Knote, hints: &[(Target, Hint)], views: &V) {
-        let mut heard = false;
-        let mut exits = false;
-        for (target, hint) in hints {
-            if knote.target == Some(*target) && takes(knote.key.filter, *hint) {
-                heard = true;
-                if let (Filter::Proc, Hint::Note(bits)) = (knote.key.filter, *hint) {
-                    exits = exits || bits & NOTE_EXIT == NOTE_EXIT;
-                }
-                let _ = hear(&mut knote, *hint);
-            }
-        }
-        if !heard {
+    /// The knote of a key hears the hints for it, is looked at and goes where it belongs.
+    fn notice<V: Views>(&mut self, key: Key, hints: &[(Target, Hint)], views: &V)
+        ensures kq { self.new.kq
+            ≡ noticed_at (V.sees views.now) hints.now (find_knote key self.old.kq.knotes) self.old.kq }
+        ensures owner { self.new.owner ≡ self.old.owner }
+        ensures version { self.new.version ≡ self.old.version }
+        ensures room { self.old.room ≤ self.new.room }
+        ensures limit { limit self.new ≡ limit self.old }
+    {
+        let Some(knote) = self.knotes.find(key) else {
             return;
+        };
+        let told = tell_all(knote, hints);
+        if told.any {
+            self.leave(told.knote, told.done, views);
         }
-        if exits && knote.tally.is_empty() {
-            self.unmake(knote.key);
-            return;
+    }
+
+    /// What becomes of a knote that was told hints: it is gone, or is looked at and goes where it
+    /// belongs.
+    fn leave<V: Views>(&mut self, told: Knote, done: bool, views: &V)
+        requires { StandsFor told self.old.kq.knotes }
+        ensures kq { self.new.kq ≡ with_noticed told (left_by (V.sees views.now) done told) self.old.kq }
+        ensures owner { self.new.owner ≡ self.old.owner }
+        ensures version { self.new.version ≡ self.old.version }
+        ensures room { self.old.room ≤ self.new.room }
+        ensures limit { limit self.new ≡ limit self.old }
+    {
+        if done && told.tally.is_empty() {
+            self.unmake(told.key);
+        } else {
+            self.put_back(looked_at(views, told));
         }
-        if look_in(views, &knote).is_some() {
-            knote.active = true;
-        }
+    }
+
+    /// Puts a knote in the place of the one of its key, and its key where it belongs.
+    fn put_back(&mut self, knote: Knote)
+        requires { StandsFor knote self.old.kq.knotes }
+        ensures kq { self.new.kq
+            ≡ record { knotes = with_knote knote self.old.kq.knotes; queue = queue_for knote self.old.kq.queue } }
+        ensures owner { self.new.owner ≡ self.old.owner }
+        ensures version { self.new.version ≡ self.old.version }
+        ensures room { self.new.room ≡ self.old.room }
+        ensures limit { limit self.new ≡ limit self.old }
+    {
         self.knotes.modify(knote);
         self.queue.place(&knote);
     }

@@ -2,3 +2,4 @@ pub mod RowLaws
 pub mod CountLaws
 pub mod IndexLaws
 pub mod TargetLaws
+pub mod WalkLaws

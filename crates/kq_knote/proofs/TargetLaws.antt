@@ -13,3 +13,12 @@ pub alike-target : (t : Target) (o : Option Target) → option_eq target_equal.e
 unfolding is_target
 alike-target t None = search rules
 alike-target t (Some w) = same_target t w
+
+as_target : (a b : Target) → target_equal.eq-value.it a b ≡ target_eq a b
+unfolding target_eq
+as_target a b = search rules
+
+pub target-alike : (o : Option Target) (t : Target) → option_eq target_equal.eq-value.it o (Some t) ≡ is_target o t
+unfolding is_target
+target-alike None t = search rules
+target-alike (Some w) t = as_target w t

@@ -1,18 +1,49 @@
 -- Which knotes watch which targets: what is found, and how the index by target goes with the knotes.
-use Rattle.std.specs.Prelude.{◌≡◌, ◌≤◌, ℕ, Bool, List, map, filter, Some, Option}
+use Rattle.std.specs.Prelude.{◌≡◌, ℕ, Bool, true, false, List, map, filter, Some, None, Option, slice_get}
 use Rattle.std.specs.List.{list_any}
 use Rattle.kq_model.specs.declared.key.Key.{Key}
 use Rattle.kq_model.specs.declared.object.Target.{Target}
-use Rattle.kq_model.specs.Knote.{find_knote}
+use Rattle.kq_model.specs.declared.object.Target.TheVariants.{Own}
+use Rattle.kq_model.specs.Knote.{key_eq, find_knote}
 use Rattle.kq_model.specs.Kqueue.{HaveOwnKeys}
 use Rattle.kq_model.specs.Tallied.{Knote}
 use Rattle.kq_model.specs.Targets.{Posted, is_target}
 use Rattle.kq_table.specs.declared.watch.Watch.{Watch}
 use Rattle.kq_table.specs.Links.{Watched}
+use Rattle.kq_table.specs.Rows.{rows_behind}
 
 -- the keys of the knotes that watch this target, in order of registration
 abbrev pub keys_watching : Target → List Knote → List Key
 keys_watching target knotes = map (λ k. k.key) (filter (λ k. is_target k.target target) knotes)
+
+-- the knote watches one of the targets for which there is a hint
+abbrev pub is_hinted : List Posted → Knote → Bool
+is_hinted posted k = list_any (λ (p : Posted). is_target k.target p.0) posted
+
+-- the key of the first such knote
+abbrev pub first_hinted : List Posted → List Knote → Option Key
+first_hinted posted knotes = slice_get (map (λ k. k.key) (filter (is_hinted posted) knotes)) 0
+
+-- the knotes behind the one of this key
+abbrev pub behind : Key → List Knote → List Knote
+behind key knotes = rows_behind key_eq (λ k. k.key) key knotes
+
+-- the knote of this key, where there is one, watches such a target
+abbrev pub IsHinted : List Posted → Key → List Knote → Type 0
+IsHinted posted key knotes = (k : Knote) → find_knote key knotes ≡ Some k → is_hinted posted k ≡ true
+
+-- records give hints for it: it is something, and not the knote itself
+unfoldable pub is_shared : Option Target → Bool
+is_shared None = false
+is_shared (Some Own) = false
+is_shared (Some _) = true
+
+abbrev pub shares : Knote → Bool
+shares k = is_shared k.target
+
+-- all hints are for this one target, which the knotes that watch it share
+abbrev pub IsOnly : Target → List Posted → Type 0
+IsOnly target posted = (is_shared (Some target) ≡ true) × ((k : Knote) → is_hinted posted k ≡ is_target k.target target)
 
 -- a knote of the same key watches the same target
 abbrev pub KeepsTarget : Knote → List Knote → Type 0
@@ -22,8 +53,7 @@ KeepsTarget knote knotes = (k : Knote) → find_knote knote.key knotes ≡ Some 
 abbrev pub watch_of : Knote → Watch Key (Option Target)
 watch_of k = record { key = k.key; target = k.target }
 
--- The index has the target of each knote, and room for as many as the knotes have.
-pub record IsIndexed (knotes : List Knote) (room : ℕ) (index : Watched Key (Option Target)) : Type 0 where
+-- Where the index is whole, it has each knote whose target others may share, and no other.
+pub record IsIndexed (knotes : List Knote) (whole : Bool) (index : Watched Key (Option Target)) : Type 0 where
   pub own_keys : HaveOwnKeys knotes
-  pub watches : index.watches ≡ map watch_of knotes
-  pub fits : room ≤ index.room
+  pub watches : whole ≡ true → index.watches ≡ map watch_of (filter shares knotes)

@@ -1,23 +1,26 @@
 ghost use Rattle.std.specs.Prelude.{◌≡◌, ◌<◌, ◌≤◌, ◌+◌, ◌++◌, ◌↔◌, ◌∷◌, IsTrue, [], None, OnOk, OnErr, MatchOption, slice_get, length, filter, not, max};
 ghost use Rattle.kq_model.specs.Knote.{key_eq, find_knote, with_knote, without_knote};
-ghost use Rattle.std.specs.Vec.{vec_len, vec_capacity};
 ghost use Rattle.kq_model.specs.Close.{is_of_number};
-ghost use Rattle.kq_knote.specs.Index.{keys_watching, KeepsTarget};
+ghost use Rattle.kq_knote.specs.Index.{KeepsTarget};
 ghost use Rattle.kq_table.specs.Rows.{row_after};
 
 use crate::Knote;
+use crate::hinted::is_shared;
 use kq_model::{Filter, Key, Memory, Target};
 use kq_table::{Table, TargetIndex, Watch};
 use std::alloc::Global;
 use std::marker::Model;
 
 /// The knotes of one kqueue: a list in order of registration, at most one of each key, and the
-/// room that was reserved for further ones. Each call but `reserve` takes constant time, spread
-/// over many, and no memory.
+/// room that was reserved for further ones. No call but the two that reserve takes memory, and each
+/// takes constant time, spread over many, but where it says otherwise.
 #[derive(Drop)]
 pub struct Knotes {
-    rows: Table<Knote>,
-    index: TargetIndex<Key, Option<Target>>,
+    pub(crate) rows: Table<Knote>,
+    /// The knotes by target, but those that are their own.
+    pub(crate) index: TargetIndex<Key, Option<Target>>,
+    /// The index has had room for each of them.
+    pub(crate) whole: bool,
 }
 
 impl Model for Knotes {
@@ -29,7 +32,7 @@ impl Model for Knotes {
 
     ghost view = { λ k. record { knotes = k.rows.rows; room = k.rows.room } };
 
-    ghost invariant = { λ k. IsIndexed k.rows.rows k.rows.room k.index };
+    ghost invariant = { λ k. IsIndexed k.rows.rows k.whole k.index };
 }
 
 impl Knotes {
@@ -41,6 +44,7 @@ impl Knotes {
         Knotes {
             rows: Table::new(alloc),
             index: TargetIndex::new(alloc),
+            whole: true,
         }
     }
 
@@ -72,8 +76,16 @@ impl Knotes {
         // Memory comes only where the room was missing.
         ensures missing { OnErr result (self.old.room < more) }
     {
-        self.index.reserve(more)?;
         self.rows.reserve(more)
+    }
+
+    /// Makes room in the index by target for so many knotes that watch what others may watch too.
+    /// Where it is wanting, by memory or since it was not asked for, hints find the knotes of their
+    /// targets by a walk over all; nothing else depends on it.
+    pub fn reserve_shared(&mut self, more: usize)
+        ensures { self.new ≡ self.old }
+    {
+        let _ = self.index.reserve(more);
     }
 
     /// The knote of a key.
@@ -106,10 +118,17 @@ impl Knotes {
         ensures room { self.new.room + 1 ≡ self.old.room }
     {
         self.rows.attach(knote);
-        self.index.attach(Watch {
-            key: knote.key,
-            target: knote.target,
-        });
+        if !is_shared(knote.target) {
+            return;
+        }
+        if self.whole && 0 < self.index.room() {
+            self.index.attach(Watch {
+                key: knote.key,
+                target: knote.target,
+            });
+        } else {
+            self.whole = false;
+        }
     }
 
     /// Puts a knote in the place of the one of its key, which watches the same target; where there
@@ -152,15 +171,5 @@ impl Knotes {
             ident,
             filter: Filter::Vnode,
         });
-    }
-
-    /// Adds behind `found` the keys of the knotes that watch a target, in order of registration, in
-    /// time in proportion to their number.
-    pub fn watching(&self, target: Target, found: &mut Vec<Key>)
-        requires { vec_len found.old + length (keys_watching target self.now.knotes) ≤ vec_capacity found.old }
-        ensures found { found.new.items ≡ found.old.items ++ keys_watching target self.now.knotes }
-        ensures capacity { vec_capacity found.new ≡ vec_capacity found.old }
-    {
-        self.index.watching(Some(target), found);
     }
 }

@@ -88,3 +88,8 @@ pub mod ListedPlans
 pub mod PlanReasons
 pub mod ListedWorld
 pub mod NumberLaws
+pub mod KnoteMiddle
+pub mod HeardAlong
+pub mod KeyLists
+pub mod HintLaws
+pub mod SameTarget

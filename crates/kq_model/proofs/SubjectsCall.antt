@@ -35,7 +35,7 @@ module _ {S : Type 0} (h : Hearing S) (P : Filter → ℕ → Option Target → 
   abbrev Are : List (Knote h) → Type 0
   Are ks = HaveSubjects P ks
 
-  abbrev IfIs : Option (Knote h) → Type 0
+  abbrev pub IfIs : Option (Knote h) → Type 0
   IfIs None = Unit {0}
   IfIs (Some k) = Is k
 

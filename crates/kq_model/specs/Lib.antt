@@ -18,6 +18,7 @@ pub mod Call
 pub mod CallLaws
 pub mod Hints
 pub mod HintLaws
+pub mod Noticing
 pub mod Close
 pub mod TimerWalk
 pub mod Clock

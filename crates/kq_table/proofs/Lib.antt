@@ -7,5 +7,6 @@ pub mod LinkLaws
 pub mod ChainLaws
 pub mod WovenLaws
 pub mod WatchLaws
+pub mod BehindLaws
 pub mod EndLaws
 pub mod CountLaws

@@ -19,6 +19,11 @@ module _ {K T : Type 0} (same : K → K → Bool) (key_of : T → K) where
   row_after key [] = None
   row_after key (row ∷ rows) = if same key (key_of row) then slice_get rows 0 else row_after key rows
 
+  -- the rows behind that of this key
+  unfoldable pub rows_behind : K → List T → List T
+  rows_behind key [] = []
+  rows_behind key (row ∷ rows) = if same key (key_of row) then rows else rows_behind key rows
+
   -- the rows with this one in the place of the one of its key
   abbrev pub with_row : T → List T → List T
   with_row row rows = map (λ r. if same (key_of row) (key_of r) then row else r) rows

@@ -1,7 +1,7 @@
 ghost use Rattle.std.specs.Prelude.{◌≡◌, ◌<◌, ◌≤◌, ◌+◌, ◌++◌, ◌∷◌, ℕ, [], None, Some, OnOk, OnErr, MatchOption, length, max, slice_get, if◌then◌else◌};
 ghost use Rattle.std.specs.Option.{option_map};
 ghost use Rattle.std.specs.Vec.{vec_len, vec_capacity};
-ghost use Rattle.kq_table.specs.Rows.{find_row, row_after, without_row, HaveOwnKeys};
+ghost use Rattle.kq_table.specs.Rows.{find_row, row_after, rows_behind, without_row, HaveOwnKeys};
 ghost use Rattle.kq_table.specs.Links.{ends_at, keys_watching, joined, left, with_after, with_before};
 
 use crate::watch::{Ends, Link, Watch};
@@ -43,6 +43,13 @@ impl<K: Copy + Eq + Hash, G: Copy + Eq + Hash> TargetIndex<K, G> {
         }
     }
 
+    /// How many further watches fit without memory.
+    pub fn room(&self) -> usize
+        ensures { result ≡ self.now.room }
+    {
+        self.links.room()
+    }
+
     /// Makes the room at least `more`. It is the one call that takes memory; after `Memory` nothing
     /// has changed.
     pub fn reserve(&mut self, more: usize) -> Result<(), Memory>
@@ -73,6 +80,17 @@ impl<K: Copy + Eq + Hash, G: Copy + Eq + Hash> TargetIndex<K, G> {
             return None;
         };
         Some(ends.first)
+    }
+
+    /// The key that watches the same target next behind a key; None where that is the last, or
+    /// watches nothing.
+    pub fn next_watching(&self, key: K) -> Option<K>
+        ensures { MatchOption (find_row K.eq (λ w. w.key) key self.now.watches)
+            (result ≡ None)
+            (λ w. result ≡ slice_get (keys_watching G.eq w.target
+            (rows_behind K.eq (λ w. w.key) key self.now.watches)) 0) }
+    {
+        after(&self.links, key)
     }
 
     /// Adds behind `found` the keys that watch a target, in the order in which they were attached.

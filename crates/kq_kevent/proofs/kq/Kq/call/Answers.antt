@@ -23,11 +23,11 @@ returns-in-Ended-Some-clause-called g c =
     let items = c.process.new.placed.items in
     call-fails by c.args.room c.args.changes.now c.args.self.now.kq c.process.new.self.kq items
     c.in-Ended-Some.field-0 c.in-Ended-Some.error
-    (process-from (caller views c.reserve.new.self) by c.args.room c.args.changes.now c.reserve.new.self.kq
+    (process-from (caller views c.reserve_for.new.self) by c.args.room c.args.changes.now c.reserve_for.new.self.kq
     c.args.self.now.kq
     (record { kq = c.process.new.self.kq; placed = items; answer = Some (ended c.in-Ended-Some.field-0 items) })
-    (same_caller views c.reserve.new.self c.args.self.now c.in_ok-reserve.ensures.owner
-    c.in_ok-reserve.ensures.version) c.in_ok-reserve.ensures.kq c.in-Ended-Some.ensures.processed)
+    (same_caller views c.reserve_for.new.self c.args.self.now c.in_ok-reserve_for.ensures.owner
+    c.in_ok-reserve_for.ensures.version) c.in_ok-reserve_for.ensures.kq c.in-Ended-Some.ensures.processed)
     c.in-Ended-Some.field-0-is
 
 pub returns-in-Ended-None-clause-called : goal.returns-in-Ended-None-clause-called
@@ -38,11 +38,11 @@ returns-in-Ended-None-clause-called g c =
     ap (called c.process.new.self.kq) c.answer.ensures
     ∙ call-full by c.args.room c.args.changes.now c.args.self.now.kq c.process.new.self.kq items
     c.in-Ended-None.field-0
-    (process-from (caller views c.reserve.new.self) by c.args.room c.args.changes.now c.reserve.new.self.kq
+    (process-from (caller views c.reserve_for.new.self) by c.args.room c.args.changes.now c.reserve_for.new.self.kq
     c.args.self.now.kq
     (record { kq = c.process.new.self.kq; placed = items; answer = Some (ended c.in-Ended-None.field-0 items) })
-    (same_caller views c.reserve.new.self c.args.self.now c.in_ok-reserve.ensures.owner
-    c.in_ok-reserve.ensures.version) c.in_ok-reserve.ensures.kq c.in-Ended-None.ensures.processed)
+    (same_caller views c.reserve_for.new.self c.args.self.now c.in_ok-reserve_for.ensures.owner
+    c.in_ok-reserve_for.ensures.version) c.in_ok-reserve_for.ensures.kq c.in-Ended-None.ensures.processed)
     c.in-Ended-None.field-0-is
 
 pub returns-after-reads_pending-clause-called : goal.returns-after-reads_pending-clause-called
@@ -50,11 +50,11 @@ returns-after-reads_pending-clause-called g c =
     let views = g.V.Views.sees c.args.views.now in
     let by = caller views c.args.self.now in
     let items = c.process.new.placed.items in
-    let is = process-from (caller views c.reserve.new.self) by c.args.room c.args.changes.now c.reserve.new.self.kq
+    let is = process-from (caller views c.reserve_for.new.self) by c.args.room c.args.changes.now c.reserve_for.new.self.kq
     c.args.self.now.kq
     (record { kq = c.process.new.self.kq; placed = items; answer = None })
-    (same_caller views c.reserve.new.self c.args.self.now c.in_ok-reserve.ensures.owner
-    c.in_ok-reserve.ensures.version) c.in_ok-reserve.ensures.kq c.in-Through.ensures.processed in
+    (same_caller views c.reserve_for.new.self c.args.self.now c.in_ok-reserve_for.ensures.owner
+    c.in_ok-reserve_for.ensures.version) c.in_ok-reserve_for.ensures.kq c.in-Through.ensures.processed in
     elim c.if-reads_pending.branch [
       | then-reads_pending w ↦
           let none = sym c.deref.ensures.value ∙ c.reads_pending.ensures.0 w.if-reads_pending.true in
@@ -77,7 +77,7 @@ pub returns-in-Ended-Some-clause-answer : goal.returns-in-Ended-Some-clause-answ
 returns-in-Ended-Some-clause-answer g c =
     let views = g.V.Views.sees c.args.views.now in
     let by = caller views c.args.self.now in
-    let sound = subst IsSound (ap (λ (v : OwnedKqueue). v.kq) c.self.view_is ∙ c.in_ok-reserve.ensures.kq)
+    let sound = subst IsSound (ap (λ (v : OwnedKqueue). v.kq) c.self.view_is ∙ c.in_ok-reserve_for.ensures.kq)
     c.self.invariant.sound in
     subst (λ (x : Called). IsAnswer views c.args.room
     (kqueue_after_changes by c.args.room c.args.changes.now c.args.self.now.kq) x.kq x.reply)
@@ -88,7 +88,7 @@ pub returns-in-Ended-None-clause-answer : goal.returns-in-Ended-None-clause-answ
 returns-in-Ended-None-clause-answer g c =
     let views = g.V.Views.sees c.args.views.now in
     let by = caller views c.args.self.now in
-    let sound = subst IsSound (ap (λ (v : OwnedKqueue). v.kq) c.self.view_is ∙ c.in_ok-reserve.ensures.kq)
+    let sound = subst IsSound (ap (λ (v : OwnedKqueue). v.kq) c.self.view_is ∙ c.in_ok-reserve_for.ensures.kq)
     c.self.invariant.sound in
     subst (λ (x : Called). IsAnswer views c.args.room
     (kqueue_after_changes by c.args.room c.args.changes.now c.args.self.now.kq) x.kq x.reply)
@@ -99,7 +99,7 @@ pub returns-after-reads_pending-clause-answer : goal.returns-after-reads_pending
 returns-after-reads_pending-clause-answer g c =
     let views = g.V.Views.sees c.args.views.now in
     let by = caller views c.args.self.now in
-    let sound = subst IsSound (ap (λ (v : OwnedKqueue). v.kq) c.self.view_is ∙ c.in_ok-reserve.ensures.kq)
+    let sound = subst IsSound (ap (λ (v : OwnedKqueue). v.kq) c.self.view_is ∙ c.in_ok-reserve_for.ensures.kq)
     c.self.invariant.sound in
     subst (λ (x : Called). IsAnswer views c.args.room
     (kqueue_after_changes by c.args.room c.args.changes.now c.args.self.now.kq) x.kq x.reply)
@@ -124,8 +124,8 @@ returns-after-reads_pending-clause-poll g c =
     let by = caller views c.args.self.now in
     changes_then_poll by c.args.room c.args.changes.now c.args.self.now.kq
 
-pub returns-in_err-reserve-clause-poll : goal.returns-in_err-reserve-clause-poll
-returns-in_err-reserve-clause-poll g c =
+pub returns-in_err-reserve_for-clause-poll : goal.returns-in_err-reserve_for-clause-poll
+returns-in_err-reserve_for-clause-poll g c =
     let views = g.V.Views.sees c.args.views.now in
     let by = caller views c.args.self.now in
     changes_then_poll by c.args.room c.args.changes.now c.args.self.now.kq

@@ -1,9 +1,9 @@
-use Rattle.std.proofs.Common.{◌≡◌, List, map, Some, rules, sym, ap, ◌∙◌, subst, arith}
-use Rattle.kq_model.specs.Knote.{find_knote, with_knote}
+use Rattle.std.proofs.Common.{◌≡◌, map, filter, rules, sym, ap, ◌∙◌, subst}
+use Rattle.kq_model.specs.Knote.{with_knote}
 use Rattle.kq_model.specs.Kqueue.{HaveOwnKeys}
 use Rattle.kq_model.specs.Tallied.{Knote}
 use Rattle.kq_model.proofs.KnoteLaws.{HaveOwnKeys-with}
-use Rattle.kq_knote.specs.Index.{watch_of, KeepsTarget}
+use Rattle.kq_knote.specs.Index.{watch_of, shares, KeepsTarget}
 use Rattle.kq_knote.specs.Reserved.{Reserved}
 use Rattle.kq_knote.proofs.IndexLaws.{with-watch}
 use Rattle.kq_knote.proofs.knotes.Knotes.modify.Goals as goal
@@ -15,7 +15,6 @@ invariant_of-self c =
     let rows : c.modify.new.self.rows ≡ with_knote c.args.knote ks = search rules in
     record {
       own_keys = subst HaveOwnKeys (sym rows) (HaveOwnKeys-with c.args.knote ks c.self.invariant.own_keys);
-      watches = c.self.invariant.watches ∙ sym (with-watch c.args.knote ks c.self.invariant.own_keys keeps)
-          ∙ ap (map watch_of) (sym rows);
-      fits = omega (arith, c.modify.ensures.room, c.self.invariant.fits);
+      watches = λ whole. c.self.invariant.watches whole ∙ sym (with-watch c.args.knote ks c.self.invariant.own_keys keeps)
+          ∙ ap (λ rest. map watch_of (filter shares rest)) (sym rows);
     }

@@ -1,33 +1,30 @@
-use Rattle.std.proofs.Common.{◌≡◌, ◌+◌, ◌≤◌, ℕ, List, length, map, Option, None, Some, rules, refl, sym, ap, ◌∙◌, subst, arith}
+use Rattle.std.proofs.Common.{◌≡◌, ◌+◌, ◌≤◌, ℕ, List, length, map, filter, not, Option, None, Some, rules, refl, sym, ap, ◌∙◌, subst, arith}
 use Rattle.std.specs.Option.{option_map, MatchOption}
 use Rattle.kq_model.specs.contracts.key.KeyPartialEq.TheImpl as key_equal
-use Rattle.kq_model.specs.Knote.{find_knote, without_knote}
+use Rattle.kq_model.specs.Knote.{key_eq, find_knote, without_knote}
 use Rattle.kq_model.specs.Kqueue.{HaveOwnKeys}
 use Rattle.kq_model.specs.Tallied.{Knote}
 use Rattle.kq_model.proofs.KnoteLaws.{HaveOwnKeys-without}
-use Rattle.kq_knote.specs.Index.{watch_of}
+use Rattle.kq_knote.specs.Index.{watch_of, shares}
 use Rattle.kq_knote.specs.Reserved.{Reserved}
 use Rattle.kq_knote.proofs.CountLaws.{limit-without_knote}
-use Rattle.kq_knote.proofs.IndexLaws.{Watching, find-watch, without-watch, fits-after}
+use Rattle.kq_knote.proofs.IndexLaws.{Watching, without-watch}
 use Rattle.kq_knote.proofs.RowLaws.{find_row-knotes}
-use Rattle.kq_table.specs.Rows.{find_row, without_row}
+use Rattle.kq_table.specs.Rows.{without_row}
+use Rattle.kq_table.proofs.FoundLaws.{filter-swap}
 use Rattle.kq_knote.proofs.knotes.Knotes.remove.Goals as goal
 
 pub invariant_of-self : goal.invariant_of-self
 invariant_of-self c =
     let ks = c.self.inside.rows.rows in
     let rows : c.remove-2.new.self.rows ≡ without_knote c.args.key ks = search rules in
-    let found = c.remove-2.ensures.removed ∙ find_row-knotes _ (λ a b. search rules) c.args.key ks in
-    let watched = c.remove.ensures.removed
-    ∙ ap (λ (ws : List Watching). find_row key_equal.eq-value.it (λ (w : Watching). w.key) c.args.key ws) c.self.invariant.watches
-    ∙ find-watch key_equal.eq-value.it (λ a b. search rules) c.args.key ks ∙ ap (option_map watch_of) (sym found) in
     record {
       own_keys = subst HaveOwnKeys (sym rows) (HaveOwnKeys-without c.args.key ks c.self.invariant.own_keys);
-      watches = c.remove.ensures.watches
-          ∙ ap (λ (ws : List Watching). without_row key_equal.eq-value.it (λ (w : Watching). w.key) c.args.key ws) c.self.invariant.watches
-          ∙ without-watch key_equal.eq-value.it (λ a b. search rules) c.args.key ks ∙ ap (map watch_of) (sym rows);
-      fits = fits-after c.remove-2.result c.remove.result _ _ _ _ watched c.remove-2.ensures.room c.remove.ensures.room
-          c.self.invariant.fits;
+      watches = λ whole. c.remove.ensures.watches
+          ∙ ap (λ (ws : List Watching). without_row key_equal.eq-value.it (λ (w : Watching). w.key) c.args.key ws) (c.self.invariant.watches whole)
+          ∙ without-watch key_equal.eq-value.it (λ a b. search rules) c.args.key (filter shares ks)
+          ∙ ap (map watch_of) (filter-swap (λ (k : Knote). not (key_eq c.args.key k.key)) shares ks)
+          ∙ ap (λ rest. map watch_of (filter shares rest)) (sym rows);
     }
 
 pub returns-clause-removed : goal.returns-clause-removed

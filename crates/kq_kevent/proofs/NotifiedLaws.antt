@@ -1,0 +1,27 @@
+-- What a kqueue that heard the hints of a record promises.
+use Rattle.std.proofs.Common.{◌≡◌, ℕ, List, sym, ◌∙◌, subst}
+use Rattle.kq_model.specs.Hearing.{listed, tallying}
+use Rattle.kq_model.specs.HintLaws.{IsNotified}
+use Rattle.kq_model.specs.Hints.{notified}
+use Rattle.kq_model.specs.Kqueue as kqueues
+use Rattle.kq_model.specs.Kqueue.{IsSound}
+use Rattle.kq_model.specs.NamedTargets.{IsNamed}
+use Rattle.kq_model.specs.Recast as recast
+use Rattle.kq_model.specs.Tallied.{Kqueue}
+use Rattle.kq_model.specs.Targets.{Posted}
+use Rattle.kq_model.specs.Views.{Views}
+use Rattle.kq_model.proofs.HintLaws.{notified-law}
+use Rattle.kq_model.proofs.SubjectsCall.{notified-subjects}
+use Rattle.kq_model.proofs.Tallied.{notified-tallied}
+use Rattle.kq_kevent.specs.Named.{HaveNames}
+
+module _ (views : Views) (posted : List Posted) (kq after : Kqueue) (is : after ≡ notified views posted kq) where
+  pub after-laws : IsSound kq → IsNotified kq after
+  after-laws sound = subst (λ (q : Kqueue). IsNotified kq q) (sym is) (notified-law views posted kq sound)
+
+  pub after-model : (m : kqueues.Kqueue listed) → kq ≡ recast.tallied m → after ≡ recast.tallied (notified views posted m)
+  after-model m same = is ∙ notified-tallied kq m same views posted
+
+  pub after-named : (owner : ℕ) → HaveNames views owner kq → HaveNames views owner after
+  after-named owner all =
+      subst (λ (q : Kqueue). HaveNames views owner q) (sym is) (notified-subjects tallying (IsNamed views owner) views posted kq all)

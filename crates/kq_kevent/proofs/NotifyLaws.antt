@@ -1,0 +1,223 @@
+-- A walk from hinted knote to hinted knote, each of which notices its hints, comes to the definition of a record's hints.
+use Rattle.std.proofs.Common.{◌≡◌, ℕ, ◌+◌, ◌<◌, ◌≤◌, Bool, true, false, cond, ◌||◌, List, [], ◌∷◌, ◌++◌, map, filter, length, Option, Some, None, append_assoc, refl, sym, ap, ap₂, ◌∙◌, subst, arith}
+use Rattle.std.proofs.lemmas.Bool.{true≢false}
+use Rattle.std.proofs.lemmas.Option.{none-some, same_Some}
+use Rattle.std.specs.List.{list_any}
+use Rattle.kq_model.specs.declared.key.Key.{Key}
+use Rattle.kq_model.specs.declared.object.Hint.{Hint}
+use Rattle.kq_model.specs.Hints.{takes, hints_for, noticed, if_there, knotes_noticing, queue_with, queue_noticing, queue_after_all, notified}
+use Rattle.kq_model.specs.Knote.{key_eq, find_knote, with_knote, without_knote}
+use Rattle.kq_model.specs.Kqueue.{HaveOwnKeys}
+use Rattle.kq_model.specs.Noticing.{with_noticed, noticed_in, noticed_at}
+use Rattle.kq_model.specs.Tallied.{Knote, Kqueue}
+use Rattle.kq_model.specs.Targets.{Posted, is_target}
+use Rattle.kq_model.specs.Views.{Views}
+use Rattle.kq_model.proofs.KeyLaws.{key_eq-refl}
+use Rattle.kq_model.proofs.KnoteLaws.{by_test, find_knote-head, find_knote-tail}
+use Rattle.kq_model.proofs.KnoteMiddle.{apart-middle, found-middle, with-middle, without-middle, HasKey, noticed-key}
+use Rattle.kq_knote.specs.Index.{behind, first_hinted, is_hinted, IsHinted}
+use Rattle.kq_knote.proofs.WalkLaws.{first-cons, nothing_left}
+use Rattle.kq_table.specs.Rows.{rows_behind}
+use Rattle.kq_kevent.proofs.TurnLaws.{kqueue_of}
+
+-- ---- knotes that no hint is for
+
+unhinted : {A : Type 0} (p : A → Bool) (xs : List A) → list_any p xs ≡ false → filter p xs ≡ []
+unhinted p [] none = refl
+unhinted p (x ∷ xs) none =
+    by_test (λ b. b || list_any p xs ≡ false → cond b (x ∷ filter p xs) (filter p xs) ≡ []) (p x)
+    (λ _ e. absurd (true≢false e)) (λ _ e. unhinted p xs e) none
+
+silent : (posted : List Posted) (k : Knote) → is_hinted posted k ≡ false → hints_for k posted ≡ []
+silent posted k none =
+    ap (λ ps. filter (takes k.key.filter) (map (λ (p : Posted). p.1) ps)) (unhinted (λ (p : Posted). is_target k.target p.0) posted none)
+
+module _ (views : Views) (posted : List Posted) where
+  abbrev noticing : List Knote → List Knote
+  noticing ks = knotes_noticing views posted ks
+
+  abbrev queue_after : List Knote → List Key → List Key
+  queue_after ks queue = queue_after_all views posted ks queue
+
+  skip-knotes : (k : Knote) (ks : List Knote) → is_hinted posted k ≡ false → noticing (k ∷ ks) ≡ k ∷ noticing ks
+  unfolding knotes_noticing noticed if_there
+  skip-knotes k ks none = ap (λ hints. if_there (noticed views hints k) ++ noticing ks) (silent posted k none)
+
+  skip-queue : (k : Knote) (ks : List Knote) (queue : List Key) → is_hinted posted k ≡ false → queue_after (k ∷ ks) queue ≡ queue_after ks queue
+  unfolding queue_after_all queue_noticing
+  skip-queue k ks queue none = ap (λ hints. queue_after ks (queue_noticing views hints k queue)) (silent posted k none)
+
+  quiet : (ks : List Knote) (queue : List Key) → None ≡ first_hinted posted ks → (noticing ks ≡ ks) × (queue_after ks queue ≡ queue)
+  unfolding knotes_noticing queue_after_all
+  quiet [] queue none = (refl, refl)
+  quiet (k ∷ ks) queue none =
+      by_test (λ b. is_hinted posted k ≡ b → None ≡ cond b (Some k.key) (first_hinted posted ks) → (noticing (k ∷ ks) ≡ k ∷ ks) × (queue_after (k ∷ ks) queue ≡ queue)) (is_hinted posted k)
+      (λ _ _ e. absurd (none-some k.key e))
+      (λ _ off e. let rest = quiet ks queue e in
+      (skip-knotes k ks off ∙ ap (λ more. k ∷ more) rest.0, skip-queue k ks queue off ∙ rest.1))
+      refl (none ∙ first-cons posted k ks)
+
+  -- ---- the next one
+
+  record IsNext (key : Key) (ahead : List Knote) : Type 0 where
+    skipped : List Knote
+    here : Knote
+    rest : List Knote
+    parts : ahead ≡ skipped ++ here ∷ rest
+    hinted : is_hinted posted here ≡ true
+    key_is : key ≡ here.key
+    knotes : noticing ahead ≡ skipped ++ noticing (here ∷ rest)
+    queue : (q : List Key) → queue_after ahead q ≡ queue_after (here ∷ rest) q
+    shorter : length rest < length ahead
+
+  split-next : (key : Key) (ahead : List Knote) → Some key ≡ first_hinted posted ahead → IsNext key ahead
+  split-next key [] is = absurd (none-some key (sym is))
+  split-next key (k ∷ ks) is =
+      by_test (λ b. is_hinted posted k ≡ b → Some key ≡ cond b (Some k.key) (first_hinted posted ks) → IsNext key (k ∷ ks)) (is_hinted posted k)
+      (λ _ on e. record {
+        skipped = [];
+        here = k;
+        rest = ks;
+        parts = refl;
+        hinted = on;
+        key_is = same_Some key k.key e;
+        knotes = refl;
+        queue = λ q. refl;
+        shorter = omega arith;
+      })
+      (λ _ off e. let next = split-next key ks e in
+      record {
+        skipped = k ∷ next.skipped;
+        here = next.here;
+        rest = next.rest;
+        parts = ap (λ more. k ∷ more) next.parts;
+        hinted = next.hinted;
+        key_is = next.key_is;
+        knotes = skip-knotes k ks off ∙ ap (λ more. k ∷ more) next.knotes;
+        queue = λ q. skip-queue k ks q off ∙ next.queue q;
+        shorter = omega (arith, next.shorter);
+      })
+      refl (is ∙ first-cons posted k ks)
+
+  -- ---- where the walk stands
+
+  -- what is ahead has still to notice its hints, and then the kqueue is the one that is wanted
+  pub record IsAt (wanted : Kqueue) (next : Option Key) (left : ℕ) (kq : Kqueue) : Type 0 where
+    pub past : List Knote
+    pub ahead : List Knote
+    pub knotes : kq.knotes ≡ past ++ ahead
+    pub next_is : next ≡ first_hinted posted ahead
+    pub all_knotes : past ++ noticing ahead ≡ wanted.knotes
+    pub all_queue : queue_after ahead kq.queue ≡ wanted.queue
+    pub few : length ahead ≤ left
+
+  pub walk-start : (kq : Kqueue) (next : Option Key) (left : ℕ) → next ≡ first_hinted posted kq.knotes → length kq.knotes ≤ left → IsAt (notified views posted kq) next left kq
+  unfolding notified
+  walk-start kq next left is few = record {
+    past = [];
+    ahead = kq.knotes;
+    knotes = refl;
+    next_is = is;
+    all_knotes = refl;
+    all_queue = refl;
+    few = few;
+  }
+
+  finished : (wanted : Kqueue) (next : Option Key) (left : ℕ) (kq : Kqueue) → (at : IsAt wanted next left kq) → None ≡ first_hinted posted at.ahead → kq ≡ wanted
+  finished wanted next left kq at none =
+      let still = quiet at.ahead kq.queue none in
+      ap₂ kqueue_of (at.knotes ∙ ap (λ more. at.past ++ more) (sym still.0) ∙ at.all_knotes) (sym still.1 ∙ at.all_queue)
+
+  pub walk-stops : (wanted : Kqueue) (left : ℕ) (kq : Kqueue) → IsAt wanted None left kq → kq ≡ wanted
+  walk-stops wanted left kq at = finished wanted None left kq at at.next_is
+
+  pub walk-ends : (wanted : Kqueue) (next : Option Key) (left : ℕ) (kq : Kqueue) → left ≤ 0 → IsAt wanted next left kq → kq ≡ wanted
+  walk-ends wanted next left kq none at = finished wanted next left kq at (nothing_left posted at.ahead (omega (arith, at.few, none)))
+
+  -- ---- a step
+
+  behind-middle : (past : List Knote) (k : Knote) (ks : List Knote) → find_knote k.key past ≡ None → behind k.key (past ++ k ∷ ks) ≡ ks
+  unfolding rows_behind
+  behind-middle [] k ks absent = ap (λ b. cond b ks (behind k.key ks)) (key_eq-refl k.key)
+  behind-middle (x ∷ past) k ks absent =
+      ap (λ b. cond b (past ++ k ∷ ks) (behind k.key (past ++ k ∷ ks))) (find_knote-head k.key x past absent)
+      ∙ behind-middle past k ks (find_knote-tail k.key x past absent)
+
+  module _ (wanted : Kqueue) (all past : List Knote) (k : Knote) (ks : List Knote) (queue : List Key) (left : ℕ) (parts : all ≡ past ++ k ∷ ks)
+      (gone : find_knote k.key past ≡ None) (absent : find_knote k.key ks ≡ None) (few : length ks ≤ left) where
+    after-noticed : (o : Option Knote) → HasKey k.key o → past ++ (if_there o ++ noticing ks) ≡ wanted.knotes → queue_after ks (queue_with k.key o queue) ≡ wanted.queue
+        → IsAt wanted (first_hinted posted ks) left (with_noticed k o (kqueue_of all queue))
+    unfolding with_noticed queue_with if_there
+    after-noticed None same knotes queues = record {
+      past = past;
+      ahead = ks;
+      knotes = ap (without_knote k.key) parts ∙ without-middle past k ks gone absent;
+      next_is = refl;
+      all_knotes = knotes;
+      all_queue = queues;
+      few = few;
+    }
+    after-noticed (Some n) same knotes queues = record {
+      past = past ++ n ∷ [];
+      ahead = ks;
+      knotes = ap (with_knote n) parts ∙ with-middle past k n ks same gone absent ∙ sym (append_assoc past (n ∷ []) ks);
+      next_is = refl;
+      all_knotes = append_assoc past (n ∷ []) (noticing ks) ∙ knotes;
+      all_queue = queues;
+      few = few;
+    }
+
+    after-hints : (hints : List Hint) → past ++ (if_there (noticed views hints k) ++ noticing ks) ≡ wanted.knotes → queue_after ks (queue_noticing views hints k queue) ≡ wanted.queue
+        → IsAt wanted (first_hinted posted ks) left (noticed_in views hints k (kqueue_of all queue))
+    unfolding noticed_in queue_noticing noticed if_there
+    after-hints [] knotes queues = record {
+      past = past ++ k ∷ [];
+      ahead = ks;
+      knotes = parts ∙ sym (append_assoc past (k ∷ []) ks);
+      next_is = refl;
+      all_knotes = append_assoc past (k ∷ []) (noticing ks) ∙ knotes;
+      all_queue = queues;
+      few = few;
+    }
+    after-hints (hint ∷ hints) knotes queues = after-noticed (noticed views (hint ∷ hints) k) (noticed-key views (hint ∷ hints) k) knotes queues
+
+    after-knote : past ++ noticing (k ∷ ks) ≡ wanted.knotes → queue_after (k ∷ ks) queue ≡ wanted.queue
+        → IsAt wanted (first_hinted posted ks) left (noticed_in views (hints_for k posted) k (kqueue_of all queue))
+    unfolding knotes_noticing queue_after_all
+    after-knote knotes queues = after-hints (hints_for k posted) knotes queues
+
+  module _ (wanted : Kqueue) (key : Key) (left : ℕ) (kq : Kqueue) (own : HaveOwnKeys kq.knotes) (at : IsAt wanted (Some key) left kq) where
+    abbrev next_one : IsNext key at.ahead
+    next_one = split-next key at.ahead at.next_is
+
+    abbrev before : List Knote
+    before = at.past ++ next_one.skipped
+
+    parts : kq.knotes ≡ before ++ next_one.here ∷ next_one.rest
+    parts = at.knotes ∙ ap (λ more. at.past ++ more) next_one.parts ∙ sym (append_assoc at.past next_one.skipped (next_one.here ∷ next_one.rest))
+
+    apart : (find_knote next_one.here.key before ≡ None) × (find_knote next_one.here.key next_one.rest ≡ None)
+    apart = apart-middle before next_one.here next_one.rest (subst HaveOwnKeys parts own)
+
+    found : find_knote key kq.knotes ≡ Some next_one.here
+    found =
+        ap (λ o. find_knote o kq.knotes) next_one.key_is ∙ ap (find_knote next_one.here.key) parts
+        ∙ found-middle before next_one.here next_one.rest apart.0
+
+    left_behind : behind key kq.knotes ≡ next_one.rest
+    left_behind =
+        ap (λ o. behind o kq.knotes) next_one.key_is ∙ ap (behind next_one.here.key) parts
+        ∙ behind-middle before next_one.here next_one.rest apart.0
+
+    pub walk-hinted : IsHinted posted key kq.knotes
+    walk-hinted k here = ap (is_hinted posted) (same_Some k next_one.here (sym here ∙ found)) ∙ next_one.hinted
+
+    pub walk-goes : (next : Option Key) (fewer : ℕ) (after : Kqueue) → left ≤ fewer + 1 → next ≡ first_hinted posted (behind key kq.knotes)
+        → after ≡ noticed_at views posted (find_knote key kq.knotes) kq → IsAt wanted next fewer after
+    unfolding noticed_at
+    walk-goes next fewer after less is became =
+        subst (λ o. IsAt wanted o fewer after) (sym (is ∙ ap (first_hinted posted) left_behind))
+        (subst (λ (q : Kqueue). IsAt wanted (first_hinted posted next_one.rest) fewer q) (sym (became ∙ ap (λ o. noticed_at views posted o kq) found))
+        (after-knote wanted kq.knotes before next_one.here next_one.rest kq.queue fewer parts apart.0 apart.1 (omega (arith, next_one.shorter, at.few, less))
+        (append_assoc at.past next_one.skipped (noticing (next_one.here ∷ next_one.rest)) ∙ ap (λ more. at.past ++ more) (sym next_one.knotes) ∙ at.all_knotes)
+        (sym (next_one.queue kq.queue) ∙ at.all_queue)))

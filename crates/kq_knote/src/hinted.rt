@@ -1,0 +1,90 @@
+ghost use Rattle.std.specs.Prelude.{◌≡◌, ◌++◌, List, MatchOption, slice_get};
+ghost use Rattle.kq_model.specs.Tallied as tallied;
+ghost use Rattle.kq_knote.specs.Index.{IsHinted, IsOnly, behind, first_hinted, is_hinted, is_shared};
+
+use crate::{Knote, Knotes};
+use kq_model::{Hint, Key, Target};
+
+/// Whether others may watch the same, so that records give hints for it.
+#[tactic(auto, unfolding(crate::specs::Index::is_shared))]
+pub(crate) fn is_shared(target: Option<Target>) -> bool
+    ensures { result ≡ is_shared target }
+{
+    match target {
+        None | Some(Target::Own) => false,
+        Some(_) => true,
+    }
+}
+
+/// Whether a knote watches one of the hinted targets.
+fn is_hinted(knote: &Knote, posted: &[(Target, Hint)]) -> bool
+    ensures { result ≡ is_hinted posted.now knote.now }
+{
+    for hint in posted {
+        if knote.target == Some(hint.0) {
+            return true;
+        }
+    }
+    false
+}
+
+/// The one target of all hints, where they have but one and records give hints for it.
+fn only_target(posted: &[(Target, Hint)]) -> Option<Target>
+    ensures { MatchOption result (Unit {0}) (λ target. IsOnly target posted.now) }
+{
+    let Some((first, _)) = posted.first() else {
+        return None;
+    };
+    if !is_shared(Some(*first)) {
+        return None;
+    }
+    for hint in posted {
+        if hint.0 != *first {
+            return None;
+        }
+    }
+    Some(*first)
+}
+
+impl Knotes {
+    /// The key of the first knote, in order of registration, that watches a hinted target. Where
+    /// all hints are for one target, this takes constant time; else a walk over the knotes.
+    pub fn first_hinted(&self, posted: &[(Target, Hint)]) -> Option<Key>
+        ensures { result ≡ first_hinted posted.now self.now.knotes }
+    {
+        match only_target(posted) {
+            Some(target) if self.whole => self.index.first_watching(Some(target)),
+            _ => self.hinted_from(self.rows.first(), posted),
+        }
+    }
+
+    /// The key of the next such knote behind the one of a key, which is such a knote itself; in
+    /// the time that `first_hinted` takes.
+    pub fn next_hinted(&self, posted: &[(Target, Hint)], key: Key) -> Option<Key>
+        requires { IsHinted posted.now key self.now.knotes }
+        ensures { result ≡ first_hinted posted.now (behind key self.now.knotes) }
+    {
+        match only_target(posted) {
+            Some(_) if self.whole => self.index.next_watching(key),
+            _ => self.hinted_from(self.rows.next_after(key), posted),
+        }
+    }
+
+    /// The key of the first such knote from `start` on.
+    fn hinted_from(&self, start: Option<Knote>, posted: &[(Target, Hint)]) -> Option<Key>
+        ensures { (past ahead : List tallied.Knote) → self.now.knotes ≡ past ++ ahead → start ≡ slice_get ahead 0
+            → result ≡ first_hinted posted.now ahead }
+    {
+        let mut next = start;
+        for _step in 0..self.rows.len() {
+            let Some(knote) = next else {
+                return None;
+            };
+            if is_hinted(&knote, posted) {
+                return Some(knote.key);
+            }
+            next = self.rows.next_after(knote.key);
+        }
+        None
+    }
+}
