@@ -90,6 +90,7 @@ pub mod ListedWorld
 pub mod NumberLaws
 pub mod KnoteMiddle
 pub mod HeardAlong
-pub mod KeyLists
-pub mod HintLaws
-pub mod SameTarget
+pub mod UntouchedNumbers
+pub mod UntouchedTargets
+pub mod PrivateItems
+pub mod HistoryPushed
