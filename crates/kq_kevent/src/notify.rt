@@ -157,7 +157,8 @@ impl Kq {
         ensures room { self.new.room ≡ self.old.room }
         ensures limit { limit self.new ≡ limit self.old }
     {
+        let waits = self.queue.has(knote.key);
         self.knotes.modify(knote);
-        self.queue.place(&knote);
+        self.queue.place(&knote, waits);
     }
 }

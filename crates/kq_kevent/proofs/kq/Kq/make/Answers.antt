@@ -26,10 +26,12 @@ attach-requires-clause-absent g c =
 pub place-requires-clause-waits : goal.place-requires-clause-waits
 place-requires-clause-waits g c =
     let by = caller (g.V.Views.sees c.args.views.now) c.args.self.now in
+    let target = c.target_of-target.ensures
+    ∙ ap (λ (v : OwnedKqueue). target_of by.views v.owner c.args.change.now.filter c.args.change.now.ident) c.self.view_is in
     let kq : Kqueue = record { knotes = c.self.inside.knotes.knotes; queue = c.self.inside.queue.keys } in
     let k = c.attend.new.knote in
     let is = made-by by c.args.change.now c.first-knote.result c.attend.new.knote
-    (c.first-knote.ensures by) c.attend.ensures in
+    (c.first-knote.ensures by target) c.attend.ensures in
     let absent = ap (λ (k : Knote). find_knote k.key kq.knotes) is ∙ ap (λ key. find_knote key kq.knotes)
     (made-key tallying by c.args.change.now)
     ∙ ap (λ (v : OwnedKqueue). find_knote (key_of c.args.change.now) v.kq.knotes) c.self.view_is ∙ c.requires.absent in

@@ -1,5 +1,5 @@
-use Rattle.std.proofs.Common.{length, ap, ◌∙◌, arith}
-use Rattle.kq_model.specs.Knote.{find_knote, with_knote}
+use Rattle.std.proofs.Common.{length, sym, ap, ◌∙◌, arith}
+use Rattle.kq_model.specs.Knote.{find_knote, has_key, with_knote}
 use Rattle.kq_model.specs.Registration.{queue_for}
 use Rattle.kq_model.specs.Tallied.{Knote}
 use Rattle.kq_knote.proofs.CountLaws.{length-with_knote}
@@ -9,8 +9,9 @@ use Rattle.kq_kevent.proofs.SoundLaws.{IsSound-put_back, length-queue_besides}
 use Rattle.kq_kevent.proofs.TurnLaws.{kqueue_of}
 use Rattle.kq_kevent.proofs.kq.Kq.put_back.Goals as goal
 
-pub place-requires : goal.place-requires
-place-requires c = λ idle.
+pub place-requires-clause-room : goal.place-requires-clause-room
+place-requires-clause-room c = λ is.
+    let idle = sym (ap (λ (k : Knote). has_key k.key c.self.inside.queue.keys) c.knote.view_is) ∙ sym c.has-waits.ensures ∙ is in
     let there = ap (λ (v : OwnedKqueue). find_knote c.args.knote.key v.kq.knotes) c.self.view_is ∙ c.requires.there in
     omega (
       arith,
