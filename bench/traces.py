@@ -4,6 +4,40 @@ POLL_ROOM = 4
 CHANGES = 1000
 
 
+# the members of each kind of record besides `op`; `side` is the name of a side, `changes` a list, all others are numbers
+MEMBERS = {
+    "proc": ["pid"],
+    "fork": ["pid", "child"],
+    "exit": ["pid", "status"],
+    "kqueue": ["pid", "fd"],
+    "dup": ["pid", "fd", "to"],
+    "close": ["pid", "fd"],
+    "socket": ["pid", "fd", "rcv", "snd"],
+    "listen": ["pid", "fd", "backlog"],
+    "arrive": ["pid", "fd"],
+    "accept": ["pid", "fd", "to", "rcv", "snd"],
+    "connect": ["pid", "fd"],
+    "rx": ["pid", "fd", "n"],
+    "tx": ["pid", "fd", "n"],
+    "shut": ["pid", "fd", "side", "error"],
+    "lowat": ["pid", "fd", "side", "n"],
+    "pipe": ["pid", "rfd", "wfd", "cap"],
+    "read": ["pid", "fd", "n"],
+    "write": ["pid", "fd", "n"],
+    "exec": ["pid"],
+    "sigset": ["pid", "sig", "ignore"],
+    "sig": ["pid", "sig"],
+    "file": ["file", "size"],
+    "open": ["pid", "fd", "file", "mode"],
+    "seek": ["pid", "fd", "offset"],
+    "truncate": ["file", "size"],
+    "note": ["file", "note"],
+    "clock": ["ns"],
+    "kevent": ["pid", "fd", "changes", "room"],
+}
+SIDES = ["read", "write"]
+
+
 def call(changes, room):
     return '{"op":"kevent","pid":1,"fd":9,"changes":[%s],"room":%d}\n' % (",".join(changes), room)
 
@@ -55,3 +89,21 @@ def turnover(path, kevents, records):
             written += 1
         for oldest in range(records - written):
             file.write(call([change(oldest, ["DELETE"], 0), change(oldest + kevents, ["ADD"], 0)], 0))
+
+
+def spelled(number, name):
+    """The value of a member of record `number`, as JSON."""
+    if name == "side":
+        return f'"{SIDES[number % 2]}"'
+    return "[]" if name == "changes" else str(number * 7919 % 2**32)
+
+
+def each_kind(path, records):
+    """Writes a trace of each kind of record in turn, for what reads and writes traces: few of them are possible."""
+    kinds = list(MEMBERS)
+    with open(path, "w", encoding="ascii") as file:
+        file.write('{"kqsim":1}\n')
+        for number in range(records):
+            op = kinds[number % len(kinds)]
+            members = ",".join(f'"{it}":{spelled(number, it)}' for it in MEMBERS[op])
+            file.write(f'{{"op":"{op}",{members}}}\n')

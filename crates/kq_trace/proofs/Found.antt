@@ -1,14 +1,16 @@
 -- What serde_json finds in a value, by the kinds of a record's members.
-use Rattle.std.proofs.Common.{◌≡◌, ℕ, suc, ◌^◌, Bool, true, false, ◌||◌, ◌&&◌, ◌==◌, List, [], ◌∷◌, length, Some, None, Option, option_and_then, nat_lt, cond, refl, sym, ap, ◌∙◌, Bor, map, arith, add-one, ◌<◌, ◌≤◌, Result, Ok, Err}
+use Rattle.std.proofs.Common.{◌≡◌, ℕ, suc, ◌+◌, ◌^◌, Bool, true, false, ◌||◌, ◌&&◌, ◌==◌, List, [], ◌∷◌, length, Some, None, Option, option_and_then, nat_lt, cond, refl, sym, ap, ◌∙◌, Bor, map, arith, add-one, ◌<◌, ◌≤◌, Result, Ok, Err}
 use Rattle.std.proofs.lemmas.Bool.{lt-ltb, le-ltb}
 use Rattle.std.specs.Option.{is_some, option_map_or}
 use Rattle.std.specs.Result.{OkIff, result_ok}
 use Rattle.std.specs.List.{list_all}
 use Rattle.serde_json.specs.Data.{unsigned, negative, float, Data, null, boolean, number, string, array, object, Members, no_members, member}
 use Rattle.serde_json.specs.Events.{members_len}
-use Rattle.serde_json.specs.Find.{as_number, as_object, as_u64, as_i64}
+use Rattle.serde_json.specs.Find.{as_number, as_object, as_u64, as_i64, get}
 use Rattle.kq_model.specs.Reading.{is_version, version_in}
-use Rattle.kq_model.specs.Members.{has_just, has_member, is_whole, i64_in, u32_in, u64_in, width, member_count}
+use Rattle.kq_model.specs.declared.record_kind.MemberType.{MemberType}
+use Rattle.kq_model.specs.Members.{has_just, has_member, is_whole, i64_in, required, u32_in, u64_in, width, member_count}
+use Rattle.kq_model.specs.RecordText.{is_of, is_record}
 
 pub found_u64 : (d : Data) → option_and_then as_u64 (as_number d) ≡ u64_in d
 unfolding u64_in
@@ -115,6 +117,24 @@ just names d n all count = rw (← all_at (λ name. name.now) (has_member d) nam
 pub not_just : (names : List (Bor (List ℕ))) (d : Data) → false ≡ list_all (λ name. has_member d name.now) names → false ≡ has_just (map (λ name. name.now) names) d
 unfolding has_just
 not_just names d all = rw (← all_at (λ name. name.now) (has_member d) names, ← all) refl
+
+-- each member of a record is there: then there are no others where there is one more of them
+abbrev typed : Bor (List ℕ) × MemberType → List ℕ × MemberType
+typed m = (m.0.now, m.1)
+
+abbrev is_there : Data → List ℕ × MemberType → Bool
+is_there d m = required (is_of m.1) (get m.0 d)
+
+pub whole_record : (members : List (Bor (List ℕ) × MemberType)) (d : Data) (n : ℕ)
+    → true ≡ list_all (λ m. required (is_of m.1) (get m.0.now d)) members → n ≡ width d
+    → (n == length members + 1) ≡ is_record (map (λ m. (m.0.now, m.1)) members) d
+unfolding is_record
+whole_record members d n all count = rw (← all_at typed (is_there d) members, ← all, ← count, same_len typed members) refl
+
+pub other_record : (members : List (Bor (List ℕ) × MemberType)) (d : Data)
+    → false ≡ list_all (λ m. required (is_of m.1) (get m.0.now d)) members → false ≡ is_record (map (λ m. (m.0.now, m.1)) members) d
+unfolding is_record
+other_record members d all = rw (← all_at typed (is_there d) members, ← all) refl
 
 version_of : ℕ → Option ℕ
 version_of n = cond (n == 1) (Some n) None

@@ -4,6 +4,8 @@ pub mod Walk
 pub mod TraceLines
 pub mod ChangeParts
 pub mod FlagBits
+pub mod Words
+pub mod MemberTexts
 pub mod Visible
 pub mod ReadsBack
 pub mod LineTexts

@@ -11,7 +11,6 @@ use Rattle.serde_json.specs.View.{items_of}
 use Rattle.serde_json.specs.Written.{comma_if, compact_text, items_text, number_text}
 use Rattle.kq_model.specs.declared.change.Change.{Change}
 use Rattle.kq_model.specs.declared.event.Event.{Event}
-use Rattle.kq_model.specs.declared.event.Event.TheVariants.{Proc, Kqueue, Kevent}
 use Rattle.kq_model.specs.declared.filter.Filter.{Filter}
 use Rattle.kq_model.specs.declared.filter.Filter.TheVariants.{Read, Write, Vnode, Proc as ProcFilter, Signal, Timer, User, Aio, Lio, Fs, Procdesc, Sendfile, Empty}
 use Rattle.kq_model.specs.Names.{filter_name}
@@ -25,6 +24,10 @@ use Rattle.kq_trace.specs.Texts.{changes_text}
 number_text-of_integer : (z : ℤ) → number_text (of_integer z) ≡ signed_decimal z
 number_text-of_integer (pos n) = refl
 number_text-of_integer (negsuc n) = refl
+
+pub integer_text : (z : ℤ) → compact_text (integer z) ≡ signed_decimal z
+unfolding integer
+integer_text z = number_text-of_integer z
 
 -- a filter's name has nothing to escape
 escape-filter_name : (f : Filter) → escape (filter_name f) ≡ filter_name f
@@ -85,36 +88,6 @@ pub changes_fit_all : (changes : List Change) (i : ℕ) → length changes ≤ i
 changes_fit_all changes i end so_far = subst FitsChanges (take_all i changes end) so_far
 
 -- ---- lines
-
-changes_text-is : (later : Bool) (cs : List Change) → items_text later (items_of (map change_data cs)) ≡ changes_text later cs
-unfolding changes_text
-changes_text-is later [] = refl
-changes_text-is later (c ∷ cs) = ap (λ rest. comma_if later ++ (compact_text (change_data c) ++ rest)) (changes_text-is true cs)
-
-pub proc_line : (pid : ℕ) → line_text (record_data (Proc pid)) ≡ codes "{\"op\":\"proc\",\"pid\":" ++ (decimal pid ++ codes "}\n")
-unfolding record_data natural line_text escape_byte
-proc_line pid = simp append_assoc
-
-pub kqueue_line : (pid fd : ℕ) → line_text (record_data (Kqueue pid fd))
-    ≡ codes "{\"fd\":" ++ (decimal fd ++ (codes ",\"op\":\"kqueue\",\"pid\":" ++ (decimal pid ++ codes "}\n")))
-unfolding record_data natural line_text escape_byte
-kqueue_line pid fd = simp append_assoc
-
-kevent_text : (pid fd room : ℕ) (cs : List Change) → compact_text (record_data (Kevent pid fd cs room))
-    ≡ codes "{\"changes\":[" ++ (items_text false (items_of (map change_data cs)) ++ (codes ",\"fd\":" ++ (decimal fd
-    ++ (codes ",\"op\":\"kevent\",\"pid\":" ++ (decimal pid ++ (codes ",\"room\":" ++ (decimal room ++ codes "}")))))))
-unfolding record_data natural escape_byte
-kevent_text pid fd room cs = simp append_assoc
-
-pub kevent_line : (pid fd room : ℕ) (cs : List Change) → line_text (record_data (Kevent pid fd cs room))
-    ≡ codes "{\"changes\":[" ++ (changes_text false cs ++ (codes ",\"fd\":" ++ (decimal fd
-    ++ (codes ",\"op\":\"kevent\",\"pid\":" ++ (decimal pid ++ (codes ",\"room\":" ++ (decimal room ++ codes "}\n")))))))
-unfolding line_text
-kevent_line pid fd room cs =
-    ap (λ text. text ++ 10 ∷ []) (kevent_text pid fd room cs)
-    ∙ ap (λ items. (codes "{\"changes\":[" ++ (items ++ (codes ",\"fd\":" ++ (decimal fd
-    ++ (codes ",\"op\":\"kevent\",\"pid\":" ++ (decimal pid ++ (codes ",\"room\":" ++ (decimal room ++ codes "}")))))))) ++ 10 ∷ []) (changes_text-is false cs)
-    ∙ simp append_assoc
 
 pub header_line : (version : ℕ) → line_text (header_data version) ≡ codes "{\"kqsim\":" ++ (decimal version ++ codes "}\n")
 unfolding header_data natural line_text escape_byte

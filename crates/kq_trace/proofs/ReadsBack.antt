@@ -5,7 +5,7 @@ use Rattle.json.specs.Json.{Json, if_last}
 use Rattle.json.specs.Json as json
 use Rattle.json.specs.Lex.{tokens}
 use Rattle.json.specs.Print.{IsNumber}
-use Rattle.json.specs.Tree.{HasNumbers, ItemsHaveNumbers, depth, items_depth, json_tokens}
+use Rattle.json.specs.Tree.{HasNumbers, ItemsHaveNumbers, MembersHaveNumbers, depth, items_depth, json_tokens, members_depth}
 use Rattle.json.proofs.Printed.Decimals.{IsNumber-decimal, IsNumber-signed_decimal}
 use Rattle.json.proofs.Printed.Tokens.{tokens-print}
 use Rattle.json.proofs.Printed.Trees.{ArePrintable-json_tokens, value-json_tokens}
@@ -13,16 +13,16 @@ use Rattle.serde_json.specs.Data.{Data, negative, string, unsigned}
 use Rattle.serde_json.specs.Find.{of_integer}
 use Rattle.serde_json.specs.Read.{number_of, of_items, of_json, read}
 use Rattle.serde_json.specs.View.{items_of}
-use Rattle.serde_json.specs.Written.{compact_text, items_outline, number_text, outline}
+use Rattle.serde_json.specs.Written.{compact_text, items_outline, members_outline, number_text, outline}
 use Rattle.serde_json.proofs.Numbers.{number_of-decimal, number_of-negative}
 use Rattle.serde_json.proofs.Texts.{print-outline}
 use Rattle.kq_model.specs.declared.change.Change.{Change}
 use Rattle.kq_model.specs.declared.event.Event.{Event}
-use Rattle.kq_model.specs.declared.event.Event.TheVariants.{Proc, Kqueue, Kevent}
+use Rattle.kq_model.specs.declared.event.Event.TheVariants as event
 use Rattle.kq_model.specs.Names.{names_of}
 use Rattle.kq_model.specs.Reading.{json_of}
-use Rattle.kq_model.specs.Spelling.{change_data, flags_data, header_data, integer, natural, record_data}
-use Rattle.kq_trace.specs.Again.{FitsChange, FitsChanges, FitsInteger, FitsRecord}
+use Rattle.kq_model.specs.Spelling.{Changes, Integer, Name, Number, Truth, Value, change_data, flags_data, header_data, integer, members_data, members_of, natural, record_data, value_data}
+use Rattle.kq_trace.specs.Again.{FitMembers, FitsChange, FitsChanges, FitsInteger, FitsRecord, FitsValue}
 use Rattle.kq_trace.proofs.Visible.{header_visible, record_visible, visible_utf8}
 
 abbrev pub ReadsBack : Data → Type 0
@@ -108,30 +108,72 @@ changes_depth (c ∷ cs) = omega (arith, change_depth c, changes_depth cs)
 
 -- ---- records
 
-record_read : (e : Event) → FitsRecord e → of_json (outline (record_data e)) ≡ Some (record_data e)
-unfolding record_data
-record_read (Proc pid) fits = rw (natural_read pid (small pid fits)) refl
-record_read (Kqueue pid fd) fits = rw (natural_read fd (small fd fits.1), natural_read pid (small pid fits.0)) refl
-record_read (Kevent pid fd changes room) fits =
-    rw (changes_read changes fits.2, natural_read fd (small fd fits.1), natural_read pid (small pid fits.0), natural_read room (small room fits.3)) refl
+value_numbers : (v : Value) → FitsValue v → HasNumbers (outline (value_data v))
+unfolding natural integer
+value_numbers (Number n) fits = natural_is n (small n fits)
+value_numbers (Integer z) fits = integer_is z fits
+value_numbers (Truth b) fits = tt
+value_numbers (Name name) fits = tt
+value_numbers (Changes changes) fits = changes_numbers changes fits
+
+value_depth : (v : Value) → depth (outline (value_data v)) ≤ 3
+unfolding natural integer
+value_depth (Number n) = omega arith
+value_depth (Integer z) = omega arith
+value_depth (Truth b) = omega arith
+value_depth (Name name) = omega arith
+value_depth (Changes changes) = omega (arith, changes_depth changes)
+
+members_numbers : (ms : List (List ℕ × Value)) → FitMembers ms → MembersHaveNumbers (members_outline (members_data ms))
+members_numbers [] fits = tt
+members_numbers (m ∷ ms) fits = (value_numbers m.1 fits.1, members_numbers ms fits.2)
+
+members_shallow : (ms : List (List ℕ × Value)) → members_depth (members_outline (members_data ms)) ≤ 3
+members_shallow [] = omega arith
+members_shallow (m ∷ ms) = omega (arith, value_depth m.1, members_shallow ms)
 
 record_numbers : (e : Event) → FitsRecord e → HasNumbers (outline (record_data e))
-unfolding record_data natural
-record_numbers (Proc pid) fits = (tt, (natural_is pid (small pid fits), tt))
-record_numbers (Kqueue pid fd) fits = (natural_is fd (small fd fits.1), (tt, (natural_is pid (small pid fits.0), tt)))
-record_numbers (Kevent pid fd changes room) fits = (
-  changes_numbers changes fits.2,
-  (natural_is fd (small fd fits.1), (tt, (natural_is pid (small pid fits.0), (natural_is room (small room fits.3), tt)))),
-)
+unfolding record_data FitsRecord
+record_numbers e fits = members_numbers (members_of e) fits
 
-kevent_depth : (n : ℕ) → n ≤ 2 → suc (max (suc n) 0) ≤ 127
-kevent_depth n few = omega arith
+shallow_object : (n : ℕ) → n ≤ 3 → suc n ≤ 127
+shallow_object n few = omega arith
 
 record_depth : (e : Event) → depth (outline (record_data e)) ≤ 127
-unfolding record_data natural
-record_depth (Proc pid) = omega arith
-record_depth (Kqueue pid fd) = omega arith
-record_depth (Kevent pid fd changes room) = kevent_depth _ (changes_depth changes)
+unfolding record_data
+record_depth e = shallow_object _ (members_shallow (members_of e))
+
+-- the members of a record stand in order, so they stay as they are
+record_read : (e : Event) → FitsRecord e → of_json (outline (record_data e)) ≡ Some (record_data e)
+unfolding record_data members_of FitsRecord
+record_read (event.Proc pid) fits = rw (natural_read pid (small pid fits.2.1)) refl
+record_read (event.Fork pid child) fits = rw (natural_read child (small child fits.1), natural_read pid (small pid fits.2.2.1)) refl
+record_read (event.Exit pid status) fits = rw (natural_read pid (small pid fits.2.1), natural_read status (small status fits.2.2.1)) refl
+record_read (event.Kqueue pid fd) fits = rw (natural_read fd (small fd fits.1), natural_read pid (small pid fits.2.2.1)) refl
+record_read (event.Dup pid fd to) fits = rw (natural_read fd (small fd fits.1), natural_read pid (small pid fits.2.2.1), natural_read to (small to fits.2.2.2.1)) refl
+record_read (event.Close pid fd) fits = rw (natural_read fd (small fd fits.1), natural_read pid (small pid fits.2.2.1)) refl
+record_read (event.Socket pid fd rcv snd) fits = rw (natural_read fd (small fd fits.1), natural_read pid (small pid fits.2.2.1), natural_read rcv (small rcv fits.2.2.2.1), natural_read snd (small snd fits.2.2.2.2.1)) refl
+record_read (event.Listen pid fd backlog) fits = rw (natural_read backlog (small backlog fits.1), natural_read fd (small fd fits.2.1), natural_read pid (small pid fits.2.2.2.1)) refl
+record_read (event.Arrive pid fd) fits = rw (natural_read fd (small fd fits.1), natural_read pid (small pid fits.2.2.1)) refl
+record_read (event.Accept pid fd to rcv snd) fits = rw (natural_read fd (small fd fits.1), natural_read pid (small pid fits.2.2.1), natural_read rcv (small rcv fits.2.2.2.1), natural_read snd (small snd fits.2.2.2.2.1), natural_read to (small to fits.2.2.2.2.2.1)) refl
+record_read (event.Connect pid fd) fits = rw (natural_read fd (small fd fits.1), natural_read pid (small pid fits.2.2.1)) refl
+record_read (event.Rx pid fd n) fits = rw (natural_read fd (small fd fits.1), natural_read n (small n fits.2.1), natural_read pid (small pid fits.2.2.2.1)) refl
+record_read (event.Tx pid fd n) fits = rw (natural_read fd (small fd fits.1), natural_read n (small n fits.2.1), natural_read pid (small pid fits.2.2.2.1)) refl
+record_read (event.Shut pid fd side error) fits = rw (natural_read error (small error fits.1), natural_read fd (small fd fits.2.1), natural_read pid (small pid fits.2.2.2.1)) refl
+record_read (event.Lowat pid fd side n) fits = rw (natural_read fd (small fd fits.1), natural_read n (small n fits.2.1), natural_read pid (small pid fits.2.2.2.1)) refl
+record_read (event.Pipe pid rfd wfd cap) fits = rw (natural_read cap (small cap fits.1), natural_read pid (small pid fits.2.2.1), natural_read rfd (small rfd fits.2.2.2.1), natural_read wfd (small wfd fits.2.2.2.2.1)) refl
+record_read (event.Read pid fd n) fits = rw (natural_read fd (small fd fits.1), natural_read n (small n fits.2.1), natural_read pid (small pid fits.2.2.2.1)) refl
+record_read (event.Write pid fd n) fits = rw (natural_read fd (small fd fits.1), natural_read n (small n fits.2.1), natural_read pid (small pid fits.2.2.2.1)) refl
+record_read (event.Exec pid) fits = rw (natural_read pid (small pid fits.2.1)) refl
+record_read (event.Sigset pid sig ignore) fits = rw (natural_read pid (small pid fits.2.2.1), natural_read sig (small sig fits.2.2.2.1)) refl
+record_read (event.Sig pid sig) fits = rw (natural_read pid (small pid fits.2.1), natural_read sig (small sig fits.2.2.1)) refl
+record_read (event.File file size) fits = rw (natural_read file (small file fits.1), integer_read size fits.2.2.1) refl
+record_read (event.Open pid fd file mode) fits = rw (natural_read fd (small fd fits.1), natural_read file (small file fits.2.1), natural_read pid (small pid fits.2.2.2.2.1)) refl
+record_read (event.Seek pid fd offset) fits = rw (natural_read fd (small fd fits.1), integer_read offset fits.2.1, natural_read pid (small pid fits.2.2.2.1)) refl
+record_read (event.Truncate file size) fits = rw (natural_read file (small file fits.1), integer_read size fits.2.2.1) refl
+record_read (event.Note file note) fits = rw (natural_read file (small file fits.1)) refl
+record_read (event.Clock ns) fits = rw (integer_read ns fits.1) refl
+record_read (event.Kevent pid fd changes room) fits = rw (changes_read changes fits.1, natural_read fd (small fd fits.2.1), natural_read pid (small pid fits.2.2.2.1), natural_read room (small room fits.2.2.2.2.1)) refl
 
 pub record_reads_back : (e : Event) → FitsRecord e → ReadsBack (record_data e)
 record_reads_back e fits =

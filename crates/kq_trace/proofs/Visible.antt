@@ -12,15 +12,16 @@ use Rattle.serde_json.specs.View.{items_of}
 use Rattle.serde_json.specs.Written.{comma_if, compact_text, items_text, members_text, number_text}
 use Rattle.kq_model.specs.declared.change.Change.{Change}
 use Rattle.kq_model.specs.declared.event.Event.{Event}
-use Rattle.kq_model.specs.declared.event.Event.TheVariants.{Proc, Kqueue, Kevent}
 use Rattle.kq_model.specs.declared.event_flags.EvFlags.{EvFlags}
 use Rattle.kq_model.specs.declared.filter.Filter.{Filter}
 use Rattle.kq_model.specs.declared.filter.Filter.TheVariants.{Read, Write, Vnode, Proc as ProcFilter, Signal, Timer, User, Aio, Lio, Fs, Procdesc, Sendfile, Empty}
 use Rattle.kq_model.specs.Bits.{asks}
 use Rattle.kq_model.specs.FlagNames.{flag_table}
 use Rattle.kq_model.specs.Names.{filter_name, names_of}
-use Rattle.kq_model.specs.Spelling.{change_data, flags_data, header_data, integer, natural, record_data}
-use Rattle.kq_trace.specs.Again.{FitsChange, FitsChanges, FitsInteger, FitsRecord}
+use Rattle.kq_model.specs.Spelling.{Changes, Integer, Name, Number, Truth, Value, change_data, flags_data, header_data, integer, members_data, members_of, natural, record_data, value_data}
+use Rattle.kq_trace.specs.Again.{FitMembers, FitsChange, FitsChanges, FitsInteger, FitsRecord, FitsValue}
+use Rattle.kq_trace.specs.Texts.{is_word}
+use Rattle.kq_trace.proofs.Words.{letter_range, word_text}
 
 abbrev pub is_visible : ℕ → Bool
 is_visible b = nat_lt 31 b && nat_lt b 127
@@ -181,24 +182,35 @@ changes_seen : (cs : List Change) → FitsChanges cs → ItemsSeen (items_of (ma
 changes_seen [] fits = tt
 changes_seen (c ∷ cs) fits = (change_seen c fits.0, changes_seen cs fits.1)
 
+-- a word between quotes
+letter_seen : (b : ℕ) → 96 < b → b < 123 → is_visible b ≡ true
+letter_seen b above below = and_from _ _ (lt-ltb 31 b (omega arith)) (lt-ltb b 127 (omega arith))
+
+letters_seen : (name : List ℕ) → is_word name ≡ true → are_visible name ≡ true
+letters_seen [] is = refl
+letters_seen (b ∷ bs) is =
+    let p = and_parts (nat_lt 96 b && nat_lt b 123) (is_word bs) is in
+    let r = letter_range b p.0 in
+    and_from _ _ (letter_seen b r.0 r.1) (letters_seen bs p.1)
+
+word_seen : (name : List ℕ) → is_word name ≡ true → name_seen name
+word_seen name is = ap are_visible (word_text name is) ∙ joined name (34 ∷ []) (letters_seen name is) refl
+
+value_seen : (v : Value) → FitsValue v → DataSeen (value_data v)
+unfolding natural integer
+value_seen (Number n) fits = natural_seen n (small n fits)
+value_seen (Integer z) fits = integer_seen z fits
+value_seen (Truth b) fits = tt
+value_seen (Name name) fits = word_seen name fits
+value_seen (Changes changes) fits = changes_seen changes fits
+
+members_data_seen : (ms : List (List ℕ × Value)) → FitMembers ms → MembersSeen (members_data ms)
+members_data_seen [] fits = tt
+members_data_seen (m ∷ ms) fits = (word_seen m.0 fits.0, value_seen m.1 fits.1, members_data_seen ms fits.2)
+
 record_data_seen : (e : Event) → FitsRecord e → DataSeen (record_data e)
-unfolding record_data natural serde_json_on_literals
-record_data_seen (Proc pid) fits = (refl, refl, (refl, natural_seen pid (small pid fits), tt))
-record_data_seen (Kqueue pid fd) fits =
-    (refl, natural_seen fd (small fd fits.1), (refl, refl, (refl, natural_seen pid (small pid fits.0), tt)))
-record_data_seen (Kevent pid fd changes room) fits = (
-  refl,
-  changes_seen changes fits.2,
-  (
-    refl,
-    natural_seen fd (small fd fits.1),
-    (
-      refl,
-      refl,
-      (refl, natural_seen pid (small pid fits.0), (refl, natural_seen room (small room fits.3), tt)),
-    ),
-  ),
-)
+unfolding record_data FitsRecord
+record_data_seen e fits = members_data_seen (members_of e) fits
 
 -- a record's line
 pub record_visible : (e : Event) → FitsRecord e → are_visible (compact_text (record_data e)) ≡ true

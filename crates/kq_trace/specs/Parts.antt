@@ -1,10 +1,10 @@
--- The tests of a change and of a kevent record, in groups.
-use Rattle.std.specs.Prelude.{◌+◌, ◌==◌, Bool, ◌&&◌, [], ◌∷◌, codes}
+-- The tests of a change, in groups.
+use Rattle.std.specs.Prelude.{◌+◌, ◌==◌, Bool, ◌&&◌, codes}
 use Rattle.std.specs.Option.{is_some}
 use Rattle.serde_json.specs.Data.{Data}
 use Rattle.serde_json.specs.Find.{get}
 use Rattle.kq_model.specs.ChangeText.{extra_width, filter_in, flags_in}
-use Rattle.kq_model.specs.Members.{has_just, is_whole, optional, required, width}
+use Rattle.kq_model.specs.Members.{is_whole, optional, required, width}
 
 abbrev pub names_filter : Data → Bool
 names_filter d = is_some (filter_in d)
@@ -24,12 +24,3 @@ has_extras d =
 
 unfoldable pub has_no_others : Data → Bool
 has_no_others d = width d == 3 + extra_width d
-
--- just the members of a kevent record
-unfoldable pub has_call_members : Data → Bool
-has_call_members d = has_just (codes "op" ∷ codes "pid" ∷ codes "fd" ∷ codes "changes" ∷ codes "room" ∷ []) d
-
--- those, with numbers for the process and the kqueue
-unfoldable pub names_kqueue : Data → Bool
-names_kqueue d =
-    has_call_members d && required is_whole (get (codes "pid") d) && required is_whole (get (codes "fd") d)

@@ -3,12 +3,17 @@
 
 mod change;
 mod changes;
+mod event;
 mod fault;
 mod header;
 mod line;
 mod member;
+mod members;
+mod names;
 mod read;
 mod record;
+mod record_line;
+mod shape;
 mod spell;
 mod values;
 mod write;

@@ -1,13 +1,13 @@
-//! The lines of a trace's canonical text, put together piece by piece.
+//! Changes and the header of a trace's canonical text, put together piece by piece.
 
 ghost use Rattle.std.specs.Prelude.{◌++◌, codes, false, OnOk};
 ghost use Rattle.serde_json.specs.Written.{comma_if, compact_text};
-ghost use Rattle.kq_model.specs.Spelling.{change_data, header_data, line_text, record_data};
+ghost use Rattle.kq_model.specs.Spelling.{change_data, header_data, line_text};
 ghost use Rattle.kq_text.specs.Adds.{Adds};
-ghost use Rattle.kq_trace.specs.Again.{FitsChange, FitsChanges, FitsRecord};
+ghost use Rattle.kq_trace.specs.Again.{FitsChange, FitsChanges};
 ghost use Rattle.kq_trace.specs.Texts.{changes_text};
 
-use kq_model::{Change, Event, Memory};
+use kq_model::{Change, Memory};
 use kq_text::{put, put_flags, put_i64, put_u32, put_u64};
 
 /// Adds a change with all its members.
@@ -41,7 +41,7 @@ fn put_item(out: &mut Vec<u8>, change: &Change, is_later: bool) -> Result<(), Me
 }
 
 /// Adds the changes of a list behind its bracket, and the bracket that closes it.
-fn put_changes(out: &mut Vec<u8>, changes: &[Change]) -> Result<(), Memory>
+pub fn put_changes(out: &mut Vec<u8>, changes: &[Change]) -> Result<(), Memory>
     ensures text { OnOk result (Adds out.old.items (changes_text false changes.now) out.new.items) }
     ensures fits { OnOk result (FitsChanges changes.now) }
 {
@@ -54,69 +54,10 @@ fn put_changes(out: &mut Vec<u8>, changes: &[Change]) -> Result<(), Memory>
 }
 
 /// Adds the end of a record, and of its line.
-fn end_line(out: &mut Vec<u8>) -> Result<(), Memory>
+pub fn end_line(out: &mut Vec<u8>) -> Result<(), Memory>
     ensures { OnOk result (Adds out.old.items (codes "}\n") out.new.items) }
 {
     put(out, "}\n")
-}
-
-fn put_proc(out: &mut Vec<u8>, pid: u32) -> Result<(), Memory>
-    ensures text { OnOk result (Adds out.old.items (line_text (record_data (Event.Proc pid))) out.new.items) }
-    ensures fits { OnOk result (FitsRecord (Event.Proc pid)) }
-{
-    put(out, "{\"op\":\"proc\",\"pid\":")?;
-    put_u32(out, pid)?;
-    end_line(out)
-}
-
-fn put_kqueue(out: &mut Vec<u8>, pid: u32, fd: u32) -> Result<(), Memory>
-    ensures text { OnOk result (Adds out.old.items (line_text (record_data (Event.Kqueue pid fd))) out.new.items) }
-    ensures fits { OnOk result (FitsRecord (Event.Kqueue pid fd)) }
-{
-    put(out, "{\"fd\":")?;
-    put_u32(out, fd)?;
-    put(out, ",\"op\":\"kqueue\",\"pid\":")?;
-    put_u32(out, pid)?;
-    end_line(out)
-}
-
-fn put_kevent(
-    out: &mut Vec<u8>,
-    pid: u32,
-    fd: u32,
-    changes: &[Change],
-    room: u32,
-) -> Result<(), Memory>
-    ensures text { OnOk result
-        (Adds out.old.items (line_text (record_data (Event.Kevent pid fd changes.now room))) out.new.items) }
-    ensures fits { OnOk result (FitsRecord (Event.Kevent pid fd changes.now room)) }
-{
-    put(out, "{\"changes\":[")?;
-    put_changes(out, changes)?;
-    put(out, ",\"fd\":")?;
-    put_u32(out, fd)?;
-    put(out, ",\"op\":\"kevent\",\"pid\":")?;
-    put_u32(out, pid)?;
-    put(out, ",\"room\":")?;
-    put_u32(out, room)?;
-    end_line(out)
-}
-
-/// Adds the line of a record.
-pub fn put_record(out: &mut Vec<u8>, event: &Event) -> Result<(), Memory>
-    ensures text { OnOk result (Adds out.old.items (line_text (record_data event.now)) out.new.items) }
-    ensures fits { OnOk result (FitsRecord event.now) }
-{
-    match event {
-        Event::Proc { pid } => put_proc(out, *pid),
-        Event::Kqueue { pid, fd } => put_kqueue(out, *pid, *fd),
-        Event::Kevent {
-            pid,
-            fd,
-            changes,
-            room,
-        } => put_kevent(out, *pid, *fd, changes.as_slice(), *room),
-    }
 }
 
 /// Adds the header's line.
