@@ -1,5 +1,5 @@
 -- Reading the canonical text gives its trace again.
-use Rattle.std.proofs.Common.{◌≡◌, ℕ, zero, suc, ◌+◌, ◌^◌, ◌<◌, ◌≤◌, ◌==◌, Bool, true, false, not, ◌&&◌, List, [], ◌∷◌, ◌++◌, length, take, get_or, Some, Ok, refl, sym, ap, ◌∙◌, append_assoc, subst, add-one, arith}
+use Rattle.std.proofs.Common.{◌≡◌, ℕ, zero, suc, ◌+◌, ◌^◌, ◌<◌, ◌≤◌, ◌==◌, Bool, true, false, not, ◌&&◌, List, [], ◌∷◌, ◌++◌, length, take, get_or, Ok, refl, sym, ap, ◌∙◌, append_assoc, subst, add-one, arith}
 use Rattle.std.proofs.lemmas.Bool.{le-ltb}
 use Rattle.std.proofs.lemmas.List.{take_all}
 use Rattle.std.specs.Fmt.{digits}
@@ -7,7 +7,7 @@ use Rattle.serde_json.proofs.OnLiterals.{serde_json_on_literals}
 use Rattle.serde_json.specs.Written.{compact_text}
 use Rattle.kq_model.specs.declared.event.Event.{Event}
 use Rattle.kq_model.specs.Lines.{lines_among, lines_of, onto_first, pieces_of, without_empty_end}
-use Rattle.kq_model.specs.Reading.{Good, behind_header, header_version, joined, json_of, read_lines, read_records, reading, record_on, with_event}
+use Rattle.kq_model.specs.Reading.{Good, behind_header, header_version, joined, read_lines, read_records, reading, record_on, with_event}
 use Rattle.kq_model.specs.Spelling.{header_data, line_text, natural, record_data, records_text, spelling}
 use Rattle.kq_trace.specs.Again.{ArePlain, CanBeReadAgain, FitsRecord, IsPlain}
 use Rattle.kq_trace.specs.Rest.{lines_behind}

@@ -1,5 +1,5 @@
 -- The compact text of a header or a record is read as its value.
-use Rattle.std.proofs.Common.{◌≡◌, ℕ, suc, ◌^◌, ◌<◌, ◌≤◌, max, ℤ, pos, negsuc, List, [], ◌∷◌, map, decimal, Some, option_and_then, option_map, IsUtf8, refl, sym, ap, ◌∙◌, append-nil, arith}
+use Rattle.std.proofs.Common.{◌≡◌, ℕ, suc, ◌^◌, ◌<◌, ◌≤◌, ℤ, pos, negsuc, List, [], ◌∷◌, map, Some, option_and_then, IsUtf8, refl, sym, ap, ◌∙◌, append-nil, arith}
 use Rattle.std.proofs.lemmas.Str.{is_utf8-from_IsUtf8}
 use Rattle.json.specs.Json.{Json, if_last}
 use Rattle.json.specs.Json as json
@@ -9,9 +9,9 @@ use Rattle.json.specs.Tree.{HasNumbers, ItemsHaveNumbers, MembersHaveNumbers, de
 use Rattle.json.proofs.Printed.Decimals.{IsNumber-decimal, IsNumber-signed_decimal}
 use Rattle.json.proofs.Printed.Tokens.{tokens-print}
 use Rattle.json.proofs.Printed.Trees.{ArePrintable-json_tokens, value-json_tokens}
-use Rattle.serde_json.specs.Data.{Data, negative, string, unsigned}
+use Rattle.serde_json.specs.Data.{Data, string, unsigned}
 use Rattle.serde_json.specs.Find.{of_integer}
-use Rattle.serde_json.specs.Read.{number_of, of_items, of_json, read}
+use Rattle.serde_json.specs.Read.{of_items, of_json, read}
 use Rattle.serde_json.specs.View.{items_of}
 use Rattle.serde_json.specs.Written.{compact_text, items_outline, members_outline, number_text, outline}
 use Rattle.serde_json.proofs.Numbers.{number_of-decimal, number_of-negative}
