@@ -15,7 +15,7 @@ use Rattle.kq_model.proofs.CountedTables.{without_closed-nothing}
 use Rattle.kq_model.proofs.FreePlaces.{held-none}
 
 -- at first there is nothing
-counts_nothing : IsCounted (no_objects counted) []
+pub counts_nothing : IsCounted (no_objects counted) []
 unfolding holders_of times
 counts_nothing (named.Socket place) = refl
 counts_nothing (named.PipeRead place) = refl

@@ -55,7 +55,7 @@ named-by pid number n w found = named-among pid number n w.table found
 other_place : (p q next : ℕ) → next ≤ p → q < next → eqb p q ≡ false
 other_place p q next later lower = grind (arith, nat_tests)
 
-same-apart : (n m : Named) (next : ℕ) → next ≤ place_named n → place_named m < next → is_same n m ≡ false
+pub same-apart : (n m : Named) (next : ℕ) → next ≤ place_named n → place_named m < next → is_same n m ≡ false
 unfolding is_same
 same-apart (Socket p) (Socket q) next later lower = other_place p q next later lower
 same-apart (PipeRead p) (PipeRead q) next later lower = other_place p q next later lower

@@ -22,6 +22,8 @@ mod socket;
 mod socket_plans;
 mod socket_steps;
 mod sockets;
+#[cfg(test)]
+mod tests;
 
 pub use error::PlanError;
 pub use objects::Objects;
