@@ -7,6 +7,7 @@ pub mod CloseLaw
 pub mod NamedTargets
 pub mod RegistrationLaws
 pub mod Descriptors
+pub mod PlansOpen
 pub mod LiveKqueues
 pub mod RecastTally
 pub mod RecastKnote
@@ -28,6 +29,7 @@ pub mod Texts
 pub mod Refusals
 pub mod Modification
 pub mod BadLines
+pub mod RecordLines
 pub mod Ticks
 pub mod TicksFirst
 pub mod TicksOnce

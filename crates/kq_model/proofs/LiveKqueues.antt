@@ -1,68 +1,25 @@
 -- Each step keeps it so: a number that names a kqueue names a live one.
-use Rattle.std.proofs.Common.{◌≡◌, ℕ, Bool, true, false, cond, not, ◌&&◌, ◌||◌, eqb, ltb, length, List, [], ◌∷◌, ◌++◌, map, filter, Option, Some, None, refl, sym, ap, ◌∙◌}
+use Rattle.std.proofs.Common.{◌≡◌, ℕ, true, false, cond, not, ◌&&◌, ◌||◌, eqb, List, [], ◌∷◌, ◌++◌, map, filter, Option, Some, None, refl, sym, ap, ◌∙◌}
 use Rattle.std.proofs.lemmas.Bool.{cond_both, and_parts, eqb-true, eq-eqb}
 use Rattle.std.proofs.lemmas.List.Elements.{All-nil, All-cons, All-head, All-tail}
 use Rattle.std.proofs.lemmas.List.Folds.{list_any-append}
 use Rattle.std.proofs.lemmas.Option.{none-some, same_Some}
-use Rattle.std.specs.Option.{is_some}
 use Rattle.std.specs.Prelude.{All}
 use Rattle.kq_model.proofs.Descriptors.{with_descriptor-all, with_descriptors-all}
-use Rattle.kq_model.specs.declared.change.Change.{Change}
 use Rattle.kq_model.specs.declared.event.Event.{Event}
-use Rattle.kq_model.specs.declared.event.Event.TheVariants as event
 use Rattle.kq_model.specs.declared.object.Named.{Named}
 use Rattle.kq_model.specs.declared.object.Named.TheVariants as named
-use Rattle.kq_model.specs.declared.why.Why.{Why}
-use Rattle.kq_model.specs.declared.why.Why.TheVariants.{NoProcess, UsedPid, UsedDescriptor, TooMany}
 use Rattle.kq_model.specs.Close.{Pair, has_pair}
 use Rattle.kq_model.specs.Descriptors.{Descriptor, named_among, with_descriptors, without_closed}
 use Rattle.kq_model.specs.Hearing.{Hearing}
-use Rattle.kq_model.specs.Limits.{most_changes, most_room}
 use Rattle.kq_model.specs.LiveKqueues.{is_live_as, has_live, NamesLive, AreAllLive, NamesNoKqueue, OpensNoKqueue}
 use Rattle.kq_model.specs.Moment.{Moment, moment_of}
 use Rattle.kq_model.specs.System.{Live, System, empty_system, stepped, lived, born, step_by, step}
-use Rattle.kq_model.specs.DescriptorPlans.{on_named, on_descriptor, plan_kqueue, plan_call, plan_kevent}
-use Rattle.kq_model.specs.Objects.{Keeping, counted}
+use Rattle.kq_model.specs.Objects.{Keeping}
 use Rattle.kq_model.specs.Plans.{plan}
-use Rattle.kq_model.specs.Processes.{was_used, is_live, ignores_none}
-use Rattle.kq_model.specs.ProcessPlans.{plan_proc}
-use Rattle.kq_model.specs.World.{World, Planned, Impossible, Possible, idle, named_by, with_kqueue, seen_world, carried_out}
+use Rattle.kq_model.specs.World.{Planned, Impossible, Possible, with_kqueue, seen_world, carried_out}
 use Rattle.kq_model.proofs.KnoteLaws.{by_test}
-
--- ---- plans
-
-impossible_or : (b : Bool) (why : Why) (q : Planned) → OpensNoKqueue q → OpensNoKqueue (cond b (Impossible why) q)
-impossible_or true why q opens = tt
-impossible_or false why q opens = opens
-
-plan_call-opens : (changes : List Change) (room : ℕ) (n : Named) → OpensNoKqueue (plan_call changes room n)
-unfolding plan_call
-plan_call-opens changes room (named.Kqueue place) =
-    impossible_or (ltb most_changes (length changes) || ltb most_room room) TooMany
-    (Possible (record idle { call = Some (record { kqueue = place; changes = changes; room = room }) })) (All-nil NamesNoKqueue)
-plan_call-opens changes room _ = tt
-
-on_named-opens : (planned : Named → Planned) → ((n : Named) → OpensNoKqueue (planned n)) → (found : Option Named) → OpensNoKqueue (on_named planned found)
-unfolding on_named
-on_named-opens planned opens None = tt
-on_named-opens planned opens (Some n) = opens n
-
-on_descriptor-opens : (pid number : ℕ) (planned : Named → Planned) → ((n : Named) → OpensNoKqueue (planned n)) → (w : World counted) → OpensNoKqueue (on_descriptor pid number planned w)
-unfolding on_descriptor
-on_descriptor-opens pid number planned opens w =
-    impossible_or (not (is_live pid w.processes)) NoProcess (on_named planned (named_by pid number w))
-    (on_named-opens planned opens (named_by pid number w))
-
-pub plan-opens : (place : ℕ) (e : Event) (w : World counted) → OpensNoKqueue (plan place e w)
-unfolding plan plan_proc plan_kqueue plan_kevent
-plan-opens place (event.Proc pid) w =
-    impossible_or (was_used pid w.processes) UsedPid (Possible (record idle { started = Some (record { pid = pid; ignores = ignores_none }) })) (All-nil NamesNoKqueue)
-plan-opens place (event.Kqueue pid fd) w =
-    let made = Possible (record idle { born = Some (record { pid = pid; number = fd }) }) in
-    impossible_or (not (is_live pid w.processes)) NoProcess (cond (is_some (named_by pid fd w)) (Impossible UsedDescriptor) made)
-    (impossible_or (is_some (named_by pid fd w)) UsedDescriptor made (All-nil NamesNoKqueue))
-plan-opens place (event.Kevent pid fd changes room) w =
-    on_descriptor-opens pid fd (plan_call changes room) (plan_call-opens changes room) w
+use Rattle.kq_model.proofs.PlansOpen.{plan-opens}
 
 -- ---- the table
 

@@ -26,7 +26,7 @@ use Rattle.kq_model.specs.DescriptorPlans.{on_named, on_descriptor, plan_kqueue,
 use Rattle.kq_model.specs.Plans.{plan}
 use Rattle.kq_model.specs.Moment.{moment_of, happened, called_at, after_call, kqueue_step}
 use Rattle.kq_model.specs.System as system
-use Rattle.kq_model.specs.Spelling.{natural, integer, flags_data, change_data, record_data, header_data, line_text, records_text, spelling}
+use Rattle.kq_model.specs.Spelling.{natural, integer, flags_data, change_data, members_of, record_data, header_data, line_text, records_text, spelling}
 use Rattle.kq_model.specs.Report.{kevent_data, events_data, row_data, reply_line, row_lines, calls_in, events_in, call_count, event_count, last_line, report, report_of}
 
 unfoldable pub system_opened : ⊤
@@ -48,6 +48,6 @@ unfolding serde_json_on_literals digits
     plan_proc on_named on_descriptor plan_kqueue plan_call plan_kevent plan
     moment_of happened called_at after_call kqueue_step
     system.stepped system.lived system.born system.answer system.reply_to system.kqueue_of system.step_by system.step system.row_of system.system_after system.rows_after system.rows_by system.rows
-    natural integer flags_data change_data record_data header_data line_text records_text spelling
+    natural integer flags_data change_data members_of record_data header_data line_text records_text spelling
     kevent_data events_data row_data reply_line row_lines calls_in events_in call_count event_count last_line report report_of
 system_opened = tt

@@ -25,6 +25,8 @@ pub mod Names
 pub mod Lines
 pub mod Members
 pub mod ChangeText
+pub mod Kinds
+pub mod RecordText
 pub mod Reading
 pub mod Spelling
 pub mod NoteBits

@@ -1,9 +1,11 @@
--- The names of filters, flags and reasons in a trace and a report (this project's choice).
+-- The names of filters, flags, sides and reasons in a trace and a report (this project's choice).
 use Rattle.std.specs.Prelude.{ℕ, nat_eq, Bool, List, [], ◌∷◌, Option, Some, None, codes, filter, map, if◌then◌else◌}
 use Rattle.std.specs.Cmp.Lexicographic.{pointwise}
 use Rattle.kq_model.specs.declared.event_flags.EvFlags.{EvFlags}
 use Rattle.kq_model.specs.declared.filter.Filter.{Filter}
 use Rattle.kq_model.specs.declared.filter.Filter.TheVariants.{Read, Write, Vnode, Proc, Signal, Timer, User, Aio, Lio, Fs, Procdesc, Sendfile, Empty}
+use Rattle.kq_model.specs.declared.side.Side.{Side}
+use Rattle.kq_model.specs.declared.side.Side.TheVariants as side
 use Rattle.kq_model.specs.declared.why.Why.{Why}
 use Rattle.kq_model.specs.declared.why.Why.TheVariants.{NoProcess, UsedPid, NoDescriptor, UsedDescriptor, WrongKind, Absent, UsedFile, ClockBack, TooMany}
 use Rattle.kq_model.specs.Bits.{asks}
@@ -42,6 +44,17 @@ filter_named name = filter_among filters name
 -- the names of the flags that are set, each once, in the order of the table
 unfoldable pub names_of : EvFlags → List (List ℕ)
 names_of flags = map (λ row. row.0) (filter (λ row. asks flags row.1) flag_table)
+
+abbrev pub side_name : Side → List ℕ
+side_name side.Read = codes "read"
+side_name side.Write = codes "write"
+
+-- the side of this name
+unfoldable pub side_named : List ℕ → Option Side
+side_named name =
+    if is_text name (codes "read") then Some side.Read
+    else if is_text name (codes "write") then Some side.Write
+    else None
 
 -- why a record is impossible
 abbrev pub why_name : Why → List ℕ

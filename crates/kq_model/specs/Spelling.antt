@@ -1,16 +1,17 @@
 -- Spelling: the canonical text of a trace. Each record is the compact text of one JSON value, with all
 -- its members in the order of their names' bytes, and each line ends with LF (this project's choice).
 use Rattle.std.specs.Prelude.{ℕ, ℤ, List, [], ◌∷◌, ◌++◌, map, codes}
-use Rattle.serde_json.specs.Data.{unsigned, Data, number, string, array, object, no_members, member}
+use Rattle.serde_json.specs.Data.{unsigned, Data, number, string, array, object, Members, no_members, member}
 use Rattle.serde_json.specs.Find.{of_integer}
 use Rattle.serde_json.specs.View.{items_of}
 use Rattle.serde_json.specs.Written.{compact_text}
 use Rattle.kq_model.specs.declared.change.Change.{Change}
 use Rattle.kq_model.specs.declared.event.Event.{Event}
-use Rattle.kq_model.specs.declared.event.Event.TheVariants.{Proc, Kqueue, Kevent}
+use Rattle.kq_model.specs.declared.event.Event.TheVariants as event
 use Rattle.kq_model.specs.declared.event_flags.EvFlags.{EvFlags}
+use Rattle.kq_model.specs.declared.side.Side.{Side}
 use Rattle.kq_model.specs.Lines.{line_feed}
-use Rattle.kq_model.specs.Names.{filter_name, names_of}
+use Rattle.kq_model.specs.Names.{filter_name, names_of, side_name}
 
 unfoldable pub natural : ℕ → Data
 natural n = number (unsigned n)
@@ -30,20 +31,64 @@ change_data c = object (
     member (codes "ident") (natural c.ident) (
     member (codes "udata") (natural c.udata) no_members))))))
 
+-- ---- the members of a record
+
+-- the value of a member
+pub data Value : Type 0 where
+  Number : ℕ → Value
+  Name : List ℕ → Value
+  Changes : List Change → Value
+
+abbrev pub value_data : Value → Data
+value_data (Number n) = natural n
+value_data (Name name) = string name
+value_data (Changes changes) = array (items_of (map change_data changes))
+
+abbrev pub members_data : List (List ℕ × Value) → Members
+members_data [] = no_members
+members_data (m ∷ ms) = member m.0 (value_data m.1) (members_data ms)
+
+-- each with its name
+abbrev pub op : List ℕ → List ℕ × Value
+op kind = (codes "op", Name kind)
+
+abbrev pub pid : ℕ → List ℕ × Value
+pid n = (codes "pid", Number n)
+
+abbrev pub fd : ℕ → List ℕ × Value
+fd n = (codes "fd", Number n)
+
+abbrev pub on_side : Side → List ℕ × Value
+on_side side = (codes "side", Name (side_name side))
+
+-- in the order of their names' bytes
+unfoldable pub members_of : Event → List (List ℕ × Value)
+members_of (event.Proc p) = op (codes "proc") ∷ pid p ∷ []
+members_of (event.Fork p child) = (codes "child", Number child) ∷ op (codes "fork") ∷ pid p ∷ []
+members_of (event.Exit p status) = op (codes "exit") ∷ pid p ∷ (codes "status", Number status) ∷ []
+members_of (event.Kqueue p f) = fd f ∷ op (codes "kqueue") ∷ pid p ∷ []
+members_of (event.Dup p f to) = fd f ∷ op (codes "dup") ∷ pid p ∷ (codes "to", Number to) ∷ []
+members_of (event.Close p f) = fd f ∷ op (codes "close") ∷ pid p ∷ []
+members_of (event.Socket p f rcv snd) =
+    fd f ∷ op (codes "socket") ∷ pid p ∷ (codes "rcv", Number rcv) ∷ (codes "snd", Number snd) ∷ []
+members_of (event.Listen p f backlog) = (codes "backlog", Number backlog) ∷ fd f ∷ op (codes "listen") ∷ pid p ∷ []
+members_of (event.Arrive p f) = fd f ∷ op (codes "arrive") ∷ pid p ∷ []
+members_of (event.Accept p f to rcv snd) =
+    fd f ∷ op (codes "accept") ∷ pid p ∷ (codes "rcv", Number rcv) ∷ (codes "snd", Number snd) ∷ (codes "to", Number to) ∷ []
+members_of (event.Connect p f) = fd f ∷ op (codes "connect") ∷ pid p ∷ []
+members_of (event.Rx p f n) = fd f ∷ (codes "n", Number n) ∷ op (codes "rx") ∷ pid p ∷ []
+members_of (event.Tx p f n) = fd f ∷ (codes "n", Number n) ∷ op (codes "tx") ∷ pid p ∷ []
+members_of (event.Shut p f side error) = (codes "error", Number error) ∷ fd f ∷ op (codes "shut") ∷ pid p ∷ on_side side ∷ []
+members_of (event.Lowat p f side n) = fd f ∷ (codes "n", Number n) ∷ op (codes "lowat") ∷ pid p ∷ on_side side ∷ []
+members_of (event.Pipe p rfd wfd cap) =
+    (codes "cap", Number cap) ∷ op (codes "pipe") ∷ pid p ∷ (codes "rfd", Number rfd) ∷ (codes "wfd", Number wfd) ∷ []
+members_of (event.Read p f n) = fd f ∷ (codes "n", Number n) ∷ op (codes "read") ∷ pid p ∷ []
+members_of (event.Write p f n) = fd f ∷ (codes "n", Number n) ∷ op (codes "write") ∷ pid p ∷ []
+members_of (event.Kevent p f changes room) =
+    (codes "changes", Changes changes) ∷ fd f ∷ op (codes "kevent") ∷ pid p ∷ (codes "room", Number room) ∷ []
+
 unfoldable pub record_data : Event → Data
-record_data (Proc pid) = object (
-    member (codes "op") (string (codes "proc")) (
-    member (codes "pid") (natural pid) no_members))
-record_data (Kqueue pid fd) = object (
-    member (codes "fd") (natural fd) (
-    member (codes "op") (string (codes "kqueue")) (
-    member (codes "pid") (natural pid) no_members)))
-record_data (Kevent pid fd changes room) = object (
-    member (codes "changes") (array (items_of (map change_data changes))) (
-    member (codes "fd") (natural fd) (
-    member (codes "op") (string (codes "kevent")) (
-    member (codes "pid") (natural pid) (
-    member (codes "room") (natural room) no_members)))))
+record_data e = object (members_data (members_of e))
 
 unfoldable pub header_data : ℕ → Data
 header_data version = object (member (codes "kqsim") (natural version) no_members)

@@ -1,0 +1,94 @@
+-- A record: an object whose member `op` names its kind, and with the members of this kind.
+use Rattle.std.specs.Prelude.{ℕ, ◌+◌, ◌==◌, Bool, ◌&&◌, List, length, codes, Option, Some, None, option_and_then, Result, Err}
+use Rattle.std.specs.List.{list_all}
+use Rattle.std.specs.Option.{is_some}
+use Rattle.serde_json.specs.Data.{Data}
+use Rattle.serde_json.specs.Find.{get, as_str}
+use Rattle.kq_model.specs.declared.change.Change.{Change}
+use Rattle.kq_model.specs.declared.event.Event.{Event}
+use Rattle.kq_model.specs.declared.event.Event.TheVariants as event
+use Rattle.kq_model.specs.declared.line_fault.LineFault.{LineFault}
+use Rattle.kq_model.specs.declared.line_fault.LineFault.TheVariants.{Field}
+use Rattle.kq_model.specs.declared.record_kind.MemberType.{MemberType}
+use Rattle.kq_model.specs.declared.record_kind.MemberType.TheVariants.{Whole, SideName, ChangeList}
+use Rattle.kq_model.specs.declared.record_kind.RecordKind.{RecordKind}
+use Rattle.kq_model.specs.declared.record_kind.RecordKind.TheVariants as kind
+use Rattle.kq_model.specs.declared.side.Side.{Side}
+use Rattle.kq_model.specs.ChangeText.{is_change_list, change_list}
+use Rattle.kq_model.specs.Kinds.{members_besides_op}
+use Rattle.kq_model.specs.Members.{is_whole, required, shaped, u32_in, width}
+use Rattle.kq_model.specs.Names.{side_named}
+
+-- ---- the members, each of its type
+
+unfoldable pub side_in : Data → Option Side
+side_in d = option_and_then side_named (as_str d)
+
+unfoldable pub is_of : MemberType → Data → Bool
+is_of Whole d = is_whole d
+is_of SideName d = is_some (side_in d)
+is_of ChangeList d = is_change_list d
+
+-- beside `op`, each of these members and no further one
+unfoldable pub is_record : List (List ℕ × MemberType) → Data → Bool
+is_record members d =
+    list_all (λ m. required (is_of m.1) (get m.0 d)) members && (width d == length members + 1)
+
+-- ---- their values, where they are in range
+
+unfoldable pub u32_at : List ℕ → Data → Option ℕ
+u32_at name d = option_and_then u32_in (get name d)
+
+unfoldable pub side_at : List ℕ → Data → Option Side
+side_at name d = option_and_then side_in (get name d)
+
+unfoldable pub changes_at : List ℕ → Data → Option (List Change)
+changes_at name d = option_and_then change_list (get name d)
+
+-- the event that has the number
+abbrev pub with_u32 : List ℕ → Data → (ℕ → Option Event) → Option Event
+with_u32 name d made = option_and_then made (u32_at name d)
+
+-- the number of the process, and for most kinds a descriptor of it
+abbrev pub with_pid : Data → (ℕ → Option Event) → Option Event
+with_pid d made = with_u32 (codes "pid") d made
+
+abbrev pub with_pid_fd : Data → (ℕ → ℕ → Option Event) → Option Event
+with_pid_fd d made = with_pid d (λ pid. with_u32 (codes "fd") d (λ fd. made pid fd))
+
+abbrev pub with_side : Data → (Side → Option Event) → Option Event
+with_side d made = option_and_then made (side_at (codes "side") d)
+
+unfoldable pub event_as : RecordKind → Data → Option Event
+event_as kind.Proc d = with_pid d (λ pid. Some (event.Proc pid))
+event_as kind.Fork d = with_pid d (λ pid. with_u32 (codes "child") d (λ child. Some (event.Fork pid child)))
+event_as kind.Exit d = with_pid d (λ pid. with_u32 (codes "status") d (λ status. Some (event.Exit pid status)))
+event_as kind.Kqueue d = with_pid_fd d (λ pid fd. Some (event.Kqueue pid fd))
+event_as kind.Dup d = with_pid_fd d (λ pid fd. with_u32 (codes "to") d (λ to. Some (event.Dup pid fd to)))
+event_as kind.Close d = with_pid_fd d (λ pid fd. Some (event.Close pid fd))
+event_as kind.Socket d =
+    with_pid_fd d (λ pid fd. with_u32 (codes "rcv") d (λ rcv. with_u32 (codes "snd") d (λ snd. Some (event.Socket pid fd rcv snd))))
+event_as kind.Listen d =
+    with_pid_fd d (λ pid fd. with_u32 (codes "backlog") d (λ backlog. Some (event.Listen pid fd backlog)))
+event_as kind.Arrive d = with_pid_fd d (λ pid fd. Some (event.Arrive pid fd))
+event_as kind.Accept d =
+    with_pid_fd d (λ pid fd. with_u32 (codes "to") d (λ to. with_u32 (codes "rcv") d (λ rcv. with_u32 (codes "snd") d (λ snd. Some (event.Accept pid fd to rcv snd)))))
+event_as kind.Connect d = with_pid_fd d (λ pid fd. Some (event.Connect pid fd))
+event_as kind.Rx d = with_pid_fd d (λ pid fd. with_u32 (codes "n") d (λ n. Some (event.Rx pid fd n)))
+event_as kind.Tx d = with_pid_fd d (λ pid fd. with_u32 (codes "n") d (λ n. Some (event.Tx pid fd n)))
+event_as kind.Shut d =
+    with_pid_fd d (λ pid fd. with_side d (λ side. with_u32 (codes "error") d (λ error. Some (event.Shut pid fd side error))))
+event_as kind.Lowat d =
+    with_pid_fd d (λ pid fd. with_side d (λ side. with_u32 (codes "n") d (λ n. Some (event.Lowat pid fd side n))))
+event_as kind.Pipe d =
+    with_pid d (λ pid. with_u32 (codes "rfd") d (λ rfd. with_u32 (codes "wfd") d (λ wfd. with_u32 (codes "cap") d (λ cap. Some (event.Pipe pid rfd wfd cap)))))
+event_as kind.Read d = with_pid_fd d (λ pid fd. with_u32 (codes "n") d (λ n. Some (event.Read pid fd n)))
+event_as kind.Write d = with_pid_fd d (λ pid fd. with_u32 (codes "n") d (λ n. Some (event.Write pid fd n)))
+event_as kind.Kevent d =
+    with_pid_fd d (λ pid fd. with_u32 (codes "room") d (λ room.
+    option_and_then (λ changes. Some (event.Kevent pid fd changes room)) (changes_at (codes "changes") d)))
+
+-- the record of this kind, or its fault
+unfoldable pub read_as : Option RecordKind → Data → Result Event LineFault
+read_as None d = Err Field
+read_as (Some k) d = shaped (is_record (members_besides_op k) d) (event_as k d)
