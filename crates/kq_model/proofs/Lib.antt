@@ -68,3 +68,4 @@ pub mod ListedObjects
 pub mod ListedPlans
 pub mod PlanReasons
 pub mod ListedWorld
+pub mod CountedTraces
