@@ -1,5 +1,5 @@
 //! The steps of a list, served by threads that call one lock.
-ghost use Rattle.std.specs.Prelude.{◌≡◌, ◌^◌, ◌<◌, ◌≤◌, length, IfOk, vec_len};
+ghost use Rattle.std.specs.Prelude.{◌≡◌, ◌≢◌, ◌^◌, ◌<◌, ◌≤◌, length, IfOk, IfErr, vec_len};
 ghost use Rattle.kq_lock.specs.Seats.{IsFresh, EachSeat};
 ghost use Rattle.kq_lock.specs.Calls.{calls_by};
 ghost use Rattle.kq_serve.specs.Shares.{share, shares, steps_of, AreServed, Serves};
@@ -16,7 +16,7 @@ use std::thread;
 use std::thread::Threads;
 
 /// Serves the shares of as many threads as there are seats, that of thread 0 on the calling thread.
-/// Where a start is refused, the threads that were started are joined first.
+/// Where a start is refused, the threads that were started are joined first. `Spawn` never comes of one seat.
 pub fn serve_all<M: Served + Send, R: Threads + Wait + Sync, G: Gate + Sync, S: Starts>(
     rt: &R,
     gate: &G,
@@ -35,6 +35,7 @@ where
     ensures lock { IfOk result (λ s. s.lock ≡ lock.now) }
     ensures all { IfOk result (λ s.
         AreServed seats.items (shares M.owner threads (vec_len seats) steps.now) s.seen) }
+    ensures alone { vec_len seats ≡ 1 → IfErr result (λ e. e ≢ ServeError.Spawn) }
 {
     let Some(last) = seats.pop() else {
         unreachable!()
@@ -81,7 +82,7 @@ where
 
 /// Puts the machine under a lock of its own and serves all steps by so many threads, 1 to 64 of them.
 /// Thread t takes the steps whose owner leaves t when divided by `threads`, in their order. The answer
-/// is the machine's last value and the history of all calls.
+/// is the machine's last value and the history of all calls. `Spawn` never comes of one thread.
 pub fn serve<M: Served + Send, R: Threads + Wait + Sync, G: Gate + Sync, S: Starts>(
     rt: &R,
     alloc: Global,
@@ -96,8 +97,9 @@ where
     M::Answer: Send,
     requires threads { (1 ≤ threads) × (threads ≤ 64) }
     requires few { length steps.now < 2 ^ 32 }
-    ensures { IfOk result (λ r.
+    ensures served { IfOk result (λ r.
         Serves M.leads machine r.0 (shares M.owner threads threads steps.now) r.1.items) }
+    ensures alone { threads ≡ 1 → IfErr result (λ e. e ≢ ServeError.Spawn) }
 {
     let (lock, seats) = TurnLock::new(alloc, machine, threads as usize, steps.len() as u64)?;
     let seat = serve_all(rt, gate, starts, &lock, seats, steps, threads)?;

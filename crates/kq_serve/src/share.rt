@@ -1,5 +1,5 @@
 //! The calls of one thread.
-ghost use Rattle.std.specs.Prelude.{◌≡◌, ◌^◌, ◌<◌, [], length, IfOk};
+ghost use Rattle.std.specs.Prelude.{◌≡◌, ◌≢◌, ◌^◌, ◌<◌, [], length, IfOk, IfErr};
 ghost use Rattle.kq_lock.specs.Seats.{own_calls};
 ghost use Rattle.kq_serve.specs.Shares.{share, HasServed};
 
@@ -25,7 +25,8 @@ pub fn serve_share<M: Served, R: Wait, G: Gate>(
     requires new { own_calls seat ≡ [] }
     requires thread { thread < threads }
     requires few { length steps.now < 2 ^ 32 }
-    ensures { IfOk result (λ s. HasServed seat s (share M.owner threads thread steps.now)) }
+    ensures served { IfOk result (λ s. HasServed seat s (share M.owner threads thread steps.now)) }
+    ensures err { IfErr result (λ e. e ≢ ServeError.Spawn) }
 {
     let mut place = 0u32;
     for step in steps {

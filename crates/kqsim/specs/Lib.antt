@@ -3,3 +3,4 @@ pub mod CommandLine
 pub mod Workers
 pub mod Replay
 pub mod Run
+pub mod Living
