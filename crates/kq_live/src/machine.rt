@@ -57,8 +57,25 @@ impl Served for LiveMachine {
 
     fn owner_of(event: &Event) -> u64 {
         match event {
-            Event::Proc { pid } | Event::Kqueue { pid, .. } | Event::Kevent { pid, .. } =>
-                u64::from(*pid),
+            Event::Proc { pid }
+            | Event::Fork { pid, .. }
+            | Event::Exit { pid, .. }
+            | Event::Kqueue { pid, .. }
+            | Event::Dup { pid, .. }
+            | Event::Close { pid, .. }
+            | Event::Socket { pid, .. }
+            | Event::Listen { pid, .. }
+            | Event::Arrive { pid, .. }
+            | Event::Accept { pid, .. }
+            | Event::Connect { pid, .. }
+            | Event::Rx { pid, .. }
+            | Event::Tx { pid, .. }
+            | Event::Shut { pid, .. }
+            | Event::Lowat { pid, .. }
+            | Event::Pipe { pid, .. }
+            | Event::Read { pid, .. }
+            | Event::Write { pid, .. }
+            | Event::Kevent { pid, .. } => u64::from(*pid),
         }
     }
 
