@@ -79,7 +79,10 @@ impl Live {
         ensures parted { IfOk result (λ r. AllParted r.1.items) }
         ensures err { IfErr result (λ e. e ≡ TurnError.Memory) }
     {
-        match TurnLock::new(alloc, LiveMachine::new(alloc, version), seats, last) {
+        let Ok(machine) = LiveMachine::new(alloc, version) else {
+            return Err(LiveError::Memory);
+        };
+        match TurnLock::new(alloc, machine, seats, last) {
             Ok((lock, made)) => Ok((Live { lock, version }, made)),
             Err(refused) => Err(refused),
         }
