@@ -20,11 +20,13 @@ module _ (views : Views) (posted : List Posted) (kq after : Kqueue) (is : after 
   pub after-laws : IsSound kq → IsNotified kq after
   after-laws sound = subst (λ (q : Kqueue). IsNotified kq q) (sym is) (notified-law views posted kq sound)
 
-  pub after-model : (m : kqueues.Kqueue listed) → kq ≡ recast.tallied m → after ≡ recast.tallied (notified views posted m)
+  pub after-model : (m : kqueues.Kqueue listed) → kq ≡ recast.tallied m
+      → after ≡ recast.tallied (notified views posted m)
   after-model m same = is ∙ notified-tallied kq m same views posted
 
   pub after-named : (owner : ℕ) (before : Views) → LeavesOpen before views owner [] → WatchTheirNumbers before owner kq
       → WatchTheirNumbers views owner after
   after-named owner before leaves watch =
       subst (λ (q : Kqueue). WatchTheirNumbers views owner q) (sym is)
-      (notified-subjects tallying (IsNamed views owner) views posted kq (left-watched tallying before views owner kq leaves watch))
+      (notified-subjects tallying (IsNamed views owner) views posted kq
+      (left-watched tallying before views owner kq leaves watch))

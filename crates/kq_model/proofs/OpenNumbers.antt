@@ -17,7 +17,8 @@ use Rattle.kq_model.proofs.UntouchedNumbers.{is_it, passed, other-closed, other-
 
 -- ---- what held with one more held without it
 
-all-without : (P : Descriptor → Type 0) (d : Descriptor) (es : List Descriptor) → All P (with_descriptor d es) → P d × All P es
+all-without : (P : Descriptor → Type 0) (d : Descriptor) (es : List Descriptor) → All P (with_descriptor d es)
+    → P d × All P es
 unfolding with_descriptor
 all-without P d [] all = (All-head P d [] all, All-nil P)
 all-without P d (e ∷ es) all =
@@ -45,7 +46,8 @@ rising-without_all (d ∷ ds) es rising = rising-without d es (rising-without_al
 -- ---- in rising order no number stands twice
 
 -- of a pair of numbers: by the first, then by the second
-before-itself : (p n q m r k : ℕ) → eqb p r && eqb n k ≡ true → eqb q r && eqb m k ≡ true → ltb p q || (eqb p q && ltb n m) ≡ false
+before-itself : (p n q m r k : ℕ) → eqb p r && eqb n k ≡ true → eqb q r && eqb m k ≡ true
+    → ltb p q || (eqb p q && ltb n m) ≡ false
 before-itself p n q m r k = grind (arith, nat_tests)
 
 module _ (pid number : ℕ) where
@@ -53,60 +55,72 @@ module _ (pid number : ℕ) where
   unfolding is_before
   apart d e = before-itself d.pid d.number e.pid e.number pid number
 
-  others-apart : (d : Descriptor) (es : List Descriptor) → is_it pid number d ≡ true → All (λ x. is_before d x ≡ true) es → named_among pid number es ≡ None
+  others-apart : (d : Descriptor) (es : List Descriptor) → is_it pid number d ≡ true
+      → All (λ x. is_before d x ≡ true) es → named_among pid number es ≡ None
   unfolding named_among
   others-apart d [] it all = refl
   others-apart d (e ∷ es) it all =
-      by_test (λ b. is_it pid number e ≡ b → cond b (Some e.named) (named_among pid number es) ≡ None) (is_it pid number e)
+      by_test (λ b. is_it pid number e ≡ b
+      → cond b (Some e.named) (named_among pid number es) ≡ None) (is_it pid number e)
       (λ _ same. absurd (true≢false (sym (All-head (λ x. is_before d x ≡ true) e es all) ∙ apart d e it same)))
       (λ _ _. others-apart d es it (All-tail (λ x. is_before d x ≡ true) e es all))
       refl
 
   -- what was put where it belongs was not there
-  was-absent : (d : Descriptor) (es : List Descriptor) → is_it pid number d ≡ true → IsRising (with_descriptor d es) → named_among pid number es ≡ None
+  was-absent : (d : Descriptor) (es : List Descriptor) → is_it pid number d ≡ true → IsRising (with_descriptor d es)
+      → named_among pid number es ≡ None
   unfolding with_descriptor named_among
   was-absent d [] it rising = refl
   was-absent d (e ∷ es) it rising =
-      by_test (λ b. IsRising (cond b (d ∷ e ∷ es) (e ∷ with_descriptor d es)) → named_among pid number (e ∷ es) ≡ None) (is_before d e)
+      by_test (λ b. IsRising (cond b (d ∷ e ∷ es) (e ∷ with_descriptor d es))
+      → named_among pid number (e ∷ es) ≡ None) (is_before d e)
       (λ _ first. others-apart d (e ∷ es) it first.0)
       (λ _ later.
       let behind = (all-without (λ x. is_before e x ≡ true) d es later.0).0 in
-      by_test (λ b. is_it pid number e ≡ b → cond b (Some e.named) (named_among pid number es) ≡ None) (is_it pid number e)
+      by_test (λ b. is_it pid number e ≡ b
+      → cond b (Some e.named) (named_among pid number es) ≡ None) (is_it pid number e)
       (λ _ same. absurd (true≢false (sym behind ∙ apart e d same it)))
       (λ _ _. was-absent d es it later.1) refl)
       rising
 
   -- ---- what is open stays as it is
 
-  open-with : (d : Descriptor) (es : List Descriptor) (n : Named) → IsRising (with_descriptor d es) → named_among pid number es ≡ Some n
+  open-with : (d : Descriptor) (es : List Descriptor) (n : Named) → IsRising (with_descriptor d es)
+      → named_among pid number es ≡ Some n
       → named_among pid number (with_descriptor d es) ≡ Some n
   open-with d es n rising found =
-      by_test (λ b. is_it pid number d ≡ b → named_among pid number (with_descriptor d es) ≡ Some n) (is_it pid number d)
+      by_test (λ b. is_it pid number d ≡ b
+      → named_among pid number (with_descriptor d es) ≡ Some n) (is_it pid number d)
       (λ _ it. absurd (none-some n (sym (was-absent d es it rising) ∙ found)))
       (λ _ other. other-descriptor pid number d es other ∙ found)
       refl
 
-  open-with_all : (ds es : List Descriptor) (n : Named) → IsRising (with_descriptors ds es) → named_among pid number es ≡ Some n
+  open-with_all : (ds es : List Descriptor) (n : Named) → IsRising (with_descriptors ds es)
+      → named_among pid number es ≡ Some n
       → named_among pid number (with_descriptors ds es) ≡ Some n
   unfolding with_descriptors
   open-with_all [] es n rising found = found
   open-with_all (d ∷ ds) es n rising found =
-      open-with_all ds (with_descriptor d es) n rising (open-with d es n (rising-without_all ds (with_descriptor d es) rising) found)
+      open-with_all ds (with_descriptor d es) n rising
+      (open-with d es n (rising-without_all ds (with_descriptor d es) rising) found)
 
-  open-with_kqueue : (place : ℕ) (p : Option Pair) (es : List Descriptor) (n : Named) → IsRising (with_kqueue place p es)
+  open-with_kqueue : (place : ℕ) (p : Option Pair) (es : List Descriptor) (n : Named)
+      → IsRising (with_kqueue place p es)
       → named_among pid number es ≡ Some n → named_among pid number (with_kqueue place p es) ≡ Some n
   unfolding with_kqueue
   open-with_kqueue place None es n rising found = found
   open-with_kqueue place (Some p) es n rising found = open-with _ es n rising found
 
-  rising-without_kqueue : (place : ℕ) (p : Option Pair) (es : List Descriptor) → IsRising (with_kqueue place p es) → IsRising es
+  rising-without_kqueue : (place : ℕ) (p : Option Pair) (es : List Descriptor) → IsRising (with_kqueue place p es)
+      → IsRising es
   unfolding with_kqueue
   rising-without_kqueue place None es rising = rising
   rising-without_kqueue place (Some p) es rising = rising-without _ es rising
 
   -- a number that is open and is not closed names what it named
   pub stays-open : {A B C D : Type 0} {k : Keeping A B C D} (place : ℕ) (p : Plan) (w : World k) (n : Named)
-      → IsRising (carried_out place p w).table → has_pair pid number p.closed ≡ false → named_among pid number w.table ≡ Some n
+      → IsRising (carried_out place p w).table → has_pair pid number p.closed ≡ false
+      → named_among pid number w.table ≡ Some n
       → named_among pid number (carried_out place p w).table ≡ Some n
   unfolding carried_out
   stays-open place p w n rising stays found =

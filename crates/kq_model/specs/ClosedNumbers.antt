@@ -17,7 +17,8 @@ HasNoneOf pairs l = HaveSubjects (IsNotClosed l.owner pairs) l.kq.knotes
 module _ {S A B C D : Type 0} {h : Hearing S} {k : Keeping A B C D} where
   -- after the event no kqueue has such a knote of a number that it closed
   abbrev pub ClosesAll : ℕ → Event → System h k → System h k → Type 0
-  ClosesAll place event old new = (p : Plan) → plan place event (seen_world old.world) ≡ Possible p → All (HasNoneOf p.closed) new.live
+  ClosesAll place event old new =
+      (p : Plan) → plan place event (seen_world old.world) ≡ Possible p → All (HasNoneOf p.closed) new.live
 
   -- so after each record of a run, the next of which has this place
   unfoldable pub AlwaysClosesAll : ℕ → System h k → List Event → Type 0

@@ -29,8 +29,8 @@ module _ {S : Type 0} {h : Hearing S} where
   AllWatchTheirNumbers s = All (λ (l : Live h). WatchTheirNumbers (views_of (seen_world s.world)) l.owner l.kq) s.live
 
 -- at the beginning of a run, whose next record has this place, and after each of its records
-unfoldable pub AlwaysWatchTheirNumbers : {S A B C D : Type 0} {h : Hearing S} {k : Keeping A B C D} → ℕ → System h k → List Event
-    → Type 0
+unfoldable pub AlwaysWatchTheirNumbers : {S A B C D : Type 0} {h : Hearing S} {k : Keeping A B C D} → ℕ
+    → System h k → List Event → Type 0
 AlwaysWatchTheirNumbers place s [] = AllWatchTheirNumbers s
 AlwaysWatchTheirNumbers place s (e ∷ es) =
     AllWatchTheirNumbers s × AlwaysWatchTheirNumbers (place + 1) (step place e s).system es

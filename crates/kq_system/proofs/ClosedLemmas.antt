@@ -33,7 +33,8 @@ module _ {S : Type 0} (h : Hearing S) where
   unfolding born
   born_none pairs place None = All-nil (HasNoneOf {h = h} pairs)
   born_none pairs place (Some p) =
-      All-cons (HasNoneOf {h = h} pairs) _ [] (All-nil (HasSubject {h = h} (IsNotClosed p.pid pairs))) (All-nil (HasNoneOf {h = h} pairs))
+      All-cons (HasNoneOf {h = h} pairs) _ [] (All-nil (HasSubject {h = h} (IsNotClosed p.pid pairs)))
+      (All-nil (HasNoneOf {h = h} pairs))
 
 -- ---- a record calls, or it may close
 

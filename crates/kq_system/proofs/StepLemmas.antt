@@ -67,7 +67,8 @@ lawful_same version applied w es es' old stayed same = record {
   born = stayed.up_to applied old.born;
   all_live = subst (λ (ls : List Live). AreAllLive (record { version = version; world = world_of w; live = ls }))
       (sym same) old.all_live;
-  watched = subst (λ (ls : List Live). AllWatchTheirNumbers (record { version = version; world = world_of w; live = ls }))
+  watched = subst (λ (ls : List Live). AllWatchTheirNumbers
+      (record { version = version; world = world_of w; live = ls }))
       (sym same) old.watched;
   counted = old.counted;
 }

@@ -18,11 +18,13 @@ use Rattle.kq_system.proofs.StepLemmas.{counted_later}
 
 module _ {S A B C D : Type 0} {h : Hearing S} {k : Keeping A B C D} (counts : CountsAll k) where
   counted_by : (place : ℕ) (planned : Planned) (s : System h k) → KeepsCounts place (seen_world s.world) planned
-      → IsCountedWorld place (seen_world s.world) → IsCountedWorld (place + 1) (seen_world (step_by place planned s).system.world)
+      → IsCountedWorld place (seen_world s.world)
+      → IsCountedWorld (place + 1) (seen_world (step_by place planned s).system.world)
   unfolding step_by
   counted_by place (Impossible why) s keeps c = counted_later place (seen_world s.world) c
   counted_by place (Possible p) s keeps c =
-      subst (λ (w : World counted). IsCountedWorld (place + 1) w) (sym (seen-carried_out counts place p s.world)) (keeps.keeps c)
+      subst (λ (w : World counted). IsCountedWorld (place + 1) w) (sym (seen-carried_out counts place p s.world))
+      (keeps.keeps c)
 
   counted_step : (place : ℕ) (e : Event) (s : System h k) → IsCountedWorld place (seen_world s.world)
       → IsCountedWorld (place + 1) (seen_world (step place e s).system.world)

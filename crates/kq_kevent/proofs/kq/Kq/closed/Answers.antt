@@ -16,7 +16,8 @@ returns-clause-kq c =
     c.unmake-3.ensures.kq
     ∙ ap (λ (k : Kqueue). with_removed (key_by n Vnode) k)
     (c.unmake-2.ensures.kq ∙ ap (λ (k : Kqueue). with_removed (key_by n Write) k) c.unmake.ensures.kq)
-    ∙ ap (λ m. with_removed (key_by m Vnode) (with_removed (key_by m Write) (with_removed (key_by m Read) kq))) c.from-ident.ensures
+    ∙ ap (λ m. with_removed (key_by m Vnode) (with_removed (key_by m Write) (with_removed (key_by m Read) kq)))
+    c.from-ident.ensures
     ∙ three-removed c.args.self.now.owner c.args.number kq
 
 pub returns-clause-named : goal.returns-clause-named
