@@ -10,7 +10,6 @@ pub mod TakenLaws
 pub mod AnswerLaws
 pub mod KeepLaws
 pub mod CloseLaws
-pub mod NamedLaws
 pub mod TellLaws
 pub mod NotifyLaws
 pub mod NotifiedLaws
