@@ -6,3 +6,4 @@ pub mod HappenLemmas
 pub mod PlainPlans
 pub mod StepLemmas
 pub mod ClosedLemmas
+pub mod WatchedRuns
