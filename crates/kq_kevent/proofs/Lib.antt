@@ -1,3 +1,4 @@
+pub mod LookLaws
 pub mod QueueLaws
 pub mod TableLaws
 pub mod KnoteSteps
