@@ -14,6 +14,17 @@ records-init c = (
       c.in_ok-system.ensures.applied c.new-text.ensures,
 )
 
+pub records-preserved : goal.records-preserved
+records-preserved c =
+    let so_far = c.records.invariant in
+    let off : IsReadOff c.in-Some.event c.records.reader c.next_event.new.self = rw c.in-Some.is at c.in_ok-event.ensures.next in (
+      so_far.0 ++ c.in-Some.event ∷ [],
+      folded-more c.args.bytes.now so_far.0 c.records.reader c.next_event.new.self (system_of c.records.system) (system_of c.apply.new.self)
+          c.records.system.applied c.apply.new.self.applied c.applied.result c.records.text c.in_ok-text.text c.in-Some.event
+          c.in_ok-reply.reply so_far.1 off c.in_ok-event.ensures.version c.in_ok-reply.ensures.reply c.in_ok-reply.ensures.applied
+          c.applied.ensures c.in_ok-text.ensures,
+    )
+
 pub records-preserved-in_ok-text : goal.records-preserved-in_ok-text
 records-preserved-in_ok-text c =
     let so_far = c.records.invariant in
