@@ -1,21 +1,25 @@
-ghost use Rattle.std.specs.Prelude.{◌≡◌, IfOk};
-ghost use Rattle.kq_model.specs.Report.{report_of};
+ghost use Rattle.std.specs.Prelude.{IfErr, IfOk};
+ghost use Rattle.kq_trace.specs.Faults.{IsFault};
+ghost use Rattle.kqsim.specs.Replay.{IsReport};
 
 use kq_merge::ReportText;
-use kq_model::{Memory, Trace};
 use kq_system::System;
+use kq_trace::{TraceError, TraceReader};
 use std::alloc::Global;
 
-/// The report of one fold of the whole system over a trace. Each row is written as soon as it is
-/// there, so that no list of rows is kept.
-pub fn folded(alloc: Global, trace: &Trace) -> Result<Vec<u8>, Memory>
-    ensures { IfOk result (λ text. text.items ≡ report_of trace.now.version trace.now.events) }
+/// The report of one fold of the whole system over the trace that the bytes are. Each record is
+/// applied as soon as it is read, and its row written, so that neither is kept. Where a later line
+/// turns out to be bad, all of that is dropped.
+pub fn folded(alloc: Global, bytes: &[u8]) -> Result<Vec<u8>, TraceError>
+    ensures report { IfOk result (λ text. IsReport bytes.now text.items) }
+    ensures fault { IfErr result (IsFault bytes.now) }
 {
-    let mut system = System::new(alloc, trace.version)?;
+    let mut reader = TraceReader::new(alloc, bytes)?;
+    let mut system = System::new(alloc, reader.version())?;
     let mut text = ReportText::new(alloc);
-    for event in trace.events.as_slice() {
-        let reply = system.apply(event)?;
+    'records: while let Some(event) = reader.next_event()? {
+        let reply = system.apply(&event)?;
         text = text.with_row(system.applied(), &reply)?;
     }
-    text.end(trace.events.len() as u64)
+    Ok(text.end(system.applied())?)
 }

@@ -5,7 +5,7 @@ ghost use Rattle.kqsim.specs.Workers.{IsWorkerCount};
 use crate::fault::Fault;
 use crate::folding::folded;
 use crate::workers::is_worker_count;
-use kq_trace::{TraceError, read_trace};
+use kq_trace::TraceError;
 
 /// The report of the trace that the bytes are, replayed by so many workers, 1 to 256; any other
 /// number is [`Fault::Usage`], before all else.
@@ -21,10 +21,9 @@ pub fn replay<R: AllocGlobal>(rt: &R, bytes: &[u8], workers: u32) -> Result<Vec<
     if !is_worker_count(workers) {
         return Err(Fault::Usage);
     }
-    let trace = match read_trace(rt, bytes) {
-        Ok(trace) => trace,
-        Err(TraceError::Memory) => return Err(Fault::Memory),
-        Err(TraceError::Bad { line, fault }) => return Err(Fault::Trace { line, fault }),
-    };
-    folded(rt.alloc(), &trace).map_err(|_| Fault::Memory)
+    match folded(rt.alloc(), bytes) {
+        Ok(report) => Ok(report),
+        Err(TraceError::Memory) => Err(Fault::Memory),
+        Err(TraceError::Bad { line, fault }) => Err(Fault::Trace { line, fault }),
+    }
 }

@@ -1,40 +1,44 @@
-use Rattle.std.proofs.Common.{◌≡◌, ◌∙◌, ◌+◌, ◌++◌, [], ap, ap₂, sym, drop}
-use Rattle.std.proofs.lemmas.Result.{IfOk-weaker}
-use Rattle.kq_merge.specs.Written.{nothing_written}
-use Rattle.kq_merge.proofs.WrittenRows.{with_rows, with_row_of, report-is}
-use Rattle.kq_model.specs.Report.{report}
-use Rattle.kq_model.specs.System.{rows, rows_after}
+-- None yet, one more, and the last.
+use Rattle.std.proofs.Common.{◌≡◌, [], ◌∷◌, ◌++◌}
+use Rattle.kq_model.specs.Reading.{Good}
 use Rattle.kq_system.specs.SystemState.{system_of}
-use Rattle.kq_system.proofs.RowLemmas.{rows-begin}
-use Rattle.kqsim.proofs.FoldLemmas.{told, nothing-left, whole-text}
+use Rattle.kq_trace.specs.Unread.{IsReadOff}
+use Rattle.kqsim.proofs.FoldLemmas.{folded-all, folded-more, folded-none}
 use Rattle.kqsim.proofs.folding.folded.Goals as goal
 
-pub loop-event-init : goal.loop-event-init
-loop-event-init c =
-    let es = c.as_slice-event-items.result.now in (
-      ap₂ with_rows (rows-begin c.args.trace.now.version es (system_of c.in_ok-system.system) c.in_ok-system.ensures.system)
-          c.new-text.ensures,
-      c.in_ok-system.ensures.applied,
+pub records-init : goal.records-init
+records-init c = (
+  [],
+  folded-none c.args.bytes.now c.in_ok-reader.reader (system_of c.in_ok-system.system) c.new-text.result c.in_ok-system.system.applied c.version.result
+      c.in_ok-reader.ensures.meaning c.in_ok-reader.ensures.line c.version.ensures.version c.in_ok-system.ensures.system
+      c.in_ok-system.ensures.applied c.new-text.ensures,
+)
+
+pub records-preserved : goal.records-preserved
+records-preserved c =
+    let so_far = c.records.invariant in
+    let off : IsReadOff c.in-Some.event c.records.reader c.next_event.new.self = rw c.in-Some.is at c.in_ok-event.ensures.next in (
+      so_far.0 ++ c.in-Some.event ∷ [],
+      folded-more c.args.bytes.now so_far.0 c.records.reader c.next_event.new.self (system_of c.records.system) (system_of c.apply.new.self)
+          c.records.system.applied c.apply.new.self.applied c.applied.result c.records.text c.in_ok-text.text c.in-Some.event
+          c.in_ok-reply.reply so_far.1 off c.in_ok-event.ensures.version c.in_ok-reply.ensures.reply c.in_ok-reply.ensures.applied
+          c.applied.ensures c.in_ok-text.ensures,
     )
 
-pub loop-event-preserved : goal.loop-event-preserved
-loop-event-preserved c =
-    let es = c.as_slice-event-items.result.now in
-    let i = c.loop-event.event-index in
-    let applied = c.in_ok-reply.ensures.applied ∙ ap (λ n. n + 1) c.loop-event.invariant.1 in (
-      ap (with_rows (rows_after (i + 1 + 1) (system_of c.apply.new.self) (drop (i + 1) es))) c.in_ok-text.ensures
-          ∙ told es i c.event-item.result c.applied.result c.loop-event.system.applied (system_of c.loop-event.system)
-          (system_of c.apply.new.self) c.in_ok-reply.reply c.loop-event.text c.loop-event-test.true c.event-item.is
-          c.in_ok-reply.ensures.reply c.loop-event.invariant.1 (c.applied.ensures ∙ applied)
-          ∙ c.loop-event.invariant.0,
-      applied,
+pub records-preserved-in_ok-text : goal.records-preserved-in_ok-text
+records-preserved-in_ok-text c =
+    let so_far = c.records.invariant in
+    let off : IsReadOff c.in-Some.event c.records.reader c.next_event.new.self = rw c.in-Some.is at c.in_ok-event.ensures.next in (
+      so_far.0 ++ c.in-Some.event ∷ [],
+      folded-more c.args.bytes.now so_far.0 c.records.reader c.next_event.new.self (system_of c.records.system) (system_of c.apply.new.self)
+          c.records.system.applied c.apply.new.self.applied c.applied.result c.records.text c.in_ok-text.text c.in-Some.event
+          c.in_ok-reply.reply so_far.1 off c.in_ok-event.ensures.version c.in_ok-reply.ensures.reply c.in_ok-reply.ensures.applied
+          c.applied.ensures c.in_ok-text.ensures,
     )
 
-pub returns : goal.returns
-returns c =
-    let es = c.as_slice-event-items.result.now in
-    let i = c.loop-event.event-index in
-    let all = nothing-left es i (system_of c.loop-event.system) c.loop-event.text c.loop-event-test.false
-    ∙ c.loop-event.invariant.0 in
-    IfOk-weaker c.end.result _ _ (λ text is. whole-text c.args.trace.now.version c.args.trace.now.events es
-    c.len.result c.loop-event.text text.items c.as_slice-event-items.ensures c.len.ensures all is) c.end.ensures
+pub returns-clause-report : goal.returns-clause-report
+returns-clause-report c =
+    let so_far = c.records.invariant in
+    let none : c.records.reader.meaning ≡ Good c.records.reader.version [] = rw c.in_default.is at c.in_ok-event.ensures.next in
+    folded-all c.args.bytes.now so_far.0 c.records.reader (system_of c.records.system) c.records.system.applied c.applied-2.result c.records.text
+    c.in_ok-end.field-0.items so_far.1 none c.applied-2.ensures c.in_ok-end.ensures

@@ -1,12 +1,12 @@
-use Rattle.std.proofs.Common.{◌≡◌, ◌+◌, drop}
-use Rattle.kq_merge.specs.Written.{nothing_written}
-use Rattle.kq_merge.proofs.WrittenRows.{with_rows}
-use Rattle.kq_model.specs.System.{rows, rows_after}
+-- The records so far were read, applied and written.
+use Rattle.std.proofs.Common.{List, ◌-◌}
+use Rattle.kq_model.specs.declared.event.Event.{Event}
 use Rattle.kq_system.specs.SystemState.{system_of}
+use Rattle.kqsim.proofs.FoldLemmas.{IsFolded}
 use Rattle.kqsim.proofs.folding.folded.Given as goal
 
-abbrev pub invariant-loop-event : goal.invariant-loop-event
-invariant-loop-event l =
-    (with_rows (rows_after (l.event-index + 1) (system_of l.system) (drop l.event-index l.event-items)) l.text
-    ≡ with_rows (rows l.trace.version l.event-items) nothing_written)
-    × (l.system.applied ≡ l.event-index)
+abbrev pub invariant-records : goal.invariant-records
+invariant-records l = (before : List Event) × IsFolded l.bytes before l.reader (system_of l.system) l.system.applied l.text
+
+abbrev pub decreases-records : goal.decreases-records
+decreases-records l = 1000002 - l.reader.line
