@@ -118,6 +118,7 @@ fn owner_of(live: &IndexMap<u64, Live>, kqueue: u64) -> u32
 pub fn reserve_one(live: &mut Kqueues, wanted: bool, place: u64, pid: u32) -> Result<(), Memory>
     ensures entries { live.new.entries ≡ live.old.entries }
     ensures ready { OnOk result (wanted ≡ true → live.new.ready ≡ Some (place, pid)) }
+    ensures memory { OnErr result (wanted ≡ true) }
 {
     live.ready = None;
     if wanted {
