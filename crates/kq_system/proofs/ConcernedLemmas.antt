@@ -1,5 +1,6 @@
 -- To show a record to the kqueues that it concerns is to show it to all.
 use Rattle.std.proofs.Common.{◌≡◌, ◌∙◌, ◌==◌, ◌||◌, ◌&&◌, ◌<◌, ◌≤◌, ◌++◌, ℕ, Bool, true, false, not, cond, List, [], ◌∷◌, map, filter, nat_eq, Option, None, Some, refl, sym, ap, ap₂, subst, arith}
+use Rattle.std.proofs.lemmas.Bool.{eqb-true}
 use Rattle.std.proofs.lemmas.Bool.Decides.{nat_tests}
 use Rattle.std.proofs.lemmas.List.Elements.{All-head, All-tail}
 use Rattle.std.specs.Prelude.{All}
@@ -9,11 +10,12 @@ use Rattle.std.specs.HashMap.{HashMap}
 use Rattle.kq_model.specs.contracts.object.TargetPartialEq.TheImpl as target_equal
 use Rattle.kq_model.specs.declared.key.Key.{Key}
 use Rattle.kq_model.specs.declared.filter.Filter.{Filter}
+use Rattle.kq_model.specs.declared.object.Hint.{Hint}
 use Rattle.kq_model.specs.declared.object.Target.{Target}
 use Rattle.kq_model.specs.declared.object.Target.TheVariants.{Own}
 use Rattle.kq_model.specs.Close.{Pair, closed, has_pair, is_closed}
 use Rattle.kq_model.specs.Hearing.{tallying}
-use Rattle.kq_model.specs.Hints.{hints_for, if_there, knotes_noticing, noticed, notified, queue_after_all, queue_noticing}
+use Rattle.kq_model.specs.Hints.{hints_for, if_there, knotes_noticing, noticed, notified, queue_after_all, queue_noticing, takes}
 use Rattle.kq_model.specs.Knote.{watches_number}
 use Rattle.kq_model.specs.Subjects.{HasSubject, HaveSubjects}
 use Rattle.kq_model.specs.Tallied.{Knote, Kqueue, Live}
@@ -37,7 +39,9 @@ AreStanding es = Each (λ place v. v.ended ≡ false) es
 
 pub all_standing : (es : Entries) → AreStanding es → filter stands es ≡ es
 all_standing [] all = refl
-all_standing (e ∷ es) all = rw (all.0) (ap (λ (l : Entries). e ∷ l) (all_standing es all.1))
+all_standing (e ∷ es) all =
+    ap (λ b. cond (not b) (e ∷ filter stands es) (filter stands es)) all.0
+    ∙ ap (λ (l : Entries). e ∷ l) (all_standing es all.1)
 
 no_case : {X : Type 0} (b : Bool) → b ≡ true → b ≡ false → X
 no_case b yes no = absurd (cc)
@@ -62,7 +66,7 @@ not_this : {S : Type 0} (owned : HashMap ℕ (List ℕ) S) (pid owner place : �
 not_this owned pid owner place here away =
     by_test (λ b. (pid == owner) ≡ b → b ≡ false) (pid == owner)
     (λ _ same.
-    let one : pid ≡ owner = grind (arith, nat_tests) in
+    let one : pid ≡ owner = eqb-true pid owner same in
     no_case (has_place place (places_at nat_eq owned owner)) here
     (subst (λ n. has_place place (places_at nat_eq owned n) ≡ false) one away))
     (λ _ _. refl) refl
@@ -105,20 +109,37 @@ Unhinted posted (k ∷ ks) = (hints_for k posted ≡ []) × Unhinted posted ks
 
 no_hints : (posted : List Posted) (k : Knote) → list_any (λ (p : Posted). is_target k.target p.0) posted ≡ false
     → hints_for k posted ≡ []
-no_hints posted k none = rw (none_kept (λ (p : Posted). is_target k.target p.0) posted none) refl
+no_hints posted k none =
+    ap (λ (ps : List Posted). filter (takes k.key.filter) (map (λ (p : Posted). p.1) ps))
+    (none_kept (λ (p : Posted). is_target k.target p.0) posted none)
+
+one_same : (views : Views) (hints : List Hint) (k : Knote) (rest : List Knote) → hints ≡ []
+    → if_there (noticed views hints k) ++ rest ≡ k ∷ rest
+unfolding noticed if_there
+one_same views [] k rest none = refl
+one_same views (h ∷ hs) k rest none = absurd (cc)
+
+place_same : (views : Views) (hints : List Hint) (k : Knote) (queue : List Key) → hints ≡ []
+    → queue_noticing views hints k queue ≡ queue
+unfolding queue_noticing
+place_same views [] k queue none = refl
+place_same views (h ∷ hs) k queue none = absurd (cc)
 
 knotes_same : (views : Views) (posted : List Posted) (ks : List Knote) → Unhinted posted ks
     → knotes_noticing views posted ks ≡ ks
-unfolding knotes_noticing noticed if_there
+unfolding knotes_noticing
 knotes_same views posted [] none = refl
 knotes_same views posted (k ∷ ks) none =
-    rw (none.0) (ap (λ (rest : List Knote). k ∷ rest) (knotes_same views posted ks none.1))
+    one_same views (hints_for k posted) k (knotes_noticing views posted ks) none.0
+    ∙ ap (λ (rest : List Knote). k ∷ rest) (knotes_same views posted ks none.1)
 
 queue_same : (views : Views) (posted : List Posted) (ks : List Knote) (queue : List Key) → Unhinted posted ks
     → queue_after_all views posted ks queue ≡ queue
-unfolding queue_after_all queue_noticing
+unfolding queue_after_all
 queue_same views posted [] queue none = refl
-queue_same views posted (k ∷ ks) queue none = rw (none.0) (queue_same views posted ks queue none.1)
+queue_same views posted (k ∷ ks) queue none =
+    ap (queue_after_all views posted ks) (place_same views (hints_for k posted) k queue none.0)
+    ∙ queue_same views posted ks queue none.1
 
 pub unheard : (views : Views) (posted : List Posted) (kq : Kqueue) → Unhinted posted kq.knotes
     → notified views posted kq ≡ kq
@@ -219,6 +240,7 @@ module _ (round : ℕ) (pairs : List Pair) (hints : List Posted) (views : Views)
       standing : (b : Bool) → not b ≡ true → b ≡ false
       standing true is = absurd (cc)
       standing false is = refl
+
       unlike : (a b : ℕ) → nat_eq a b ≡ false → a ≡ b → ⊥
       unlike a b apart same = grind (arith, nat_tests)
 

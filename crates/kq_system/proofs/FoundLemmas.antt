@@ -23,7 +23,7 @@ use Rattle.kq_model.specs.Hints.{notified}
 use Rattle.kq_model.specs.Knote.{find_knote}
 use Rattle.kq_model.specs.Refusals.{is_malformed, is_unopened, own_refusal}
 use Rattle.kq_model.specs.Registration.{Decision, Make, Modify, Refuse, Remove, decided, decision, unless_refused}
-use Rattle.kq_model.specs.Subjects.{HasSubject, HaveSubjects, MakeSubjects}
+use Rattle.kq_model.specs.Subjects.{HasSubject, HaveSubjects, MakeSubjects, MakesSubject}
 use Rattle.kq_model.specs.Tallied.{Called, Knote, Kqueue}
 use Rattle.kq_model.specs.Targets.{Posted, target_of}
 use Rattle.kq_model.specs.Views.{Views}
@@ -48,7 +48,7 @@ listed_more place old new more ks has =
 
 -- ---- where a record was shown to all
 
-module _ {F S' : Type 0} (T : F → ℕ → NumberedKqueue → Bool → NumberedKqueue → F → Type 0) (pairs : List Pair)
+module _ {F : Type 0} (T : F → ℕ → NumberedKqueue → Bool → NumberedKqueue → F → Type 0) (pairs : List Pair)
     (hints : List Posted) (views : Views) (f : F)
     (says : (k : ℕ) (v : NumberedKqueue) (b : Bool) (w : NumberedKqueue) (g : F) → T f k v b w g
     → Says pairs hints views f v b w g) where
@@ -127,7 +127,10 @@ pub make_listed : {T : Type 0} (watching : HashMap Target (List ℕ) T) (place :
     (target_of caller.views caller.owner c.filter c.ident)) changes
     → MakeSubjects tallying (IsListed place watching) caller changes
 make_listed watching place caller changes listed =
-    All-weaker _ _ (λ (c : Change) given kq makes. given (subst (Adds caller c) makes
+    All-weaker (λ (c : Change). asks c.flags add ≡ true → IsListed place watching c.filter c.ident
+    (target_of caller.views caller.owner c.filter c.ident))
+    (λ (c : Change). (kq : Kqueue) → MakesSubject (IsListed place watching) caller c kq)
+    (λ (c : Change) given kq makes. given (subst (Adds caller c) makes
     (decision-adds caller c (find_knote (key_of c) kq.knotes)))) changes listed
 
 by_result : (P : Kqueue → Type 0) (old new : Kqueue) (answer : Called) (r : Result Reply Memory) → P answer.kq → P old
@@ -172,16 +175,16 @@ module _ {S T : Type 0} (owned : HashMap ℕ (List ℕ) S) (old new : HashMap Ta
       → (HaveSubjects (IsListed k new) v.kq.kq.knotes → HaveSubjects (IsListed k new) w.kq.kq.knotes)
       → AreFound (set_value (nat_eq k) es w) spare' None owned new round
   found_called spare' k v w here owner shown ended called = record {
-    by_owner = Each-set _ k es w found.by_owner (λ j hit.
+    by_owner = Each-set (λ k v. has_place k (places_at nat_eq owned v.kq.owner) ≡ true) k es w found.by_owner (λ j hit.
         subst (λ j. has_place j (places_at nat_eq owned w.kq.owner) ≡ true) (same_number k j hit)
         (subst (λ owner. has_place k (places_at nat_eq owned owner) ≡ true) (sym owner)
         (Each-found (λ k v. has_place k (places_at nat_eq owned v.kq.owner) ≡ true) k es v found.by_owner here)));
-    by_target = Each-set _ k es w all_listed (λ j hit.
+    by_target = Each-set (λ k v. HaveSubjects (IsListed k new) v.kq.kq.knotes) k es w all_listed (λ j hit.
         subst (λ j. HaveSubjects (IsListed j new) w.kq.kq.knotes) (same_number k j hit)
         (called (Each-found (λ k v. HaveSubjects (IsListed k new) v.kq.kq.knotes) k es v all_listed here)));
-    shown = Each-set _ k es w found.shown (λ j hit.
+    shown = Each-set (λ k v. v.shown ≤ round) k es w found.shown (λ j hit.
         subst (λ n. n ≤ round) (sym shown) (Each-found (λ k v. v.shown ≤ round) k es v found.shown here));
-    standing = Each-set _ k es w found.standing (λ j hit.
+    standing = Each-set (λ k v. v.ended ≡ false) k es w found.standing (λ j hit.
         ended ∙ Each-found (λ k v. v.ended ≡ false) k es v found.standing here);
     room = λ birth is. absurd (cc);
   }
@@ -209,12 +212,12 @@ module _ {S T : Type 0} (watching : HashMap Target (List ℕ) T) (round : ℕ) (
       → AreFound es spare prepared owned watching round → prepared ≡ Some (k, w.kq.owner) → w.kq.kq.knotes ≡ []
       → w.shown ≡ 0 → w.ended ≡ false → AreFound (es ++ (k, w) ∷ []) spare' None owned watching round
   found_born owned spare' k w found ready none shown ended = record {
-    by_owner = Each-push _ es (k, w) found.by_owner (found.room (k, w.kq.owner) ready).1;
-    by_target = Each-push _ es (k, w) found.by_target
+    by_owner = Each-push (λ k v. has_place k (places_at nat_eq owned v.kq.owner) ≡ true) es (k, w) found.by_owner (found.room (k, w.kq.owner) ready).1;
+    by_target = Each-push (λ k v. HaveSubjects (IsListed k watching) v.kq.kq.knotes) es (k, w) found.by_target
         (subst (λ (ks : List Knote). HaveSubjects (IsListed k watching) ks) (sym none)
         (All-nil (HasSubject (IsListed k watching))));
-    shown = Each-push _ es (k, w) found.shown (omega (arith, shown));
-    standing = Each-push _ es (k, w) found.standing ended;
+    shown = Each-push (λ k v. v.shown ≤ round) es (k, w) found.shown (omega (arith, shown));
+    standing = Each-push (λ k v. v.ended ≡ false) es (k, w) found.standing ended;
     room = λ birth is. absurd (cc);
   }
 

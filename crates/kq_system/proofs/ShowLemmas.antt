@@ -89,11 +89,12 @@ module _ (P : ℕ → NumberedKqueue → Type 0) where
       → ((k : ℕ) (v : NumberedKqueue) → lookup (nat_eq k) es ≡ Some v → P k v) → Each P es
   unfolding IsDistinct
   Each-from [] distinct each = tt
-  Each-from (e ∷ es) distinct each = (
-    each e.0 e.1 (ap (λ b. cond b (Some e.1) (lookup (nat_eq e.0) es)) (grind (arith, nat_tests))),
-    Each-from es distinct.1 (λ k v found. each k v
-        (missed k e (lookup (nat_eq k) es) (nat_eq k e.0) (behind_first e es k v distinct.0 found) ∙ found)),
-  )
+  Each-from (e ∷ es) distinct each =
+      let here : nat_eq e.0 e.0 ≡ true = grind (arith, nat_tests) in (
+        each e.0 e.1 (ap (λ b. cond b (Some e.1) (lookup (nat_eq e.0) es)) here),
+        Each-from es distinct.1 (λ k v found. each k v
+            (missed k e (lookup (nat_eq k) es) (nat_eq k e.0) (behind_first e es k v distinct.0 found) ∙ found)),
+      )
 
 pub Each-weaker : (P Q : ℕ → NumberedKqueue → Type 0) → ((k : ℕ) (v : NumberedKqueue) → P k v → Q k v) → (es : Entries)
     → Each P es → Each Q es
