@@ -44,7 +44,7 @@ all_standing (e ∷ es) all =
     ∙ ap (λ (l : Entries). e ∷ l) (all_standing es all.1)
 
 no_case : {X : Type 0} (b : Bool) → b ≡ true → b ≡ false → X
-no_case b yes no = absurd (cc)
+no_case b is away = absurd (cc)
 
 -- ---- a kqueue whose process closes nothing
 

@@ -14,8 +14,8 @@ abbrev pub Entries : Type 0
 Entries = List (ℕ × NumberedKqueue)
 
 pub by_test : (P : Bool → Type 0) (b : Bool) → (b ≡ true → P true) → (b ≡ false → P false) → P b
-by_test P true yes no = yes refl
-by_test P false yes no = no refl
+by_test P true holds fails = holds refl
+by_test P false holds fails = fails refl
 
 is_number : (a b : ℕ) → nat_eq a b ≡ true → a ≡ b
 is_number a b h = grind (arith, nat_tests)

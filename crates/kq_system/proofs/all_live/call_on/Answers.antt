@@ -16,8 +16,8 @@ use Rattle.kq_system.proofs.FoundLemmas.{called_listed, found_called, found_more
 use Rattle.kq_system.proofs.ShowLemmas.{Entries}
 use Rattle.kq_system.proofs.all_live.call_on.Goals as goal
 
-pub owner_of-requires : goal.owner_of-requires
-owner_of-requires g c =
+pub owner_of-owner-requires : goal.owner_of-owner-requires
+owner_of-owner-requires g c =
     subst (λ (v : LiveKqueues). IsLive c.args.kqueue (map live_of v.entries)) (sym c.live.view_is) c.requires
 
 pub unreachable-requires : goal.unreachable-requires

@@ -48,8 +48,8 @@ returns-in_default-clause-stayed g c =
       same = search rules;
     }) _ _ c.retain.ensures.filtered)
 
-pub invariant_of-live-in_default : goal.invariant_of-live-in_default
-invariant_of-live-in_default g c =
+pub invariant_of-live : goal.invariant_of-live
+invariant_of-live g c =
     found_walked _ (pairs_in c.args.pairs.now) c.args.hints.now (g.V.Views.sees c.args.views.now) _
     (λ k v b w f t. record {
       stays = search rules;
@@ -84,8 +84,8 @@ returns-clause-stayed g c =
     (subst (HaveStayed c.live.inside.live.entries) (sym c.drop_ended.ensures)
     (shown_stayed c.in-Some.round pairs hints views c.live.inside.live.entries _ c.show_concerned-any.ensures.passed))
 
-pub invariant_of-live : goal.invariant_of-live
-invariant_of-live g c =
+pub invariant_of-live-2 : goal.invariant_of-live-2
+invariant_of-live-2 g c =
     let pairs = pairs_in c.args.pairs.now in
     let hints = c.args.hints.now in
     let views = g.V.Views.sees c.args.views.now in

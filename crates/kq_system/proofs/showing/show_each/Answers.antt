@@ -19,8 +19,8 @@ loop-place-preserved g c =
     let i = c.loop-place.place-index in
     let es = c.args.live.now.entries in
     shown-of c.args.round pairs hints views (λ p. has_place p (take i ps) || nat_eq p (get_or ps i 0))
-    (λ p. has_place p (take (i + 1) ps)) (c.loop-place.any || c.show_one-ended.result) c.either.result es
-    c.show_one-ended.new.live.entries (sym c.either.ensures)
+    (λ p. has_place p (take (i + 1) ps)) (c.loop-place.any || c.show_one-ended.result) c.either-any.result es
+    c.show_one-ended.new.live.entries (sym c.either-any.ensures)
     (λ p asked. any_next (nat_eq p) ps i 0 c.loop-place-test.true
     (subst (λ n. list_any (nat_eq p) (take n ps) ≡ true) (add-one i) asked))
     (shown-both c.args.round pairs hints views (λ p. has_place p (take i ps)) (λ p. nat_eq p (get_or ps i 0))

@@ -22,8 +22,8 @@ loop-pair-preserved g c =
     let es = c.args.live.now.entries in
     let places = c.at-places.result.now in
     shown-of c.args.round pairs hints views (λ p. asks_owned table (take i xs) p || has_place p places)
-    (asks_owned table (take (i + 1) xs)) (c.loop-pair.any || c.show_each-ended.result) c.either.result es
-    c.show_each-ended.new.live.entries (sym c.either.ensures)
+    (asks_owned table (take (i + 1) xs)) (c.loop-pair.any || c.show_each-ended.result) c.either-any.result es
+    c.show_each-ended.new.live.entries (sym c.either-any.ensures)
     (λ p asked. subst (λ (ps : List ℕ). (asks_owned table (take i xs) p || has_place p ps) ≡ true) (sym c.at-places.ensures)
     (any_next (λ (x : ℕ × ℕ). has_place p (places_at nat_eq table x.0)) xs i (0, 0) c.loop-pair-test.true
     (subst (λ n. asks_owned table (take n xs) p ≡ true) (add-one i) asked)))

@@ -26,8 +26,8 @@ loop-hint-preserved g c =
     let es = c.args.live.now.entries in
     let places = c.at-places.result.now in
     shown-of c.args.round pairs hints views (λ p. asks_watching table (take i xs) p || has_place p places)
-    (asks_watching table (take (i + 1) xs)) (c.loop-hint.any || c.show_each-ended.result) c.either.result es
-    c.show_each-ended.new.live.entries (sym c.either.ensures)
+    (asks_watching table (take (i + 1) xs)) (c.loop-hint.any || c.show_each-ended.result) c.either-any.result es
+    c.show_each-ended.new.live.entries (sym c.either-any.ensures)
     (λ p asked. subst (λ (ps : List ℕ). (asks_watching table (take i xs) p || has_place p ps) ≡ true) (sym c.at-places.ensures)
     (any_next (λ (x : Posted). has_place p (places_at target_equal.eq-value.it table x.0)) xs i (Socket 0, Readable) c.loop-hint-test.true
     (subst (λ n. asks_watching table (take n xs) p ≡ true) (add-one i) asked)))
