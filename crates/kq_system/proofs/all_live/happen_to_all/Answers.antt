@@ -1,4 +1,5 @@
 use Rattle.std.proofs.Common.{◌≡◌, ◌∙◌, None, map, rules, ap, sym, subst}
+use Rattle.std.specs.HashMap.{spare}
 use Rattle.kq_process.specs.Effects.{pairs_in}
 use Rattle.kq_system.specs.Showing.{AreFound, LiveKqueues}
 use Rattle.kq_system.specs.SystemState.{HaveStayed, happened_to_all, live_of}
@@ -90,10 +91,10 @@ invariant_of-live-2 g c =
     let hints = c.args.hints.now in
     let views = g.V.Views.sees c.args.views.now in
     let old = c.live.inside in
-    subst (λ (es : Entries). AreFound es _ None old.owned.table old.watching.table c.in-Some.round)
+    subst (λ (es : Entries). AreFound es (spare c.drop_ended.new.live) None old.owned.table old.watching.table c.in-Some.round)
     (sym c.drop_ended.ensures)
     (found_after c.in-Some.round pairs hints views old.owned.table old.watching.table old.round c.in-Some.ensures.later
-    old.live.entries _ _ _ _ c.live.invariant c.show_concerned-any.ensures.passed)
+    old.live.entries _ (spare old.live) (spare c.drop_ended.new.live) old.ready c.live.invariant c.show_concerned-any.ensures.passed)
 
 pub drop_ended-requires : goal.drop_ended-requires
 drop_ended-requires g c = λ none. c.show_concerned-any.ensures.calm none c.live.invariant.standing
