@@ -179,5 +179,21 @@ plan_kevent_within pid fd changes room w =
 pub plan_within : (place : ℕ) (e : Event) (w : World counted) → PlansWithin (room_of e) (plan place e w)
 unfolding plan
 plan_within place (event.Proc pid) w = plan_proc_within pid w
+plan_within place (event.Fork pid child) w = plan_fork_within pid child w
+plan_within place (event.Exit pid status) w = plan_exit_within pid status w
 plan_within place (event.Kqueue pid fd) w = plan_kqueue_within pid fd w
+plan_within place (event.Dup pid fd to) w = plan_dup_within pid fd to w
+plan_within place (event.Close pid fd) w = plan_close_within pid fd w
+plan_within place (event.Socket pid fd rcv snd) w = plan_socket_within place pid fd rcv snd w
+plan_within place (event.Listen pid fd backlog) w = plan_at_within place pid fd (λ on. act.Listen on backlog) w
+plan_within place (event.Arrive pid fd) w = plan_at_within place pid fd act.Arrive w
+plan_within place (event.Accept pid fd to rcv snd) w = plan_accept_within place pid fd to rcv snd w
+plan_within place (event.Connect pid fd) w = plan_at_within place pid fd act.Connect w
+plan_within place (event.Rx pid fd n) w = plan_at_within place pid fd (λ on. act.Receive on n) w
+plan_within place (event.Tx pid fd n) w = plan_at_within place pid fd (λ on. act.Transmit on n) w
+plan_within place (event.Shut pid fd side error) w = plan_at_within place pid fd (λ on. act.Shut on side error) w
+plan_within place (event.Lowat pid fd side n) w = plan_at_within place pid fd (λ on. act.LowWater on side n) w
+plan_within place (event.Pipe pid rfd wfd cap) w = plan_pipe_within place pid rfd wfd cap w
+plan_within place (event.Read pid fd n) w = plan_at_within place pid fd (λ on. act.Read on n) w
+plan_within place (event.Write pid fd n) w = plan_at_within place pid fd (λ on. act.Write on n) w
 plan_within place (event.Kevent pid fd changes room) w = plan_kevent_within pid fd changes room w

@@ -9,3 +9,4 @@ pub mod ClosedLemmas
 pub mod ShowLemmas
 pub mod ConcernedLemmas
 pub mod FoundLemmas
+pub mod WatchedRuns

@@ -10,7 +10,7 @@ use Rattle.kq_process.specs.World.{world_of}
 use Rattle.kq_system.specs.SystemState.{IsStep, SystemState, happened_to_all, live_of, state_of, system_of}
 use Rattle.kq_system.proofs.HappenLemmas.{stayed_same}
 use Rattle.kq_system.proofs.StepLemmas.{happened_step, lawful_after, refused_step}
-use Rattle.kq_system.proofs.SystemLemmas.{refused, stays_live}
+use Rattle.kq_system.proofs.SystemLemmas.{refused, stays_live, stays_watched}
 use Rattle.kq_system.proofs.system.System.happen.Goals as goal
 
 pub invariant_of-self-in-Err : goal.invariant_of-self-in-Err
@@ -25,6 +25,8 @@ invariant_of-self-in-Err c =
     lawful_after old.version old.applied old.world c.apply.new.self old.live.entries old.live.entries c.self.invariant
     (stayed_same old.live.entries)
     (stays_live place e (system_of s) _ (reply.Impossible c.in-Err.why) steps c.self.invariant.all_live)
+    (stays_watched place (place + 1) e (system_of s) _ (reply.Impossible c.in-Err.why) steps c.in_ok-effect.ensures.next
+    c.self.invariant.watched)
     c.in_ok-effect.ensures.next
 
 pub returns-in-Err-clause-reply : goal.returns-in-Err-clause-reply
@@ -55,6 +57,8 @@ invariant_of-self-2 c =
     lawful_after old.version old.applied old.world c.apply.new.self old.live.entries
     c.happen_to_all.new.live.entries c.self.invariant c.happen_to_all.ensures.stayed
     (stays_live place e (system_of s) _ reply.Done steps c.self.invariant.all_live)
+    (stays_watched place (place + 1) e (system_of s) _ reply.Done steps c.in_ok-effect.ensures.next
+    c.self.invariant.watched)
     c.in_ok-effect.ensures.next
 
 pub returns-clause-reply : goal.returns-clause-reply
