@@ -15,3 +15,4 @@ mod register;
 mod retrieve;
 
 pub use kq::Kq;
+pub use named::target_of;

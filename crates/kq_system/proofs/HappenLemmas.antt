@@ -128,6 +128,8 @@ pub record Says {F : Type 0} (pairs : List Pair) (hints : List Posted) (views : 
   pub number : w.number ≡ v.number
   pub owner : w.kq.owner ≡ v.kq.owner
   pub version : w.kq.version ≡ v.kq.version
+  pub shown : w.shown ≡ v.shown
+  pub ended : w.ended ≡ v.ended
   pub kq : b ≡ true → w.kq.kq ≡ notified views hints (closed v.kq.owner pairs v.kq.kq)
   pub same : g ≡ f
 

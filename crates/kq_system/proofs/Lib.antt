@@ -6,4 +6,7 @@ pub mod HappenLemmas
 pub mod PlainPlans
 pub mod StepLemmas
 pub mod ClosedLemmas
+pub mod ShowLemmas
+pub mod ConcernedLemmas
+pub mod FoundLemmas
 pub mod WatchedRuns

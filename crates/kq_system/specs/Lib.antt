@@ -1,1 +1,3 @@
 pub mod SystemState
+pub mod Places
+pub mod Showing

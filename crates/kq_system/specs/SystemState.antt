@@ -37,6 +37,10 @@ system_of s = record { version = s.version; world = world_of s.world; live = s.l
 pub record NumberedKqueue : Type 0 where
   pub number : ℕ
   pub kq : OwnedKqueue
+  -- the round in which it was shown a record last
+  pub shown : ℕ
+  -- its number was closed in that round
+  pub ended : Bool
 
 -- by the place of its birth
 abbrev pub live_of : ℕ × NumberedKqueue → Live

@@ -1,22 +1,28 @@
 // What a record does to all live kqueues.
-ghost use Rattle.std.specs.Prelude.{◌≡◌, ◌++◌, ◌<◌, ◌≤◌, ℕ, [], map, true, nat_eq, None, Some, IfOk, OnErr, OnOk};
-ghost use Rattle.std.specs.Map.{keys_of};
-ghost use Rattle.indexmap.specs.IndexMap.{get, spare};
+ghost use Rattle.std.specs.Prelude.{◌≡◌, ◌++◌, ◌<◌, ◌≤◌, ℕ, [], map, true, nat_eq, None, Some, All, IfOk, IfSome, OnErr, OnOk};
+ghost use Rattle.std.specs.Map.{keys_of, lookup};
+ghost use Rattle.kq_model.specs.declared.object.Target.TheVariants.{Own};
 ghost use Rattle.kq_model.specs.Moment.{Moment};
 ghost use Rattle.kq_model.specs.System.{born};
 ghost use Rattle.kq_process.specs.Effects.{pairs_in};
-ghost use Rattle.kq_system.specs.SystemState.{live_of, AreOfVersion, AreUpTo, HaveStayed, IsCalled, IsLive, IsQuiet, happened_to_all};
+ghost use Rattle.kq_system.specs.SystemState.{live_of, AreOfVersion, AreUpTo, HaveStayed, IsCalled, IsLive, IsQuiet, NumberedKqueue, happened_to_all};
 
+use crate::kqueues::Kqueues;
 use crate::live::Live;
+use crate::showing::{drop_ended, show_concerned};
+use crate::watching::watch_all;
 use indexmap::IndexMap;
 use kq_filters::Views;
 use kq_kevent::Kq;
 use kq_model::{Change, Hint, Memory, Reply, Target};
 
+/// So few kqueues are all shown a record.
+const FEW: usize = 1;
+
 /// A kqueue whose own number was closed ends. In each of the others the knotes of the numbers that
 /// were closed in its process are gone, and then the knotes hear the hints.
 pub fn happen_to_all<V: Views>(
-    live: &mut IndexMap<u64, Live>,
+    live: &mut Kqueues,
     pairs: &[(u32, u32)],
     hints: &[(Target, Hint)],
     views: &V,
@@ -28,7 +34,39 @@ pub fn happen_to_all<V: Views>(
     if is_quiet(pairs, hints) {
         return;
     }
-    live.retain(|_, one| one.happen(pairs, hints, views));
+    live.ready = None;
+    let Some(round) = next_round(live.live.len(), live.round, hints) else {
+        live.live.retain(|_, one| one.happen(pairs, hints, views));
+        return;
+    };
+    let any = show_concerned(
+        &mut live.live,
+        &live.owned,
+        &live.watching,
+        round,
+        pairs,
+        hints,
+        views,
+    );
+    drop_ended(&mut live.live, any);
+    live.round = round;
+}
+
+/// The round in which a record is shown to those that it concerns alone. None where it is shown to
+/// all: where there are so few of them, or a hint is for knotes by themselves, which no index has.
+fn next_round(live: usize, round: u64, hints: &[(Target, Hint)]) -> Option<u64>
+    ensures later { IfSome result (λ next. round < next) }
+    ensures of_others { IfSome result (λ _. All (λ p. p.0 ≡ Own → ⊥) hints.now) }
+{
+    if live <= FEW {
+        return None;
+    }
+    for hint in hints {
+        if hint.0 == Target::Own {
+            return None;
+        }
+    }
+    round.checked_add(1)
 }
 
 /// Whether nothing is closed and nobody is told.
@@ -41,7 +79,7 @@ fn is_quiet(pairs: &[(u32, u32)], hints: &[(Target, Hint)]) -> bool
 
 /// A call on the live kqueue that was made at a place.
 pub fn call_on<V: Views>(
-    live: &mut IndexMap<u64, Live>,
+    live: &mut Kqueues,
     kqueue: u64,
     changes: &[Change],
     room: u32,
@@ -56,36 +94,60 @@ pub fn call_on<V: Views>(
     ensures stayed { HaveStayed live.old.entries live.new.entries }
     ensures memory { OnErr result (map live_of live.new.entries ≡ map live_of live.old.entries) }
 {
-    let Some(one) = live.get_mut(&kqueue) else {
+    live.ready = None;
+    let owner = owner_of(&live.live, kqueue);
+    watch_all(&mut live.watching, kqueue, owner, changes, views)?;
+    let Some(one) = live.live.get_mut(&kqueue) else {
         unreachable!();
     };
     one.kq.call(changes, room, views)
 }
 
-/// Room for one kqueue more, where it is wanted; else nothing.
-pub fn reserve_one(live: &mut IndexMap<u64, Live>, wanted: bool) -> Result<(), Memory>
+/// The process of a live kqueue.
+fn owner_of(live: &IndexMap<u64, Live>, kqueue: u64) -> u32
+    requires { IsLive kqueue (map live_of live.now.entries) }
+    ensures { (v : NumberedKqueue) → lookup (nat_eq kqueue) live.now.entries ≡ Some v → result ≡ v.kq.owner }
+{
+    match live.get(&kqueue) {
+        Some(one) => one.kq.owner(),
+        None => unreachable!(),
+    }
+}
+
+/// Room for the birth of a kqueue at a place, where it is wanted; else nothing.
+pub fn reserve_one(live: &mut Kqueues, wanted: bool, place: u64, pid: u32) -> Result<(), Memory>
     ensures entries { live.new.entries ≡ live.old.entries }
-    ensures room { OnOk result (wanted ≡ true → 0 < spare live.new) }
+    ensures ready { OnOk result (wanted ≡ true → live.new.ready ≡ Some (place, pid)) }
     ensures memory { OnErr result (wanted ≡ true) }
 {
+    live.ready = None;
     if wanted {
-        live.reserve(1).map_err(|_| Memory)?;
+        live.live.reserve(1).map_err(|_| Memory)?;
+        live.owned.add(pid, place)?;
+        live.ready = Some((place, pid));
     }
     Ok(())
 }
 
 /// A kqueue is made by the record at a place, later than all others.
-pub fn bear(live: &mut IndexMap<u64, Live>, place: u64, pid: u32, number: u32)
-    requires room { 0 < spare live.old }
-    requires absent { get nat_eq live.old place ≡ None }
+pub fn bear(live: &mut Kqueues, place: u64, pid: u32, number: u32)
+    requires ready { live.old.ready ≡ Some (place, pid) }
+    requires absent { lookup (nat_eq place) live.old.entries ≡ None }
     ensures born { map live_of live.new.entries
         ≡ map live_of live.old.entries ++ born place (Some (record { pid = pid; number = number })) }
     ensures version { AreOfVersion 1 live.old.entries → AreOfVersion 1 live.new.entries }
     ensures up_to { (most : ℕ) → place ≤ most → AreUpTo most (keys_of live.old.entries)
         → AreUpTo most (keys_of live.new.entries) }
 {
-    let kq = Kq::new(*live.allocator(), pid);
-    match live.insert(place, Live { number, kq }) {
+    live.ready = None;
+    let kq = Kq::new(*live.live.allocator(), pid);
+    let one = Live {
+        number,
+        ended: false,
+        shown: 0,
+        kq,
+    };
+    match live.live.insert(place, one) {
         Ok(_) => {}
         Err(_) => unreachable!(),
     }

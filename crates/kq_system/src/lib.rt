@@ -4,7 +4,12 @@
 
 mod all_live;
 mod fold;
+mod index;
+mod kqueues;
 mod live;
+mod places;
+mod showing;
 mod system;
+mod watching;
 
 pub use system::System;

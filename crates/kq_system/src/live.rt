@@ -2,6 +2,7 @@ ghost use Rattle.std.specs.Prelude.{◌≡◌, ◌==◌, ◌&&◌, ◌∷◌, []
 ghost use Rattle.kq_model.specs.Close.{closed, has_pair};
 ghost use Rattle.kq_model.specs.Hints.{notified};
 ghost use Rattle.kq_process.specs.Effects.{pair_of, pairs_in};
+ghost use Rattle.kq_system.specs.Showing.{IsPassed};
 
 use kq_filters::Views;
 use kq_kevent::Kq;
@@ -12,6 +13,10 @@ use std::marker::Model;
 #[derive(Drop)]
 pub struct Live {
     pub number: u32,
+    /// Its number was closed in the round in which it was shown a record last.
+    pub ended: bool,
+    /// The round in which it was shown a record last.
+    pub shown: u64,
     pub kq: Kq,
 }
 
@@ -20,7 +25,7 @@ impl Model for Live {
 
     ghost Value = { NumberedKqueue };
 
-    ghost view = { λ l. record { number = l.number; kq = l.kq } };
+    ghost view = { λ l. record { number = l.number; kq = l.kq; shown = l.shown; ended = l.ended } };
 }
 
 impl Live {
@@ -39,6 +44,8 @@ impl Live {
         ensures number { self.new.number ≡ self.old.number }
         ensures owner { self.new.kq.owner ≡ self.old.kq.owner }
         ensures version { self.new.kq.version ≡ self.old.kq.version }
+        ensures shown { self.new.shown ≡ self.old.shown }
+        ensures ended { self.new.ended ≡ self.old.ended }
     {
         if is_closed(self.kq.owner(), self.number, pairs) {
             return false;
@@ -46,6 +53,27 @@ impl Live {
         close(&mut self.kq, pairs);
         self.kq.notify(hints, views);
         true
+    }
+
+    /// The same, where it was not shown the record in this round; whether it ended in it is kept.
+    pub fn show<V: Views>(
+        &mut self,
+        round: u64,
+        pairs: &[(u32, u32)],
+        hints: &[(Target, Hint)],
+        views: &V,
+    ) -> bool
+        ensures passed { IsPassed round (pairs_in pairs.now) hints.now (V.sees views.now) self.old self.new }
+        ensures seen { self.new.shown ≡ round }
+        ensures ended { result ≡ self.new.ended }
+    {
+        if self.shown == round {
+            return self.ended;
+        }
+        let goes_on = self.happen(pairs, hints, views);
+        self.shown = round;
+        self.ended = !goes_on;
+        self.ended
     }
 }
 

@@ -2,8 +2,7 @@ ghost use Rattle.std.specs.Prelude.{◌≡◌, ◌+◌, ◌-◌, ◌^◌, ◌<�
 ghost use Rattle.kq_model.specs.declared.object.Named.TheVariants as named_as;
 
 use crate::all_live::{bear, call_on, happen_to_all, reserve_one};
-use crate::live::Live;
-use indexmap::IndexMap;
+use crate::kqueues::Kqueues;
 use kq_model::{Change, Event, Memory, Named, Reply};
 use kq_process::World;
 use std::alloc::Global;
@@ -15,7 +14,7 @@ use std::marker::Model;
 pub struct System {
     version: u32,
     world: World,
-    live: IndexMap<u64, Live>,
+    live: Kqueues,
     applied: u64,
 }
 
@@ -46,7 +45,7 @@ impl System {
         Ok(System {
             version,
             world: World::new(alloc)?,
-            live: IndexMap::new(alloc),
+            live: Kqueues::new(alloc),
             applied: 0,
         })
     }
@@ -177,7 +176,7 @@ impl System {
     {
         let place = self.applied + 1;
         let opens = self.can_open(pid, number);
-        reserve_one(&mut self.live, opens)?;
+        reserve_one(&mut self.live, opens, place, pid)?;
         let effect = self.world.apply(place, event)?;
         self.applied = place;
         if let Err(why) = effect.verdict {

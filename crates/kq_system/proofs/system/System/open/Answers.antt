@@ -58,8 +58,8 @@ returns-in-Err-clause-reply c =
     (record (system_of s) { world = world_of c.apply.new.self; live = map live_of es })
     (reply.Impossible c.in-Err.why)) (sym c.in_ok-reserve_one.ensures.entries) steps)
 
-pub bear-requires-clause-room : goal.bear-requires-clause-room
-bear-requires-clause-room c =
+pub bear-requires-clause-ready : goal.bear-requires-clause-ready
+bear-requires-clause-ready c =
     let old = c.self.inside in
     let s : SystemState = state_of old.version old.world old.live.entries old.applied in
     let w = world_of old.world in
@@ -70,7 +70,7 @@ bear-requires-clause-room c =
     let p = d.plan_is in
     let here = ap (λ (x : Event). plan place x w) c.requires.event ∙ kqueue_plan place c.args.pid c.args.number w in
     let planned : plan_kqueue c.args.pid c.args.number w ≡ Possible p = sym here ∙ d.is in
-    c.in_ok-reserve_one.ensures.room (c.can_open-opens.ensures.opens p
+    c.in_ok-reserve_one.ensures.ready (c.can_open-opens.ensures.opens p
     (subst (λ (now : SystemState). plan_kqueue c.args.pid c.args.number (world_of now.world) ≡ Possible p)
     c.self.view_is planned))
 

@@ -1,0 +1,49 @@
+ghost use Rattle.std.specs.Prelude.{◌≡◌, true, OnOk};
+ghost use Rattle.kq_system.specs.Places.{Grows, has_place, places_at};
+
+use crate::places::Places;
+use kq_model::Memory;
+use std::alloc::Global;
+use std::collections::HashMap;
+use std::hash::Hash;
+
+/// Which kqueues go with a key: their places of birth.
+#[derive(Drop)]
+pub struct Index<K: Copy + Eq + Hash> {
+    table: HashMap<K, Places>,
+    alloc: Global,
+}
+
+impl<K: Copy + Eq + Hash> Index<K> {
+    pub fn new(alloc: Global) -> Self {
+        Index {
+            table: HashMap::new(alloc),
+            alloc,
+        }
+    }
+
+    /// The places under a key.
+    pub fn at(&self, key: K) -> &[u64]
+        ensures { result.now ≡ places_at K.eq self.now.table key }
+    {
+        match self.table.get(&key) {
+            Some(places) => places.as_slice(),
+            None => &[],
+        }
+    }
+
+    /// Puts a place under a key, where it is not there. After `Memory` it may be there or not.
+    pub fn add(&mut self, key: K, place: u64) -> Result<(), Memory>
+        ensures grows { Grows K.eq self.old.table self.new.table }
+        ensures added { OnOk result (has_place place (places_at K.eq self.new.table key) ≡ true) }
+    {
+        match self.table.get_mut(&key) {
+            Some(places) => places.add(place),
+            None => {
+                let places = Places::one(self.alloc, place)?;
+                self.table.insert(key, places).map_err(|_| Memory)?;
+                Ok(())
+            }
+        }
+    }
+}

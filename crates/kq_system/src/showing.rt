@@ -1,0 +1,126 @@
+// How the kqueues that a record concerns are shown it, each once.
+ghost use Rattle.std.specs.Prelude.{◌≡◌, ◌||◌, false, filter, nat_eq, not};
+ghost use Rattle.kq_process.specs.Effects.{pairs_in};
+ghost use Rattle.kq_system.specs.Places.{has_place};
+ghost use Rattle.kq_system.specs.Showing.{AreShown, Each, asks_owned, asks_watching};
+
+use crate::index::Index;
+use crate::live::Live;
+use indexmap::IndexMap;
+use kq_filters::Views;
+use kq_model::{Hint, Target};
+
+fn either(one: bool, other: bool) -> bool
+    ensures { result ≡ (one || other) }
+{
+    one || other
+}
+
+/// Shows the record of a round to the kqueue of a place, where there is one: whether that has ended.
+fn show_one<V: Views>(
+    live: &mut IndexMap<u64, Live>,
+    place: u64,
+    round: u64,
+    pairs: &[(u32, u32)],
+    hints: &[(Target, Hint)],
+    views: &V,
+) -> bool
+    ensures { AreShown round (pairs_in pairs.now) hints.now (V.sees views.now) (λ p. nat_eq p place) result
+        live.old.entries live.new.entries }
+{
+    match live.get_mut(&place) {
+        Some(one) => one.show(round, pairs, hints, views),
+        None => false,
+    }
+}
+
+/// Shows it to those of some places: whether one of them has ended.
+fn show_each<V: Views>(
+    live: &mut IndexMap<u64, Live>,
+    places: &[u64],
+    round: u64,
+    pairs: &[(u32, u32)],
+    hints: &[(Target, Hint)],
+    views: &V,
+) -> bool
+    ensures { AreShown round (pairs_in pairs.now) hints.now (V.sees views.now) (λ p. has_place p places.now) result
+        live.old.entries live.new.entries }
+{
+    let mut any = false;
+    for place in places {
+        let ended = show_one(live, *place, round, pairs, hints, views);
+        any = either(any, ended);
+    }
+    any
+}
+
+/// Shows it to those that it concerns: whether one of them has ended.
+pub fn show_concerned<V: Views>(
+    live: &mut IndexMap<u64, Live>,
+    owned: &Index<u32>,
+    watching: &Index<Target>,
+    round: u64,
+    pairs: &[(u32, u32)],
+    hints: &[(Target, Hint)],
+    views: &V,
+) -> bool
+    ensures { AreShown round (pairs_in pairs.now) hints.now (V.sees views.now)
+        (λ p. asks_owned owned.now.table pairs.now p || asks_watching watching.now.table hints.now p) result
+        live.old.entries live.new.entries }
+{
+    let of_pairs = show_owned(live, owned, round, pairs, hints, views);
+    let of_hints = show_watching(live, watching, round, pairs, hints, views);
+    either(of_pairs, of_hints)
+}
+
+/// Takes out those that have ended, where there may be one.
+pub fn drop_ended(live: &mut IndexMap<u64, Live>, any: bool)
+    requires { any ≡ false → Each (λ place v. v.ended ≡ false) live.old.entries }
+    ensures { live.new.entries ≡ filter (λ e. not e.1.ended) live.old.entries }
+{
+    if any {
+        live.retain(|_, one| !one.ended);
+    }
+}
+
+/// Shows it to those of the processes in which it closes numbers.
+fn show_owned<V: Views>(
+    live: &mut IndexMap<u64, Live>,
+    owned: &Index<u32>,
+    round: u64,
+    pairs: &[(u32, u32)],
+    hints: &[(Target, Hint)],
+    views: &V,
+) -> bool
+    ensures { AreShown round (pairs_in pairs.now) hints.now (V.sees views.now)
+        (asks_owned owned.now.table pairs.now) result live.old.entries live.new.entries }
+{
+    let mut any = false;
+    for pair in pairs {
+        let places = owned.at(pair.0);
+        let ended = show_each(live, places, round, pairs, hints, views);
+        any = either(any, ended);
+    }
+    any
+}
+
+/// Shows it to those that may watch what it has hints for.
+fn show_watching<V: Views>(
+    live: &mut IndexMap<u64, Live>,
+    watching: &Index<Target>,
+    round: u64,
+    pairs: &[(u32, u32)],
+    hints: &[(Target, Hint)],
+    views: &V,
+) -> bool
+    ensures { AreShown round (pairs_in pairs.now) hints.now (V.sees views.now)
+        (asks_watching watching.now.table hints.now) result live.old.entries live.new.entries }
+{
+    let mut any = false;
+    for hint in hints {
+        let places = watching.at(hint.0);
+        let ended = show_each(live, places, round, pairs, hints, views);
+        any = either(any, ended);
+    }
+    any
+}
