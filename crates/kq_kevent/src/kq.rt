@@ -1,5 +1,5 @@
 ghost use Rattle.std.specs.Prelude.{◌≡◌, ◌<◌, OnOk, OnErr, max};
-ghost use Rattle.kq_model.specs.Kqueue.{empty_kqueue};
+ghost use Rattle.kq_model.specs.Kqueue.{HaveOwnKeys, empty_kqueue};
 
 use crate::queue::Queue;
 use kq_knote::Knotes;
@@ -54,6 +54,14 @@ impl Kq {
         ensures { result ≡ self.now.owner }
     {
         self.owner
+    }
+
+    /// What is registered, in order of registration; no two have one key.
+    pub fn knotes(&self) -> &Knotes
+        ensures knotes { result.now.knotes ≡ self.now.kq.knotes }
+        ensures own_keys { HaveOwnKeys self.now.kq.knotes }
+    {
+        &self.knotes
     }
 
     /// How many further knotes can be registered without memory.

@@ -40,7 +40,7 @@ same_number : (a b : ℕ) → nat_eq a b ≡ true → a ≡ b
 same_number a b h = grind (arith, nat_tests)
 
 -- a set of knotes under more places
-listed_more : {T : Type 0} (place : ℕ) (old new : HashMap Target (List ℕ) T) → Grows target_equal.eq-value.it old new
+pub listed_more : {T : Type 0} (place : ℕ) (old new : HashMap Target (List ℕ) T) → Grows target_equal.eq-value.it old new
     → (ks : List Knote) → HaveSubjects (IsListed place old) ks → HaveSubjects (IsListed place new) ks
 listed_more place old new more ks has =
     All-weaker (HasSubject (IsListed place old)) (HasSubject (IsListed place new))

@@ -9,4 +9,5 @@ pub mod ClosedLemmas
 pub mod ShowLemmas
 pub mod ConcernedLemmas
 pub mod FoundLemmas
+pub mod RenewLemmas
 pub mod WatchedRuns

@@ -9,6 +9,7 @@ ghost use Rattle.kq_system.specs.SystemState.{live_of, AreOfVersion, AreUpTo, Ha
 
 use crate::kqueues::Kqueues;
 use crate::live::Live;
+use crate::renewing::renew;
 use crate::showing::{drop_ended, show_concerned};
 use crate::watching::watch_all;
 use indexmap::IndexMap;
@@ -94,6 +95,27 @@ pub fn call_on<V: Views>(
     ensures stayed { HaveStayed live.old.entries live.new.entries }
     ensures memory { OnErr result (map live_of live.new.entries ≡ map live_of live.old.entries) }
 {
+    renew(live)?;
+    call_found(live, kqueue, changes, room, views)
+}
+
+/// The same, where the indexes are not too full.
+fn call_found<V: Views>(
+    live: &mut Kqueues,
+    kqueue: u64,
+    changes: &[Change],
+    room: u32,
+    views: &V,
+) -> Result<Reply, Memory>
+    requires { IsLive kqueue (map live_of live.old.entries) }
+    ensures called { IfOk result (λ reply. (m : Moment) → IsQuiet m → m.views ≡ V.sees views.now
+        → AreOfVersion m.version live.old.entries
+        → m.call ≡ Some (record { kqueue = kqueue; changes = changes.now; room = room })
+        → IsCalled m (record { kqueue = kqueue; changes = changes.now; room = room })
+        (map live_of live.old.entries) (map live_of live.new.entries) reply) }
+    ensures stayed { HaveStayed live.old.entries live.new.entries }
+    ensures memory { OnErr result (map live_of live.new.entries ≡ map live_of live.old.entries) }
+{
     live.ready = None;
     let owner = owner_of(&live.live, kqueue);
     watch_all(&mut live.watching, kqueue, owner, changes, views)?;
@@ -116,6 +138,18 @@ fn owner_of(live: &IndexMap<u64, Live>, kqueue: u64) -> u32
 
 /// Room for the birth of a kqueue at a place, where it is wanted; else nothing.
 pub fn reserve_one(live: &mut Kqueues, wanted: bool, place: u64, pid: u32) -> Result<(), Memory>
+    ensures entries { live.new.entries ≡ live.old.entries }
+    ensures ready { OnOk result (wanted ≡ true → live.new.ready ≡ Some (place, pid)) }
+    ensures memory { OnErr result (wanted ≡ true) }
+{
+    if wanted {
+        renew(live)?;
+    }
+    prepare_one(live, wanted, place, pid)
+}
+
+/// The same, where the indexes are not too full.
+fn prepare_one(live: &mut Kqueues, wanted: bool, place: u64, pid: u32) -> Result<(), Memory>
     ensures entries { live.new.entries ≡ live.old.entries }
     ensures ready { OnOk result (wanted ≡ true → live.new.ready ≡ Some (place, pid)) }
     ensures memory { OnErr result (wanted ≡ true) }

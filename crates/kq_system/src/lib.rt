@@ -8,6 +8,7 @@ mod index;
 mod kqueues;
 mod live;
 mod places;
+mod renewing;
 mod showing;
 mod system;
 mod watching;

@@ -1,11 +1,10 @@
-ghost use Rattle.std.specs.Prelude.{◌≡◌, ◌++◌, ◌∷◌, [], if◌then◌else◌, IfOk, OnOk, OnErr};
-ghost use Rattle.kq_system.specs.Places.{has_place};
+ghost use Rattle.std.specs.Prelude.{◌≡◌, ◌++◌, ◌∷◌, [], IfOk, OnOk, OnErr};
 
 use kq_model::Memory;
 use std::alloc::Global;
 use std::marker::Model;
 
-/// Places of birth of kqueues, each once.
+/// Places of birth of kqueues.
 #[derive(Drop)]
 pub struct Places {
     list: Vec<u64>,
@@ -35,21 +34,11 @@ impl Places {
         self.list.as_slice()
     }
 
-    fn has(&self, place: u64) -> bool
-        ensures { result ≡ has_place place self.now }
-    {
-        self.list.contains(&place)
-    }
-
-    /// One place more, where it is not there.
+    /// One place more.
     pub fn add(&mut self, place: u64) -> Result<(), Memory>
-        ensures added { OnOk result
-            (self.new ≡ (if has_place place self.old then self.old else self.old ++ place ∷ [])) }
+        ensures added { OnOk result (self.new ≡ self.old ++ place ∷ []) }
         ensures memory { OnErr result (self.new ≡ self.old) }
     {
-        if self.has(place) {
-            return Ok(());
-        }
         self.list.push(place).map_err(|_| Memory)
     }
 }

@@ -3,7 +3,7 @@ use Rattle.std.specs.HashMap.{spare}
 use Rattle.kq_system.specs.Showing.{AreFound}
 use Rattle.kq_system.proofs.FoundLemmas.{found_owned, ready_room}
 use Rattle.kq_system.proofs.ShowLemmas.{Entries}
-use Rattle.kq_system.proofs.all_live.reserve_one.Goals as goal
+use Rattle.kq_system.proofs.all_live.prepare_one.Goals as goal
 
 pub invariant_of-live-in_err-add : goal.invariant_of-live-in_err-add
 invariant_of-live-in_err-add c =

@@ -14,7 +14,7 @@ use Rattle.kq_system.specs.SystemState.{AreOfVersion, AreUpTo, HaveStayed, IsCal
 use Rattle.kq_system.proofs.CallLemmas.{called_quiet, kept, keys_kept, live_found, version_kept}
 use Rattle.kq_system.proofs.FoundLemmas.{called_listed, found_called, found_more}
 use Rattle.kq_system.proofs.ShowLemmas.{Entries}
-use Rattle.kq_system.proofs.all_live.call_on.Goals as goal
+use Rattle.kq_system.proofs.all_live.call_found.Goals as goal
 
 pub owner_of-owner-requires : goal.owner_of-owner-requires
 owner_of-owner-requires g c =
