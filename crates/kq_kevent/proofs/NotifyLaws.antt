@@ -1,5 +1,5 @@
 -- A walk from hinted knote to hinted knote, each of which notices its hints, comes to the definition of a record's hints.
-use Rattle.std.proofs.Common.{◌≡◌, ℕ, ◌+◌, ◌<◌, ◌≤◌, Bool, true, false, cond, ◌||◌, List, [], ◌∷◌, ◌++◌, map, filter, length, Option, Some, None, append_assoc, refl, sym, ap, ap₂, ◌∙◌, subst, arith}
+use Rattle.std.proofs.Common.{◌≡◌, ℕ, ◌+◌, ◌<◌, ◌≤◌, Bool, true, false, cond, ◌||◌, List, [], ◌∷◌, ◌++◌, map, filter, length, Option, Some, None, slice_get, append_assoc, refl, sym, ap, ap₂, ◌∙◌, subst, arith}
 use Rattle.std.proofs.lemmas.Bool.{true≢false}
 use Rattle.std.proofs.lemmas.Option.{none-some, same_Some}
 use Rattle.std.specs.List.{list_any}
@@ -15,7 +15,8 @@ use Rattle.kq_model.specs.Views.{Views}
 use Rattle.kq_model.proofs.KeyLaws.{key_eq-refl}
 use Rattle.kq_model.proofs.KnoteLaws.{by_test, find_knote-head, find_knote-tail}
 use Rattle.kq_model.proofs.KnoteMiddle.{apart-middle, found-middle, with-middle, without-middle, HasKey, noticed-key}
-use Rattle.kq_knote.specs.Index.{behind, first_hinted, is_hinted, IsHinted}
+use Rattle.kq_knote.specs.Index.{behind, first_hinted, hinted_keys, is_hinted, IsHinted}
+use Rattle.kq_knote.proofs.IndexLaws.{with_key, keys-cons}
 use Rattle.kq_knote.proofs.WalkLaws.{first-cons, nothing_left}
 use Rattle.kq_table.specs.Rows.{rows_behind}
 use Rattle.kq_kevent.proofs.TurnLaws.{kqueue_of}
@@ -68,6 +69,7 @@ module _ (views : Views) (posted : List Posted) where
     key_is : key ≡ here.key
     knotes : noticing ahead ≡ skipped ++ noticing (here ∷ rest)
     queue : (q : List Key) → queue_after ahead q ≡ queue_after (here ∷ rest) q
+    keys : hinted_keys posted ahead ≡ key ∷ hinted_keys posted rest
     shorter : length rest < length ahead
 
   split-next : (key : Key) (ahead : List Knote) → Some key ≡ first_hinted posted ahead → IsNext key ahead
@@ -83,6 +85,8 @@ module _ (views : Views) (posted : List Posted) where
         key_is = same_Some key k.key e;
         knotes = refl;
         queue = λ q. refl;
+        keys = keys-cons (is_hinted posted) k ks ∙ ap (with_key k (hinted_keys posted ks)) on
+            ∙ ap (λ (first : Key). first ∷ hinted_keys posted ks) (sym (same_Some key k.key e));
         shorter = omega arith;
       })
       (λ _ off e. let next = split-next key ks e in
@@ -95,6 +99,7 @@ module _ (views : Views) (posted : List Posted) where
         key_is = next.key_is;
         knotes = skip-knotes k ks off ∙ ap (λ more. k ∷ more) next.knotes;
         queue = λ q. skip-queue k ks q off ∙ next.queue q;
+        keys = keys-cons (is_hinted posted) k ks ∙ ap (with_key k (hinted_keys posted ks)) off ∙ next.keys;
         shorter = omega (arith, next.shorter);
       })
       refl (is ∙ first-cons posted k ks)
@@ -102,37 +107,48 @@ module _ (views : Views) (posted : List Posted) where
   -- ---- where the walk stands
 
   -- what is ahead has still to notice its hints, and then the kqueue is the one that is wanted
-  pub record IsAt (wanted : Kqueue) (next : Option Key) (left : ℕ) (kq : Kqueue) : Type 0 where
+  pub record IsBefore (wanted : Kqueue) (ahead : List Knote) (kq : Kqueue) : Type 0 where
     pub past : List Knote
-    pub ahead : List Knote
     pub knotes : kq.knotes ≡ past ++ ahead
-    pub next_is : next ≡ first_hinted posted ahead
     pub all_knotes : past ++ noticing ahead ≡ wanted.knotes
     pub all_queue : queue_after ahead kq.queue ≡ wanted.queue
+
+  -- this is the first hinted knote of those ahead
+  pub record IsAt (wanted : Kqueue) (next : Option Key) (left : ℕ) (kq : Kqueue) : Type 0 where
+    pub ahead : List Knote
+    pub before : IsBefore wanted ahead kq
+    pub next_is : next ≡ first_hinted posted ahead
     pub few : length ahead ≤ left
 
-  pub walk-start : (kq : Kqueue) (next : Option Key) (left : ℕ) → next ≡ first_hinted posted kq.knotes → length kq.knotes ≤ left → IsAt (notified views posted kq) next left kq
-  unfolding notified
-  walk-start kq next left is few = record {
-    past = [];
-    ahead = kq.knotes;
-    knotes = refl;
-    next_is = is;
-    all_knotes = refl;
-    all_queue = refl;
-    few = few;
-  }
+  -- these are all of them
+  pub record IsAmong (wanted : Kqueue) (keys : List Key) (kq : Kqueue) : Type 0 where
+    pub ahead : List Knote
+    pub before : IsBefore wanted ahead kq
+    pub keys_are : keys ≡ hinted_keys posted ahead
 
-  finished : (wanted : Kqueue) (next : Option Key) (left : ℕ) (kq : Kqueue) → (at : IsAt wanted next left kq) → None ≡ first_hinted posted at.ahead → kq ≡ wanted
-  finished wanted next left kq at none =
-      let still = quiet at.ahead kq.queue none in
-      ap₂ kqueue_of (at.knotes ∙ ap (λ more. at.past ++ more) (sym still.0) ∙ at.all_knotes) (sym still.1 ∙ at.all_queue)
+  start : (kq : Kqueue) → IsBefore (notified views posted kq) kq.knotes kq
+  unfolding notified
+  start kq = record { past = []; knotes = refl; all_knotes = refl; all_queue = refl }
+
+  pub walk-start : (kq : Kqueue) (next : Option Key) (left : ℕ) → next ≡ first_hinted posted kq.knotes → length kq.knotes ≤ left → IsAt (notified views posted kq) next left kq
+  walk-start kq next left is few = record { ahead = kq.knotes; before = start kq; next_is = is; few = few }
+
+  pub keys-start : (kq : Kqueue) (keys : List Key) → keys ≡ hinted_keys posted kq.knotes → IsAmong (notified views posted kq) keys kq
+  keys-start kq keys are = record { ahead = kq.knotes; before = start kq; keys_are = are }
+
+  finished : (wanted kq : Kqueue) (ahead : List Knote) → IsBefore wanted ahead kq → None ≡ first_hinted posted ahead → kq ≡ wanted
+  finished wanted kq ahead before none =
+      let still = quiet ahead kq.queue none in
+      ap₂ kqueue_of (before.knotes ∙ ap (λ more. before.past ++ more) (sym still.0) ∙ before.all_knotes) (sym still.1 ∙ before.all_queue)
 
   pub walk-stops : (wanted : Kqueue) (left : ℕ) (kq : Kqueue) → IsAt wanted None left kq → kq ≡ wanted
-  walk-stops wanted left kq at = finished wanted None left kq at at.next_is
+  walk-stops wanted left kq at = finished wanted kq at.ahead at.before at.next_is
 
   pub walk-ends : (wanted : Kqueue) (next : Option Key) (left : ℕ) (kq : Kqueue) → left ≤ 0 → IsAt wanted next left kq → kq ≡ wanted
-  walk-ends wanted next left kq none at = finished wanted next left kq at (nothing_left posted at.ahead (omega (arith, at.few, none)))
+  walk-ends wanted next left kq none at = finished wanted kq at.ahead at.before (nothing_left posted at.ahead (omega (arith, at.few, none)))
+
+  pub keys-end : (wanted kq : Kqueue) → IsAmong wanted [] kq → kq ≡ wanted
+  keys-end wanted kq among = finished wanted kq among.ahead among.before (ap (λ keys. slice_get keys 0) among.keys_are)
 
   -- ---- a step
 
@@ -143,52 +159,43 @@ module _ (views : Views) (posted : List Posted) where
       ap (λ b. cond b (past ++ k ∷ ks) (behind k.key (past ++ k ∷ ks))) (find_knote-head k.key x past absent)
       ∙ behind-middle past k ks (find_knote-tail k.key x past absent)
 
-  module _ (wanted : Kqueue) (all past : List Knote) (k : Knote) (ks : List Knote) (queue : List Key) (left : ℕ) (parts : all ≡ past ++ k ∷ ks)
-      (gone : find_knote k.key past ≡ None) (absent : find_knote k.key ks ≡ None) (few : length ks ≤ left) where
+  module _ (wanted : Kqueue) (all past : List Knote) (k : Knote) (ks : List Knote) (queue : List Key) (parts : all ≡ past ++ k ∷ ks)
+      (gone : find_knote k.key past ≡ None) (absent : find_knote k.key ks ≡ None) where
     after-noticed : (o : Option Knote) → HasKey k.key o → past ++ (if_there o ++ noticing ks) ≡ wanted.knotes → queue_after ks (queue_with k.key o queue) ≡ wanted.queue
-        → IsAt wanted (first_hinted posted ks) left (with_noticed k o (kqueue_of all queue))
+        → IsBefore wanted ks (with_noticed k o (kqueue_of all queue))
     unfolding with_noticed queue_with if_there
     after-noticed None same knotes queues = record {
       past = past;
-      ahead = ks;
       knotes = ap (without_knote k.key) parts ∙ without-middle past k ks gone absent;
-      next_is = refl;
       all_knotes = knotes;
       all_queue = queues;
-      few = few;
     }
     after-noticed (Some n) same knotes queues = record {
       past = past ++ n ∷ [];
-      ahead = ks;
       knotes = ap (with_knote n) parts ∙ with-middle past k n ks same gone absent ∙ sym (append_assoc past (n ∷ []) ks);
-      next_is = refl;
       all_knotes = append_assoc past (n ∷ []) (noticing ks) ∙ knotes;
       all_queue = queues;
-      few = few;
     }
 
     after-hints : (hints : List Hint) → past ++ (if_there (noticed views hints k) ++ noticing ks) ≡ wanted.knotes → queue_after ks (queue_noticing views hints k queue) ≡ wanted.queue
-        → IsAt wanted (first_hinted posted ks) left (noticed_in views hints k (kqueue_of all queue))
+        → IsBefore wanted ks (noticed_in views hints k (kqueue_of all queue))
     unfolding noticed_in queue_noticing noticed if_there
     after-hints [] knotes queues = record {
       past = past ++ k ∷ [];
-      ahead = ks;
       knotes = parts ∙ sym (append_assoc past (k ∷ []) ks);
-      next_is = refl;
       all_knotes = append_assoc past (k ∷ []) (noticing ks) ∙ knotes;
       all_queue = queues;
-      few = few;
     }
     after-hints (hint ∷ hints) knotes queues = after-noticed (noticed views (hint ∷ hints) k) (noticed-key views (hint ∷ hints) k) knotes queues
 
     after-knote : past ++ noticing (k ∷ ks) ≡ wanted.knotes → queue_after (k ∷ ks) queue ≡ wanted.queue
-        → IsAt wanted (first_hinted posted ks) left (noticed_in views (hints_for k posted) k (kqueue_of all queue))
+        → IsBefore wanted ks (noticed_in views (hints_for k posted) k (kqueue_of all queue))
     unfolding knotes_noticing queue_after_all
     after-knote knotes queues = after-hints (hints_for k posted) knotes queues
 
-  module _ (wanted : Kqueue) (key : Key) (left : ℕ) (kq : Kqueue) (own : HaveOwnKeys kq.knotes) (at : IsAt wanted (Some key) left kq) where
-    abbrev next_one : IsNext key at.ahead
-    next_one = split-next key at.ahead at.next_is
+  module _ (wanted : Kqueue) (key : Key) (kq : Kqueue) (own : HaveOwnKeys kq.knotes) (ahead : List Knote) (at : IsBefore wanted ahead kq) (is_next : Some key ≡ first_hinted posted ahead) where
+    abbrev next_one : IsNext key ahead
+    next_one = split-next key ahead is_next
 
     abbrev before : List Knote
     before = at.past ++ next_one.skipped
@@ -209,15 +216,42 @@ module _ (views : Views) (posted : List Posted) where
         ap (λ o. behind o kq.knotes) next_one.key_is ∙ ap (behind next_one.here.key) parts
         ∙ behind-middle before next_one.here next_one.rest apart.0
 
-    pub walk-hinted : IsHinted posted key kq.knotes
-    walk-hinted k here = ap (is_hinted posted) (same_Some k next_one.here (sym here ∙ found)) ∙ next_one.hinted
+    hinted-here : IsHinted posted key kq.knotes
+    hinted-here k here = ap (is_hinted posted) (same_Some k next_one.here (sym here ∙ found)) ∙ next_one.hinted
 
-    pub walk-goes : (next : Option Key) (fewer : ℕ) (after : Kqueue) → left ≤ fewer + 1 → next ≡ first_hinted posted (behind key kq.knotes)
-        → after ≡ noticed_at views posted (find_knote key kq.knotes) kq → IsAt wanted next fewer after
+    goes : (after : Kqueue) → after ≡ noticed_at views posted (find_knote key kq.knotes) kq → IsBefore wanted next_one.rest after
     unfolding noticed_at
-    walk-goes next fewer after less is became =
-        subst (λ o. IsAt wanted o fewer after) (sym (is ∙ ap (first_hinted posted) left_behind))
-        (subst (λ (q : Kqueue). IsAt wanted (first_hinted posted next_one.rest) fewer q) (sym (became ∙ ap (λ o. noticed_at views posted o kq) found))
-        (after-knote wanted kq.knotes before next_one.here next_one.rest kq.queue fewer parts apart.0 apart.1 (omega (arith, next_one.shorter, at.few, less))
+    goes after became =
+        subst (λ (q : Kqueue). IsBefore wanted next_one.rest q) (sym (became ∙ ap (λ o. noticed_at views posted o kq) found))
+        (after-knote wanted kq.knotes before next_one.here next_one.rest kq.queue parts apart.0 apart.1
         (append_assoc at.past next_one.skipped (noticing (next_one.here ∷ next_one.rest)) ∙ ap (λ more. at.past ++ more) (sym next_one.knotes) ∙ at.all_knotes)
-        (sym (next_one.queue kq.queue) ∙ at.all_queue)))
+        (sym (next_one.queue kq.queue) ∙ at.all_queue))
+
+  pub walk-hinted : (wanted : Kqueue) (key : Key) (left : ℕ) (kq : Kqueue) → HaveOwnKeys kq.knotes → IsAt wanted (Some key) left kq → IsHinted posted key kq.knotes
+  walk-hinted wanted key left kq own at = hinted-here wanted key kq own at.ahead at.before at.next_is
+
+  pub walk-goes : (wanted : Kqueue) (key : Key) (left : ℕ) (kq : Kqueue) → HaveOwnKeys kq.knotes → IsAt wanted (Some key) left kq → (next : Option Key) (fewer : ℕ) (after : Kqueue) → left ≤ fewer + 1
+      → next ≡ first_hinted posted (behind key kq.knotes) → after ≡ noticed_at views posted (find_knote key kq.knotes) kq → IsAt wanted next fewer after
+  walk-goes wanted key left kq own at next fewer after less is became =
+      let one = split-next key at.ahead at.next_is in
+      record {
+        ahead = one.rest;
+        before = goes wanted key kq own at.ahead at.before at.next_is after became;
+        next_is = is ∙ ap (first_hinted posted) (left_behind wanted key kq own at.ahead at.before at.next_is);
+        few = omega (arith, one.shorter, at.few, less);
+      }
+
+  abbrev behind_first : List Key → List Key
+  behind_first [] = []
+  behind_first (key ∷ keys) = keys
+
+  pub keys-go : (wanted : Kqueue) (key : Key) (keys : List Key) (kq : Kqueue) → HaveOwnKeys kq.knotes → IsAmong wanted (key ∷ keys) kq
+      → (after : Kqueue) → after ≡ noticed_at views posted (find_knote key kq.knotes) kq → IsAmong wanted keys after
+  keys-go wanted key keys kq own among after became =
+      let first : Some key ≡ first_hinted posted among.ahead = ap (λ ks. slice_get ks 0) among.keys_are in
+      let one = split-next key among.ahead first in
+      record {
+        ahead = one.rest;
+        before = goes wanted key kq own among.ahead among.before first after became;
+        keys_are = ap behind_first (among.keys_are ∙ one.keys);
+      }

@@ -3,7 +3,7 @@ ghost use Rattle.kq_model.specs.ChangedKnote.{activated};
 ghost use Rattle.kq_model.specs.Hearing.{listed};
 ghost use Rattle.kq_model.specs.HintLaws.{IsNotified};
 ghost use Rattle.kq_model.specs.Hints.{notified, hints_for};
-ghost use Rattle.kq_model.specs.Kqueue.{Kqueue};
+ghost use Rattle.kq_model.specs.Kqueue.{HaveOwnKeys, Kqueue};
 ghost use Rattle.kq_model.specs.Knote.{find_knote, with_knote};
 ghost use Rattle.kq_model.specs.Look.{look};
 ghost use Rattle.kq_model.specs.Noticing.{is_for, left_by, with_noticed, noticed_at};
@@ -11,6 +11,7 @@ ghost use Rattle.kq_model.specs.Recast as recast;
 ghost use Rattle.kq_model.specs.Registration.{queue_for};
 ghost use Rattle.kq_model.specs.Views as world;
 ghost use Rattle.kq_model.specs.WatchedNumbers.{LeavesOpen, WatchTheirNumbers};
+ghost use Rattle.kq_knote.specs.Index.{hinted_keys};
 ghost use Rattle.kq_kevent.specs.Owned.{limit};
 ghost use Rattle.kq_kevent.specs.Telling.{told_one, told_all, StandsFor};
 
@@ -105,6 +106,22 @@ impl Kq {
         ensures room { self.old.room ≤ self.new.room }
         ensures limit { limit self.new ≡ limit self.old }
     {
+        let Some(keys) = self.knotes.take_hinted(hints) else {
+            self.notice_along(hints, views);
+            return;
+        };
+        self.notice_each(keys.as_slice(), hints, views);
+        self.knotes.give_back(keys);
+    }
+
+    /// The hinted knotes hear the hints, by a walk from each to the next.
+    fn notice_along<V: Views>(&mut self, hints: &[(Target, Hint)], views: &V)
+        ensures kq { self.new.kq ≡ notified (V.sees views.now) hints.now self.old.kq }
+        ensures owner { self.new.owner ≡ self.old.owner }
+        ensures version { self.new.version ≡ self.old.version }
+        ensures room { self.old.room ≤ self.new.room }
+        ensures limit { limit self.new ≡ limit self.old }
+    {
         let mut next = self.knotes.first_hinted(hints);
         for _step in 0..self.knotes.len() {
             let Some(key) = next else {
@@ -115,10 +132,26 @@ impl Kq {
         }
     }
 
+    /// The hinted knotes, of which these are the keys, hear the hints.
+    fn notice_each<V: Views>(&mut self, keys: &[Key], hints: &[(Target, Hint)], views: &V)
+        requires { keys.now ≡ hinted_keys hints.now self.old.kq.knotes }
+        ensures kq { self.new.kq ≡ notified (V.sees views.now) hints.now self.old.kq }
+        ensures owner { self.new.owner ≡ self.old.owner }
+        ensures version { self.new.version ≡ self.old.version }
+        ensures room { self.old.room ≤ self.new.room }
+        ensures limit { limit self.new ≡ limit self.old }
+    {
+        for key in keys {
+            self.notice(*key, hints, views);
+        }
+    }
+
     /// The knote of a key hears the hints for it, is looked at and goes where it belongs.
     fn notice<V: Views>(&mut self, key: Key, hints: &[(Target, Hint)], views: &V)
         ensures kq { self.new.kq
             ≡ noticed_at (V.sees views.now) hints.now (find_knote key self.old.kq.knotes) self.old.kq }
+        // Of every kqueue.
+        ensures own_keys { HaveOwnKeys self.old.kq.knotes }
         ensures owner { self.new.owner ≡ self.old.owner }
         ensures version { self.new.version ≡ self.old.version }
         ensures room { self.old.room ≤ self.new.room }

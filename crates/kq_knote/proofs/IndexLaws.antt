@@ -29,10 +29,10 @@ watch key target = record { key = key; target = target }
 abbrev with_first : Watching → List Watching → List Watching
 with_first w rest = cond (is_shared w.target) (w ∷ rest) rest
 
-abbrev with_key : Knote → List Key → Bool → List Key
+abbrev pub with_key : Knote → List Key → Bool → List Key
 with_key k rest b = cond b (k.key ∷ rest) rest
 
-keys-cons : (p : Knote → Bool) (k : Knote) (ks : List Knote) → map (λ (n : Knote). n.key) (filter p (k ∷ ks)) ≡ with_key k (map (λ (n : Knote). n.key) (filter p ks)) (p k)
+pub keys-cons : (p : Knote → Bool) (k : Knote) (ks : List Knote) → map (λ (n : Knote). n.key) (filter p (k ∷ ks)) ≡ with_key k (map (λ (n : Knote). n.key) (filter p ks)) (p k)
 keys-cons p k ks =
     by_test (λ b. map (λ (n : Knote). n.key) (cond b (k ∷ filter p ks) (filter p ks)) ≡ with_key k (map (λ (n : Knote). n.key) (filter p ks)) b) (p k)
     (λ _. refl) (λ _. refl)
@@ -176,7 +176,7 @@ module _ (alike : Option Target → Option Target → Bool) (alike_is : (t : Tar
 
 -- ---- where all hints are for one target
 
-unshared-apart : (target : Target) (o : Option Target) → is_shared (Some target) ≡ true → is_shared o ≡ false → is_target o target ≡ false
+pub unshared-apart : (target : Target) (o : Option Target) → is_shared (Some target) ≡ true → is_shared o ≡ false → is_target o target ≡ false
 unfolding is_target
 unshared-apart target None is apart = refl
 unshared-apart target (Some other) is apart =

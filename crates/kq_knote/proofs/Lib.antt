@@ -3,3 +3,4 @@ pub mod CountLaws
 pub mod IndexLaws
 pub mod TargetLaws
 pub mod WalkLaws
+pub mod GatherLaws

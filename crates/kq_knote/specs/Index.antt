@@ -1,5 +1,5 @@
 -- Which knotes watch which targets: what is found, and how the index by target goes with the knotes.
-use Rattle.std.specs.Prelude.{◌≡◌, ℕ, Bool, true, false, List, map, filter, Some, None, Option, slice_get}
+use Rattle.std.specs.Prelude.{◌≡◌, Bool, true, false, List, map, filter, Some, None, Option, slice_get}
 use Rattle.std.specs.List.{list_any}
 use Rattle.kq_model.specs.declared.key.Key.{Key}
 use Rattle.kq_model.specs.declared.object.Target.{Target}
@@ -20,9 +20,17 @@ keys_watching target knotes = map (λ k. k.key) (filter (λ k. is_target k.targe
 abbrev pub is_hinted : List Posted → Knote → Bool
 is_hinted posted k = list_any (λ (p : Posted). is_target k.target p.0) posted
 
--- the key of the first such knote
+-- the keys of such knotes, in order of registration
+abbrev pub hinted_keys : List Posted → List Knote → List Key
+hinted_keys posted knotes = map (λ k. k.key) (filter (is_hinted posted) knotes)
+
+-- the first of them
 abbrev pub first_hinted : List Posted → List Knote → Option Key
-first_hinted posted knotes = slice_get (map (λ k. k.key) (filter (is_hinted posted) knotes)) 0
+first_hinted posted knotes = slice_get (hinted_keys posted knotes) 0
+
+-- of each knote the key is among these just where it watches such a target
+abbrev pub AreHinted : List Posted → List Knote → List Key → Type 0
+AreHinted posted knotes keys = (k : Knote) → find_knote k.key knotes ≡ Some k → list_any (key_eq k.key) keys ≡ is_hinted posted k
 
 -- the knotes behind the one of this key
 abbrev pub behind : Key → List Knote → List Knote

@@ -36,7 +36,7 @@ fn is_nobody(posted: &[(Target, Hint)]) -> bool
 }
 
 /// The one target of all hints, where they have but one and records give hints for it.
-fn only_target(posted: &[(Target, Hint)]) -> Option<Target>
+pub(crate) fn only_target(posted: &[(Target, Hint)]) -> Option<Target>
     ensures { MatchOption result (Unit {0}) (λ target. IsOnly target posted.now) }
 {
     let Some((first, _)) = posted.first() else {

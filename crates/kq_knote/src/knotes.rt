@@ -21,6 +21,10 @@ pub struct Knotes {
     pub(crate) index: TargetIndex<Key, Option<Target>>,
     /// The index has had room for each of them.
     pub(crate) whole: bool,
+    /// Room for the keys of knotes that hints are for. What stands in it means nothing.
+    pub(crate) keys: Vec<Key>,
+    /// Room for where their knotes stand.
+    pub(crate) places: Vec<usize>,
 }
 
 impl Model for Knotes {
@@ -45,6 +49,8 @@ impl Knotes {
             rows: Table::new(alloc),
             index: TargetIndex::new(alloc),
             whole: true,
+            keys: Vec::new(alloc),
+            places: Vec::new(alloc),
         }
     }
 
@@ -79,13 +85,23 @@ impl Knotes {
         self.rows.reserve(more)
     }
 
-    /// Makes room in the index by target for so many knotes that watch what others may watch too.
-    /// Where it is wanting, by memory or since it was not asked for, hints find the knotes of their
-    /// targets by a walk over all; nothing else depends on it.
+    /// Makes room in the index by target for so many knotes that watch what others may watch too, and
+    /// for their keys. Where it is wanting, by memory or since it was not asked for, hints find the
+    /// knotes of their targets by a walk over all; nothing else depends on it.
     pub fn reserve_shared(&mut self, more: usize)
         ensures { self.new ≡ self.old }
     {
+        if more == 0 {
+            return;
+        }
         let _ = self.index.reserve(more);
+        // A record may have hints of two kinds for each target.
+        let shared = self.index.len().saturating_add(more);
+        let found = shared.saturating_add(shared);
+        self.keys.clear();
+        let _ = self.keys.reserve(found);
+        self.places.clear();
+        let _ = self.places.reserve(found);
     }
 
     /// The knote of a key.

@@ -2,6 +2,7 @@
 #![tactic(auto)]
 
 mod changes;
+mod gathered;
 mod hinted;
 mod knote;
 mod knotes;

@@ -8,5 +8,6 @@ pub mod ChainLaws
 pub mod WovenLaws
 pub mod WatchLaws
 pub mod BehindLaws
+pub mod OrderLaws
 pub mod EndLaws
 pub mod CountLaws

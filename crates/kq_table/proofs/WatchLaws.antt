@@ -120,6 +120,10 @@ module _ {K G : Type 0} (same : K → K → Bool) (alike : G → G → Bool) whe
   length-keys [] = refl
   length-keys (l ∷ links) = ap suc (length-keys links)
 
+  pub length-watches : (links : List (Link K G)) → length (map watch_of links) ≡ length links
+  length-watches [] = refl
+  length-watches (l ∷ links) = ap suc (length-watches links)
+
   -- some are still to be found
   pub IsAlong-within : (before found : List K) (key : K) (links : List (Link K G)) → IsAlong before found (Some key) links → length found < length before + length links
   IsAlong-within before found key links along = at along.rest along.next_is along.parts

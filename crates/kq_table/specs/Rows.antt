@@ -1,5 +1,6 @@
 -- Rows in order, told apart by their keys. `same` tells whether two keys are one, and `key_of` gives a row's key.
 use Rattle.std.specs.Prelude.{◌≡◌, ℕ, Bool, not, List, [], ◌∷◌, map, filter, Option, Some, None, slice_get, if◌then◌else◌}
+use Rattle.std.specs.List.{list_any}
 
 -- what contracts see of a table
 pub record Tabled (T : Type 0) : Type 0 where
@@ -31,6 +32,10 @@ module _ {K T : Type 0} (same : K → K → Bool) (key_of : T → K) where
   -- the rows without the one of this key
   abbrev pub without_row : K → List T → List T
   without_row key rows = filter (λ r. not (same key (key_of r))) rows
+
+  -- the row is of one of these keys
+  abbrev pub is_among : List K → T → Bool
+  is_among keys row = list_any (same (key_of row)) keys
 
   -- no two rows have one key
   abbrev pub HaveOwnKeys : List T → Type 0

@@ -1,8 +1,9 @@
 -- How a table keeps its rows: in slots, in order, and with an index from a key to a place. A row that was
 -- taken out leaves its slot empty. Slots that are dropped from the front raise the place of the first one.
 use Rattle.std.specs.Prelude.{◌≡◌, ◌<◌, ◌≤◌, ◌+◌, ◌^◌, ℕ, Bool, true, List, [], ◌∷◌, length, Option, Some, None, slice_get}
+use Rattle.std.specs.List.{Contains}
 use Rattle.std.specs.HashMap.{HashMap, get, hash_map_len, spare}
-use Rattle.kq_table.specs.Rows.{HaveOwnKeys}
+use Rattle.kq_table.specs.Rows.{HaveOwnKeys, is_among}
 
 -- the rows that stand in the slots
 abbrev pub standing : {T : Type 0} → List (Option T) → List T
@@ -19,6 +20,17 @@ module _ {K T : Type 0} (same : K → K → Bool) (key_of : T → K) where
   pub record StandsIn (key : K) (slots : List (Option T)) (slot : ℕ) (row : T) : Type 0 where
     pub here : slice_get slots slot ≡ Some (Some row)
     pub same_key : same key (key_of row) ≡ true
+
+  -- a row of one of these keys stands in this slot
+  pub record HasOneOf (keys : List K) (slots : List (Option T)) (slot : ℕ) : Type 0 where
+    pub row : T
+    pub here : slice_get slots slot ≡ Some (Some row)
+    pub among : is_among same key_of keys row ≡ true
+
+  -- these are the slots in which rows of these keys stand
+  pub record AreSlotsOf (keys : List K) (slots : List (Option T)) (places : List ℕ) : Type 0 where
+    pub taken : (slot : ℕ) → Contains places slot → HasOneOf keys slots slot
+    pub whole : (slot : ℕ) → HasOneOf keys slots slot → Contains places slot
 
   -- Each row is found where the index says. Of keys that have no row the index may say anything, so taking a row
   -- out leaves the index as it is, and a search looks whether a row of the key stands there.

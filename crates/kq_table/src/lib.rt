@@ -2,6 +2,7 @@
 #![tactic(auto)]
 
 mod keyed;
+mod order;
 mod place;
 mod table;
 mod target_index;

@@ -1,7 +1,9 @@
-ghost use Rattle.std.specs.Prelude.{◌≡◌, ◌<◌, ◌+◌, ◌++◌, ◌∷◌, ◌↔◌, [], None, IsTrue, OnOk, OnErr, MatchOption, length, max, is_some, slice_get};
-ghost use Rattle.kq_table.specs.Rows.{find_row, row_after, with_row, without_row, HaveOwnKeys};
+ghost use Rattle.std.specs.Prelude.{◌≡◌, ◌<◌, ◌≤◌, ◌+◌, ◌++◌, ◌∷◌, ◌↔◌, [], None, IsTrue, OnOk, OnErr, MatchOption, length, max, map, filter, is_some, slice_get};
+ghost use Rattle.std.specs.Vec.{vec_len, vec_capacity};
+ghost use Rattle.kq_table.specs.Rows.{find_row, is_among, row_after, with_row, without_row, HaveOwnKeys};
 
 use crate::Keyed;
+use crate::order::{slots_of, take_keys};
 use crate::place::{first_from, make_place, note, slot_of, starts_empty};
 use kq_model::Memory;
 use std::alloc::Global;
@@ -140,6 +142,19 @@ impl<T: Keyed> Table<T> {
             return None;
         };
         first_from(&self.slots, found.slot + 1)
+    }
+
+    /// Puts keys into the order of their rows: the key of each row that is of one of them, once. What
+    /// stood in `places` is gone. It takes no memory, and time as a sort of the keys does.
+    pub fn put_in_order(&self, keys: &mut Vec<T::Key>, places: &mut Vec<usize>)
+        requires { vec_len keys.old ≤ vec_capacity places.old }
+        ensures keys { keys.new.items
+            ≡ map T.key_of (filter (is_among T.Key.eq T.key_of keys.old.items) self.now.rows) }
+        ensures room { vec_capacity keys.new ≡ vec_capacity keys.old }
+        ensures places { vec_capacity places.new ≡ vec_capacity places.old }
+    {
+        slots_of(&self.slots, self.base, &self.index, keys, places);
+        take_keys(&self.slots, places, keys);
     }
 
     /// Adds a row of a new key behind the others. It uses one of the room.

@@ -1,4 +1,4 @@
-ghost use Rattle.std.specs.Prelude.{◌≡◌, ◌<◌, ◌≤◌, ◌+◌, ◌++◌, ◌∷◌, ℕ, [], None, Some, OnOk, OnErr, MatchOption, length, max, slice_get, if◌then◌else◌};
+ghost use Rattle.std.specs.Prelude.{◌≡◌, ◌<◌, ◌≤◌, ◌+◌, ◌++◌, ◌∷◌, ◌↔◌, ℕ, [], None, Some, OnOk, OnErr, IsTrue, MatchOption, length, max, slice_get, if◌then◌else◌};
 ghost use Rattle.std.specs.Option.{option_map};
 ghost use Rattle.std.specs.Vec.{vec_len, vec_capacity};
 ghost use Rattle.kq_table.specs.Rows.{find_row, row_after, rows_behind, without_row, HaveOwnKeys};
@@ -41,6 +41,12 @@ impl<K: Copy + Eq + Hash, G: Copy + Eq + Hash> TargetIndex<K, G> {
             links: Table::new(alloc),
             ends: Table::new(alloc),
         }
+    }
+
+    pub fn len(&self) -> usize
+        ensures { result ≡ length self.now.watches }
+    {
+        self.links.len()
     }
 
     /// How many further watches fit without memory.
@@ -94,17 +100,22 @@ impl<K: Copy + Eq + Hash, G: Copy + Eq + Hash> TargetIndex<K, G> {
     }
 
     /// Adds behind `found` the keys that watch a target, in the order in which they were attached.
-    /// It takes no memory.
-    pub fn watching(&self, target: G, found: &mut Vec<K>)
-        requires { vec_len found.old + length (keys_watching G.eq target self.now.watches) ≤ vec_capacity found.old }
-        ensures found { found.new.items ≡ found.old.items ++ keys_watching G.eq target self.now.watches }
+    /// Where not all of them have room there, it is false. It takes no memory.
+    pub fn watching(&self, target: G, found: &mut Vec<K>) -> bool
+        ensures room { IsTrue result
+            ↔ (vec_len found.old + length (keys_watching G.eq target self.now.watches) ≤ vec_capacity found.old) }
+        ensures found { IsTrue result → found.new.items ≡ found.old.items ++ keys_watching G.eq target self.now.watches }
         ensures capacity { vec_capacity found.new ≡ vec_capacity found.old }
     {
         let mut next = self.first_watching(target);
         while let Some(key) = next {
+            if found.len() == found.capacity() {
+                return false;
+            }
             found.push_reserved(key);
             next = after(&self.links, key);
         }
+        true
     }
 
     /// Adds a watch of a new key behind the others.

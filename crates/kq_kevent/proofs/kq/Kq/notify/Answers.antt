@@ -1,94 +1,50 @@
-use Rattle.std.proofs.Common.{◌-◌, ◌+◌, Option, length, refl, sym, ap, ◌∙◌, subst, arith}
-use Rattle.kq_model.specs.declared.key.Key.{Key}
+use Rattle.std.proofs.Common.{ap, ◌∙◌, subst}
 use Rattle.kq_model.specs.Hints.{notified}
-use Rattle.kq_model.specs.Kqueue.{HaveOwnKeys, IsSound}
-use Rattle.kq_knote.specs.Index.{behind, first_hinted, IsHinted}
+use Rattle.kq_model.specs.Kqueue.{IsSound}
 use Rattle.kq_kevent.specs.Owned.{OwnedKqueue}
 use Rattle.kq_kevent.proofs.NotifiedLaws.{after-laws, after-model, after-named}
-use Rattle.kq_kevent.proofs.NotifyLaws.{IsAt, walk-start, walk-stops, walk-ends, walk-hinted, walk-goes}
+use Rattle.kq_kevent.proofs.TurnLaws.{kqueue_of}
+use Rattle.kq_knote.specs.Reserved.{Reserved}
 use Rattle.kq_kevent.proofs.kq.Kq.notify.Goals as goal
-
-pub loop-step-init : goal.loop-step-init
-loop-step-init g c =
-    let views = g.V.Views.sees c.args.views.now in
-    let hints = c.args.hints.now in
-    let kq = c.args.self.now.kq in
-    record {
-      at = walk-start views hints kq c.first_hinted-next.result (length kq.knotes - 0)
-          (c.first_hinted-next.ensures ∙ ap (λ (v : OwnedKqueue). first_hinted hints v.kq.knotes) c.self.view_is) (omega arith);
-      owner = refl;
-      version = refl;
-      reserved = omega arith;
-      limit = refl;
-    }
-
-pub next_hinted-next-requires : goal.next_hinted-next-requires
-next_hinted-next-requires g c =
-    let views = g.V.Views.sees c.args.views.now in
-    let hints = c.args.hints.now in
-    let wanted = notified views hints c.args.self.now.kq in
-    let left = length c.args.self.now.kq.knotes - c.loop-step._step in
-    let at = subst (λ (o : Option Key). IsAt views hints wanted o left c.loop-step.self.kq) c.in-Some.is c.loop-step.invariant.at in
-    let own = subst (λ (v : OwnedKqueue). HaveOwnKeys v.kq.knotes) c.self-in-loop-step.view_is c.self-in-loop-step.invariant.sound.own_keys in
-    subst (λ (v : OwnedKqueue). IsHinted hints c.in-Some.key v.kq.knotes) (sym c.self-in-loop-step.view_is)
-    (walk-hinted views hints wanted c.in-Some.key left c.loop-step.self.kq own at)
-
-pub loop-step-preserved : goal.loop-step-preserved
-loop-step-preserved g c =
-    let views = g.V.Views.sees c.args.views.now in
-    let hints = c.args.hints.now in
-    let wanted = notified views hints c.args.self.now.kq in
-    let left = length c.args.self.now.kq.knotes - c.loop-step._step in
-    let fewer = length c.args.self.now.kq.knotes - (c.loop-step._step + 1) in
-    let at = subst (λ (o : Option Key). IsAt views hints wanted o left c.loop-step.self.kq) c.in-Some.is c.loop-step.invariant.at in
-    let own = subst (λ (v : OwnedKqueue). HaveOwnKeys v.kq.knotes) c.self-in-loop-step.view_is c.self-in-loop-step.invariant.sound.own_keys in
-    record {
-      at = walk-goes views hints wanted c.in-Some.key left c.loop-step.self.kq own at c.next_hinted-next.result fewer c.notice.new.self.kq (omega arith)
-          (c.next_hinted-next.ensures ∙ ap (λ (v : OwnedKqueue). first_hinted hints (behind c.in-Some.key v.kq.knotes)) c.self-in-loop-step.view_is)
-          c.notice.ensures.kq;
-      owner = c.notice.ensures.owner ∙ c.loop-step.invariant.owner;
-      version = c.notice.ensures.version ∙ c.loop-step.invariant.version;
-      reserved = omega arith;
-      limit = c.notice.ensures.limit ∙ c.loop-step.invariant.limit;
-    }
 
 pub returns-in_default-clause-kq : goal.returns-in_default-clause-kq
 returns-in_default-clause-kq g c =
     let views = g.V.Views.sees c.args.views.now in
     let hints = c.args.hints.now in
-    walk-stops views hints (notified views hints c.args.self.now.kq)
-    (length c.args.self.now.kq.knotes - c.loop-step._step) c.loop-step.self.kq
-    (subst (λ (o : Option Key). IsAt views hints (notified views hints c.args.self.now.kq) o (length c.args.self.now.kq.knotes - c.loop-step._step) c.loop-step.self.kq)
-    c.in_default.is c.loop-step.invariant.at)
+    c.notice_along.ensures.kq
+    ∙ ap (λ (ks : Reserved). notified views hints (kqueue_of ks.knotes c.self.inside.queue.keys)) c.take_hinted.ensures.knotes
+    ∙ ap (λ (v : OwnedKqueue). notified views hints v.kq) c.self.view_is
 
 pub returns-in_default-clause-laws : goal.returns-in_default-clause-laws
 returns-in_default-clause-laws g c =
-    after-laws (g.V.Views.sees c.args.views.now) c.args.hints.now c.args.self.now.kq c.loop-step.self.kq (returns-in_default-clause-kq g c)
+    after-laws (g.V.Views.sees c.args.views.now) c.args.hints.now c.args.self.now.kq _ (returns-in_default-clause-kq g c)
     (subst (λ (v : OwnedKqueue). IsSound v.kq) c.self.view_is c.self.invariant.sound)
 
 pub returns-in_default-clause-model : goal.returns-in_default-clause-model
-returns-in_default-clause-model g c = after-model (g.V.Views.sees c.args.views.now) c.args.hints.now c.args.self.now.kq c.loop-step.self.kq (returns-in_default-clause-kq g c)
+returns-in_default-clause-model g c = after-model (g.V.Views.sees c.args.views.now) c.args.hints.now c.args.self.now.kq _ (returns-in_default-clause-kq g c)
 
 pub returns-in_default-clause-named : goal.returns-in_default-clause-named
 returns-in_default-clause-named g c =
-    after-named (g.V.Views.sees c.args.views.now) c.args.hints.now c.args.self.now.kq c.loop-step.self.kq (returns-in_default-clause-kq g c) c.args.self.now.owner
+    after-named (g.V.Views.sees c.args.views.now) c.args.hints.now c.args.self.now.kq _ (returns-in_default-clause-kq g c) c.args.self.now.owner
 
 pub returns-clause-kq : goal.returns-clause-kq
 returns-clause-kq g c =
     let views = g.V.Views.sees c.args.views.now in
     let hints = c.args.hints.now in
-    walk-ends views hints (notified views hints c.args.self.now.kq) c.loop-step.next
-    (length c.args.self.now.kq.knotes - c.loop-step._step) c.loop-step.self.kq
-    (omega (arith, ap (λ (v : OwnedKqueue). length v.kq.knotes) c.self.view_is)) c.loop-step.invariant.at
+    ap (λ (ks : Reserved). kqueue_of ks.knotes c.self-2.inside.queue.keys) c.give_back.ensures
+    ∙ ap (λ (v : OwnedKqueue). v.kq) c.self-2.view_is
+    ∙ c.notice_each.ensures.kq
+    ∙ ap (λ (ks : Reserved). notified views hints (kqueue_of ks.knotes c.self.inside.queue.keys)) c.take_hinted.ensures.knotes
+    ∙ ap (λ (v : OwnedKqueue). notified views hints v.kq) c.self.view_is
 
 pub returns-clause-laws : goal.returns-clause-laws
 returns-clause-laws g c =
-    after-laws (g.V.Views.sees c.args.views.now) c.args.hints.now c.args.self.now.kq c.loop-step.self.kq (returns-clause-kq g c)
+    after-laws (g.V.Views.sees c.args.views.now) c.args.hints.now c.args.self.now.kq _ (returns-clause-kq g c)
     (subst (λ (v : OwnedKqueue). IsSound v.kq) c.self.view_is c.self.invariant.sound)
 
 pub returns-clause-model : goal.returns-clause-model
-returns-clause-model g c = after-model (g.V.Views.sees c.args.views.now) c.args.hints.now c.args.self.now.kq c.loop-step.self.kq (returns-clause-kq g c)
+returns-clause-model g c = after-model (g.V.Views.sees c.args.views.now) c.args.hints.now c.args.self.now.kq _ (returns-clause-kq g c)
 
 pub returns-clause-named : goal.returns-clause-named
 returns-clause-named g c =
-    after-named (g.V.Views.sees c.args.views.now) c.args.hints.now c.args.self.now.kq c.loop-step.self.kq (returns-clause-kq g c) c.args.self.now.owner
+    after-named (g.V.Views.sees c.args.views.now) c.args.hints.now c.args.self.now.kq _ (returns-clause-kq g c) c.args.self.now.owner

@@ -1,4 +1,5 @@
-use Rattle.std.proofs.Common.{◌≡◌, ◌++◌, List, Option, length, slice_get, vec_len, rules, refl, sym, ap, ◌∙◌, subst, arith}
+use Rattle.std.proofs.Common.{◌≡◌, ◌++◌, List, Option, length, slice_get, vec_len, length-append, rules, refl, sym, ap, ◌∙◌, subst, arith}
+use Rattle.std.proofs.lemmas.Bool.{true≢false}
 use Rattle.std.proofs.lemmas.Option.{MatchOption-at_some}
 use Rattle.kq_table.specs.declared.watch.Link.{Link}
 use Rattle.kq_table.specs.Links.{Watched, keys_watching, of_target}
@@ -17,8 +18,8 @@ loop-next-init g c =
       capacity = refl;
     }
 
-pub push_reserved-requires : goal.push_reserved-requires
-push_reserved-requires g c =
+pub returns-then-len-capacity-clause-room : goal.returns-then-len-capacity-clause-room
+returns-then-len-capacity-clause-room g c =
     let same = g.K.PartialEq.eq in
     let alike = g.G.PartialEq.eq in
     let all = c.self.inside.links.rows in
@@ -30,8 +31,7 @@ push_reserved-requires g c =
     let here : vec_len c.loop-next.found ≡ length c.loop-next.found.items = search rules in
     let before : vec_len c.args.found.now ≡ length c.args.found.now.items = search rules in
     let capacity = c.loop-next.invariant.capacity in
-    let fits = c.requires in
-    omega arith
+    (λ is. absurd (true≢false (sym is)), λ fits. absurd (omega arith))
 
 pub loop-next-preserved : goal.loop-next-preserved
 loop-next-preserved g c =
@@ -49,6 +49,22 @@ loop-next-preserved g c =
       capacity = c.push_reserved.ensures.capacity ∙ c.loop-next.invariant.capacity;
     }
 
+pub returns-clause-room : goal.returns-clause-room
+returns-clause-room g c =
+    let same = g.K.PartialEq.eq in
+    let alike = g.G.PartialEq.eq in
+    let all = c.self.inside.links.rows in
+    let links = of_target alike c.args.target all in
+    let keys_are = sym (keys-of_target same alike c.args.target all) ∙ ap (λ (v : Watched g.row.K.Denot g.row.G.Denot). keys_watching alike c.args.target v.watches) c.self.view_is in
+    let found_is = IsAlong-end same alike c.args.found.now.items c.loop-next.found.items links
+    (subst (λ (o : Option g.row.K.Denot). IsAlong same alike c.args.found.now.items c.loop-next.found.items o links) c.in_default.is c.loop-next.invariant.along)
+    ∙ ap (λ keys. c.args.found.now.items ++ keys) keys_are in
+    let as_many = ap length found_is ∙ length-append c.args.found.now.items (keys_watching alike c.args.target c.args.self.now.watches) in
+    let here : vec_len c.loop-next.found ≡ length c.loop-next.found.items = search rules in
+    let before : vec_len c.args.found.now ≡ length c.args.found.now.items = search rules in
+    let capacity = c.loop-next.invariant.capacity in
+    (λ _. omega arith, λ _. refl)
+
 pub returns-clause-found : goal.returns-clause-found
 returns-clause-found g c =
     let same = g.K.PartialEq.eq in
@@ -56,6 +72,6 @@ returns-clause-found g c =
     let all = c.self.inside.links.rows in
     let links = of_target alike c.args.target all in
     let keys_are = sym (keys-of_target same alike c.args.target all) ∙ ap (λ (v : Watched g.row.K.Denot g.row.G.Denot). keys_watching alike c.args.target v.watches) c.self.view_is in
-    IsAlong-end same alike c.args.found.now.items c.loop-next.found.items links
+    λ _. IsAlong-end same alike c.args.found.now.items c.loop-next.found.items links
     (subst (λ (o : Option g.row.K.Denot). IsAlong same alike c.args.found.now.items c.loop-next.found.items o links) c.in_default.is c.loop-next.invariant.along)
     ∙ ap (λ keys. c.args.found.now.items ++ keys) keys_are

@@ -2,7 +2,7 @@ use Rattle.std.proofs.Common.{◌≡◌, ◌-◌, ◌≤◌, length}
 use Rattle.kq_model.specs.Hints.{notified}
 use Rattle.kq_kevent.specs.Owned.{limit}
 use Rattle.kq_kevent.proofs.NotifyLaws.{IsAt}
-use Rattle.kq_kevent.proofs.kq.Kq.notify.Given as goal
+use Rattle.kq_kevent.proofs.kq.Kq.notice_along.Given as goal
 
 abbrev pub invariant-loop-step : goal.invariant-loop-step
 invariant-loop-step g l = record {

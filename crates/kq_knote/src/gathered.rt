@@ -1,0 +1,58 @@
+ghost use Rattle.std.specs.Prelude.{◌≡◌, IsTrue, MatchOption};
+ghost use Rattle.kq_knote.specs.Index.{AreHinted, hinted_keys};
+
+use crate::Knotes;
+use crate::hinted::{is_shared, only_target};
+use kq_model::{Hint, Key, Target};
+use std::mem::replace;
+
+impl Knotes {
+    /// The keys of the knotes that watch a hinted target, in order of registration, in time as a sort
+    /// of them takes. None where the index does not tell them: where it is not whole, there is no room for
+    /// the keys, or a hint is for no shared target; and where all hints are for one target, since
+    /// `first_hinted` needs no room for that. It takes no memory.
+    pub fn take_hinted(&mut self, posted: &[(Target, Hint)]) -> Option<Vec<Key>>
+        ensures knotes { self.new ≡ self.old }
+        ensures keys { MatchOption result (Unit {0}) (λ keys. keys.items ≡ hinted_keys posted.now self.old.knotes) }
+    {
+        if only_target(posted).is_some() {
+            return None;
+        }
+        let alloc = self.rows.allocator();
+        let mut keys = replace(&mut self.keys, Vec::new(alloc));
+        if self.gather(posted, &mut keys) && keys.len() <= self.places.capacity() {
+            self.rows.put_in_order(&mut keys, &mut self.places);
+            return Some(keys);
+        }
+        self.give_back(keys);
+        None
+    }
+
+    /// Takes back the list that `take_hinted` gave, so that its room serves the next record.
+    pub fn give_back(&mut self, keys: Vec<Key>)
+        ensures { self.new ≡ self.old }
+    {
+        self.keys = keys;
+    }
+
+    /// Finds the keys of the knotes that watch a hinted target, in no order, by the index. Where that
+    /// does not tell them, or `found` has no room for all, it is false.
+    fn gather(&self, posted: &[(Target, Hint)], found: &mut Vec<Key>) -> bool
+        ensures { IsTrue result → AreHinted posted.now self.now.knotes found.new.items }
+    {
+        found.clear();
+        if !self.whole {
+            return false;
+        }
+        for hint in posted {
+            let target = Some(hint.0);
+            if !is_shared(target) {
+                return false;
+            }
+            if !self.index.watching(target, found) {
+                return false;
+            }
+        }
+        true
+    }
+}
