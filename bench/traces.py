@@ -24,6 +24,15 @@ MEMBERS = {
     "pipe": ["pid", "rfd", "wfd", "cap"],
     "read": ["pid", "fd", "n"],
     "write": ["pid", "fd", "n"],
+    "exec": ["pid"],
+    "sigset": ["pid", "sig", "ignore"],
+    "sig": ["pid", "sig"],
+    "file": ["file", "size"],
+    "open": ["pid", "fd", "file", "mode"],
+    "seek": ["pid", "fd", "offset"],
+    "truncate": ["file", "size"],
+    "note": ["file", "note"],
+    "clock": ["ns"],
     "kevent": ["pid", "fd", "changes", "room"],
 }
 SIDES = ["read", "write"]

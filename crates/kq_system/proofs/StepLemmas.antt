@@ -2,6 +2,7 @@
 use Rattle.std.proofs.Common.{◌≡◌, ◌∙◌, ◌+◌, ◌≤◌, ◌++◌, ◌||◌, ◌&&◌, ℕ, Bool, true, false, not, cond, List, [], ◌∷◌, map, length, nat_lt, nat_eq, Option, None, Some, IsOk, is_some, refl, sym, ap, ap₂, subst, append-nil, arith}
 use Rattle.std.proofs.lemmas.List.Elements.{All-weaker}
 use Rattle.std.specs.Map.{keys_of}
+use Rattle.std.specs.Prelude.{All}
 use Rattle.kq_model.specs.declared.change.Change.{Change}
 use Rattle.kq_model.specs.declared.event.Event.{Event}
 use Rattle.kq_model.specs.declared.event.Event.TheVariants as event
@@ -27,7 +28,7 @@ use Rattle.kq_process.specs.declared.effect.Effect.{Effect}
 use Rattle.kq_process.specs.declared.world.World as code
 use Rattle.kq_process.specs.Effects.{IsEffectOf, pairs_in, world_after}
 use Rattle.kq_process.specs.World.{world_of}
-use Rattle.kq_system.specs.SystemState.{AreOfVersion, AreUpTo, HaveStayed, IsLawful, IsPlain, IsStep, NumberedKqueue, call_plan, happened_to_all, live_of}
+use Rattle.kq_system.specs.SystemState.{AreOfVersion, AreUpTo, HasNoTimer, HaveStayed, IsLawful, IsPlain, IsStep, NumberedKqueue, call_plan, happened_to_all, live_of}
 use Rattle.kq_system.proofs.CallLemmas.{up_to_more}
 use Rattle.kq_system.proofs.SystemLemmas.{HasDone, done, impossible, told}
 
@@ -45,12 +46,14 @@ counted_later place w c = record {
 pub lawful_after : (version applied : ℕ) (w w' : code.World) (es es' : List (ℕ × NumberedKqueue))
     → IsLawful version applied w es → HaveStayed es es'
     → AreAllLive (record { version = version; world = world_of w'; live = map live_of es' })
+    → All HasNoTimer (map live_of es')
     → IsCountedWorld (applied + 1 + 1) (world_of w') → IsLawful version (applied + 1) w' es'
-lawful_after version applied w w' es es' old stayed live counted = record {
+lawful_after version applied w w' es es' old stayed live timerless counted = record {
   version_one = old.version_one;
   of_version = stayed.of_version version old.of_version;
   born = stayed.up_to (applied + 1) (up_to_more applied (applied + 1) (keys_of es) (omega arith) old.born);
   all_live = live;
+  timerless = timerless;
   counted = counted;
 }
 
@@ -64,6 +67,7 @@ lawful_same version applied w es es' old stayed same = record {
   born = stayed.up_to applied old.born;
   all_live = subst (λ (ls : List Live). AreAllLive (record { version = version; world = world_of w; live = ls }))
       (sym same) old.all_live;
+  timerless = subst (λ (ls : List Live). All HasNoTimer ls) (sym same) old.timerless;
   counted = old.counted;
 }
 

@@ -8,6 +8,7 @@ use Rattle.kq_model.specs.World.{Planned, views_of}
 use Rattle.kq_process.specs.Effects.{pairs_in}
 use Rattle.kq_process.specs.World.{world_of}
 use Rattle.kq_system.specs.SystemState.{IsStep, SystemState, happened_to_all, live_of, state_of, system_of}
+use Rattle.kq_system.proofs.ClockLemmas.{stays_timerless}
 use Rattle.kq_system.proofs.HappenLemmas.{stayed_same}
 use Rattle.kq_system.proofs.StepLemmas.{happened_step, lawful_after, refused_step}
 use Rattle.kq_system.proofs.SystemLemmas.{refused, stays_live}
@@ -25,6 +26,7 @@ invariant_of-self-in-Err c =
     lawful_after old.version old.applied old.world c.apply.new.self old.live.entries old.live.entries c.self.invariant
     (stayed_same old.live.entries)
     (stays_live place e (system_of s) _ (reply.Impossible c.in-Err.why) steps c.self.invariant.all_live)
+    (stays_timerless place e (system_of s) _ (reply.Impossible c.in-Err.why) steps c.self.invariant.timerless)
     c.in_ok-effect.ensures.next
 
 pub returns-in-Err-clause-reply : goal.returns-in-Err-clause-reply
@@ -55,6 +57,7 @@ invariant_of-self-2 c =
     lawful_after old.version old.applied old.world c.apply.new.self old.live.entries
     c.happen_to_all.new.live.entries c.self.invariant c.happen_to_all.ensures.stayed
     (stays_live place e (system_of s) _ reply.Done steps c.self.invariant.all_live)
+    (stays_timerless place e (system_of s) _ reply.Done steps c.self.invariant.timerless)
     c.in_ok-effect.ensures.next
 
 pub returns-clause-reply : goal.returns-clause-reply

@@ -11,6 +11,7 @@ use Rattle.kq_process.specs.Effects.{world_after}
 use Rattle.kq_process.specs.World.{world_of}
 use Rattle.kq_system.specs.SystemState.{AreOfVersion, AreUpTo, IsLawful, IsStep, NumberedKqueue, SystemState, live_of, state_of, system_of}
 use Rattle.kq_system.proofs.CallLemmas.{not_born, up_to_more}
+use Rattle.kq_system.proofs.ClockLemmas.{stays_timerless}
 use Rattle.kq_system.proofs.HappenLemmas.{stayed_same}
 use Rattle.kq_system.proofs.StepLemmas.{Opens, kqueue_plan, lawful_after, possible_kqueue, refused_step}
 use Rattle.kq_system.proofs.SystemLemmas.{HasDone, done, opened, refused, stays_live}
@@ -30,6 +31,7 @@ invariant_of-self-in-Err c =
     (lawful_after old.version old.applied old.world c.apply.new.self old.live.entries old.live.entries
     c.self.invariant (stayed_same old.live.entries)
     (stays_live place e (system_of s) _ (reply.Impossible c.in-Err.why) steps c.self.invariant.all_live)
+    (stays_timerless place e (system_of s) _ (reply.Impossible c.in-Err.why) steps c.self.invariant.timerless)
     c.in_ok-effect.ensures.next)
 
 pub returns-in-Err-clause-reply : goal.returns-in-Err-clause-reply
@@ -103,6 +105,7 @@ invariant_of-self-2 c =
           (up_to_more old.applied (old.applied + 1) (keys_of old.live.entries) (omega arith)
           c.self.invariant.born));
       all_live = stays_live place e (system_of s) _ reply.Done steps c.self.invariant.all_live;
+      timerless = stays_timerless place e (system_of s) _ reply.Done steps c.self.invariant.timerless;
       counted = c.in_ok-effect.ensures.next;
     }
 
