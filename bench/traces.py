@@ -4,7 +4,7 @@ POLL_ROOM = 4
 CHANGES = 1000
 
 
-# the members of each kind of record besides `op`; `side` is the name of a side, `changes` a list, all others are numbers
+# the members of each kind of record besides `op`; all but those below, `ignore` and `changes` are whole numbers from 0
 MEMBERS = {
     "proc": ["pid"],
     "fork": ["pid", "child"],
@@ -35,7 +35,13 @@ MEMBERS = {
     "clock": ["ns"],
     "kevent": ["pid", "fd", "changes", "room"],
 }
-SIDES = ["read", "write"]
+# the members whose values are words, and those that have a sign
+WORDS = {
+    "side": ["read", "write"],
+    "mode": ["r", "w", "rw"],
+    "note": ["attrib", "link", "rename", "delete", "revoke"],
+}
+SIGNED = ["size", "offset"]
 
 
 def call(changes, room):
@@ -93,8 +99,13 @@ def turnover(path, kevents, records):
 
 def spelled(number, name):
     """The value of a member of record `number`, as JSON."""
-    if name == "side":
-        return f'"{SIDES[number % 2]}"'
+    turn = number // len(MEMBERS)
+    if name in WORDS:
+        return f'"{WORDS[name][turn % len(WORDS[name])]}"'
+    if name == "ignore":
+        return "true" if turn % 2 else "false"
+    if name in SIGNED:
+        return str(number * 7919 - 2**20)
     return "[]" if name == "changes" else str(number * 7919 % 2**32)
 
 
