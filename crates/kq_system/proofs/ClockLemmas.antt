@@ -8,7 +8,7 @@ use Rattle.kq_model.specs.declared.event.Event.{Event}
 use Rattle.kq_model.specs.declared.event.Event.TheVariants as event
 use Rattle.kq_model.specs.declared.reply.Reply.{Reply}
 use Rattle.kq_model.specs.declared.reply.Reply.TheVariants as reply
-use Rattle.kq_model.specs.declared.why.Why.{Why}
+use Rattle.kq_model.specs.declared.why.Why.TheVariants.{ClockBack}
 use Rattle.kq_model.specs.Caller.{Caller}
 use Rattle.kq_model.specs.ChangedKnote.{key_of}
 use Rattle.kq_model.specs.Clock.{clocked}
@@ -22,10 +22,10 @@ use Rattle.kq_model.specs.ProcessPlans.{plan_clock, plan_clock_at}
 use Rattle.kq_model.specs.References.{Names}
 use Rattle.kq_model.specs.Refusals.{is_malformed}
 use Rattle.kq_model.specs.Registration.{Make, decision}
-use Rattle.kq_model.specs.Subjects.{HaveSubjects, MakesSubject, MakeSubjects}
+use Rattle.kq_model.specs.Subjects.{HasSubject, HaveSubjects, MakesSubject, MakeSubjects}
 use Rattle.kq_model.specs.System.{born, lived, reply_to, step, step_by, stepped}
 use Rattle.kq_model.specs.Tallied.{Kqueue, Live, System, World}
-use Rattle.kq_model.specs.World.{Call, Plan, Planned, Impossible, Possible, seen_world}
+use Rattle.kq_model.specs.World.{Call, Plan, Planned, Impossible, Possible, idle, seen_world}
 use Rattle.kq_model.proofs.KnoteLaws.{by_test}
 use Rattle.kq_model.proofs.PrivateParts.{clock_stays}
 use Rattle.kq_model.proofs.SubjectsCall.{call-subjects, happened-subjects}
@@ -85,7 +85,7 @@ module _ (m : Moment) where
 born_timerless : (place : ℕ) (b : Option Pair) → All HasNoTimer (born place b)
 unfolding born
 born_timerless place None = All-nil HasNoTimer
-born_timerless place (Some p) = All-cons HasNoTimer _ [] (All-nil (λ k. is_timer k.key.filter ≡ false)) (All-nil HasNoTimer)
+born_timerless place (Some p) = All-cons HasNoTimer _ [] (All-nil (HasSubject NoTimer)) (All-nil HasNoTimer)
 
 step_by_timerless : (place : ℕ) (q : Planned) (s : System) → All HasNoTimer s.live
     → All HasNoTimer (step_by place q s).system.live
@@ -120,7 +120,9 @@ ClockPlan (Possible p) = MovesClock p
 clock_plan : (moment : ℕ) (w : World) → ClockPlan (plan_clock moment w)
 unfolding plan_clock
 clock_plan moment w =
-    cond_both (ltb moment w.now) _ _ ClockPlan (λ _. tt) (λ _. record { closed = refl; hints = refl; call = refl; born = refl })
+    cond_both (ltb moment w.now) (Impossible ClockBack)
+    (Possible (record idle { clock = Some (record { from = w.now; to = moment }) })) ClockPlan
+    (λ _. tt) (λ _. record { closed = refl; hints = refl; call = refl; born = refl })
 
 clock_plan_at : (ns : ℤ) (w : World) → ClockPlan (plan_clock_at ns w)
 unfolding plan_clock_at
@@ -130,33 +132,7 @@ clock_plan_at (negsuc n) w = tt
 clock_moves : (place : ℕ) (e : Event) (w : World) → IsClock e → ClockPlan (plan place e w)
 unfolding plan
 clock_moves place (event.Clock ns) w is = clock_plan_at ns w
-clock_moves place (event.Proc _) w is = absurd is
-clock_moves place (event.Fork _ _) w is = absurd is
-clock_moves place (event.Exit _ _) w is = absurd is
-clock_moves place (event.Kqueue _ _) w is = absurd is
-clock_moves place (event.Dup _ _ _) w is = absurd is
-clock_moves place (event.Close _ _) w is = absurd is
-clock_moves place (event.Socket _ _ _ _) w is = absurd is
-clock_moves place (event.Listen _ _ _) w is = absurd is
-clock_moves place (event.Arrive _ _) w is = absurd is
-clock_moves place (event.Accept _ _ _ _ _) w is = absurd is
-clock_moves place (event.Connect _ _) w is = absurd is
-clock_moves place (event.Rx _ _ _) w is = absurd is
-clock_moves place (event.Tx _ _ _) w is = absurd is
-clock_moves place (event.Shut _ _ _ _) w is = absurd is
-clock_moves place (event.Lowat _ _ _ _) w is = absurd is
-clock_moves place (event.Pipe _ _ _ _) w is = absurd is
-clock_moves place (event.Read _ _ _) w is = absurd is
-clock_moves place (event.Write _ _ _) w is = absurd is
-clock_moves place (event.Exec _) w is = absurd is
-clock_moves place (event.Sigset _ _ _) w is = absurd is
-clock_moves place (event.Sig _ _) w is = absurd is
-clock_moves place (event.File _ _) w is = absurd is
-clock_moves place (event.Open _ _ _ _) w is = absurd is
-clock_moves place (event.Seek _ _ _) w is = absurd is
-clock_moves place (event.Truncate _ _) w is = absurd is
-clock_moves place (event.Note _ _) w is = absurd is
-clock_moves place (event.Kevent _ _ _ _) w is = absurd is
+clock_moves place _ w is = absurd is
 
 moves : (place : ℕ) (e : Event) (w : World) (p : Plan) → IsClock e → plan place e w ≡ Possible p → MovesClock p
 moves place e w p is planned = subst ClockPlan planned (clock_moves place e w is)
