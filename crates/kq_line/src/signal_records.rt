@@ -1,4 +1,5 @@
-//! Records about programs, signals and the clock, each kind by a function of its own; [`crate::records`] has the others.
+//! Records about programs, signals and the clock, each kind by a function of its own; [`crate::records`] has the
+//! others.
 
 ghost use Rattle.std.specs.Prelude.{IfSome};
 ghost use Rattle.serde_json.specs.Data.{Members};

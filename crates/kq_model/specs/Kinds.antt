@@ -62,25 +62,32 @@ members_besides_op kind.Exit = (codes "pid", Whole) ∷ (codes "status", Whole) 
 members_besides_op kind.Kqueue = (codes "pid", Whole) ∷ (codes "fd", Whole) ∷ []
 members_besides_op kind.Dup = (codes "pid", Whole) ∷ (codes "fd", Whole) ∷ (codes "to", Whole) ∷ []
 members_besides_op kind.Close = (codes "pid", Whole) ∷ (codes "fd", Whole) ∷ []
-members_besides_op kind.Socket = (codes "pid", Whole) ∷ (codes "fd", Whole) ∷ (codes "rcv", Whole) ∷ (codes "snd", Whole) ∷ []
+members_besides_op kind.Socket =
+    (codes "pid", Whole) ∷ (codes "fd", Whole) ∷ (codes "rcv", Whole) ∷ (codes "snd", Whole) ∷ []
 members_besides_op kind.Listen = (codes "pid", Whole) ∷ (codes "fd", Whole) ∷ (codes "backlog", Whole) ∷ []
 members_besides_op kind.Arrive = (codes "pid", Whole) ∷ (codes "fd", Whole) ∷ []
-members_besides_op kind.Accept = (codes "pid", Whole) ∷ (codes "fd", Whole) ∷ (codes "to", Whole) ∷ (codes "rcv", Whole) ∷ (codes "snd", Whole) ∷ []
+members_besides_op kind.Accept =
+    (codes "pid", Whole) ∷ (codes "fd", Whole) ∷ (codes "to", Whole) ∷ (codes "rcv", Whole) ∷ (codes "snd", Whole) ∷ []
 members_besides_op kind.Connect = (codes "pid", Whole) ∷ (codes "fd", Whole) ∷ []
 members_besides_op kind.Rx = (codes "pid", Whole) ∷ (codes "fd", Whole) ∷ (codes "n", Whole) ∷ []
 members_besides_op kind.Tx = (codes "pid", Whole) ∷ (codes "fd", Whole) ∷ (codes "n", Whole) ∷ []
-members_besides_op kind.Shut = (codes "pid", Whole) ∷ (codes "fd", Whole) ∷ (codes "side", SideName) ∷ (codes "error", Whole) ∷ []
-members_besides_op kind.Lowat = (codes "pid", Whole) ∷ (codes "fd", Whole) ∷ (codes "side", SideName) ∷ (codes "n", Whole) ∷ []
-members_besides_op kind.Pipe = (codes "pid", Whole) ∷ (codes "rfd", Whole) ∷ (codes "wfd", Whole) ∷ (codes "cap", Whole) ∷ []
+members_besides_op kind.Shut =
+    (codes "pid", Whole) ∷ (codes "fd", Whole) ∷ (codes "side", SideName) ∷ (codes "error", Whole) ∷ []
+members_besides_op kind.Lowat =
+    (codes "pid", Whole) ∷ (codes "fd", Whole) ∷ (codes "side", SideName) ∷ (codes "n", Whole) ∷ []
+members_besides_op kind.Pipe =
+    (codes "pid", Whole) ∷ (codes "rfd", Whole) ∷ (codes "wfd", Whole) ∷ (codes "cap", Whole) ∷ []
 members_besides_op kind.Read = (codes "pid", Whole) ∷ (codes "fd", Whole) ∷ (codes "n", Whole) ∷ []
 members_besides_op kind.Write = (codes "pid", Whole) ∷ (codes "fd", Whole) ∷ (codes "n", Whole) ∷ []
 members_besides_op kind.Exec = (codes "pid", Whole) ∷ []
 members_besides_op kind.Sigset = (codes "pid", Whole) ∷ (codes "sig", Whole) ∷ (codes "ignore", Truth) ∷ []
 members_besides_op kind.Sig = (codes "pid", Whole) ∷ (codes "sig", Whole) ∷ []
 members_besides_op kind.File = (codes "file", Whole) ∷ (codes "size", Whole) ∷ []
-members_besides_op kind.Open = (codes "pid", Whole) ∷ (codes "fd", Whole) ∷ (codes "file", Whole) ∷ (codes "mode", ModeName) ∷ []
+members_besides_op kind.Open =
+    (codes "pid", Whole) ∷ (codes "fd", Whole) ∷ (codes "file", Whole) ∷ (codes "mode", ModeName) ∷ []
 members_besides_op kind.Seek = (codes "pid", Whole) ∷ (codes "fd", Whole) ∷ (codes "offset", Whole) ∷ []
 members_besides_op kind.Truncate = (codes "file", Whole) ∷ (codes "size", Whole) ∷ []
 members_besides_op kind.Note = (codes "file", Whole) ∷ (codes "note", NoteName) ∷ []
 members_besides_op kind.Clock = (codes "ns", Whole) ∷ []
-members_besides_op kind.Kevent = (codes "pid", Whole) ∷ (codes "fd", Whole) ∷ (codes "changes", ChangeList) ∷ (codes "room", Whole) ∷ []
+members_besides_op kind.Kevent =
+    (codes "pid", Whole) ∷ (codes "fd", Whole) ∷ (codes "changes", ChangeList) ∷ (codes "room", Whole) ∷ []

@@ -126,13 +126,20 @@ event_as kind.Pipe d =
 event_as kind.Read d = with_pid_fd d (λ pid fd. with_u32 (codes "n") d (λ n. Some (event.Read pid fd n)))
 event_as kind.Write d = with_pid_fd d (λ pid fd. with_u32 (codes "n") d (λ n. Some (event.Write pid fd n)))
 event_as kind.Exec d = with_pid d (λ pid. Some (event.Exec pid))
-event_as kind.Sigset d = with_pid d (λ pid. with_u32 (codes "sig") d (λ sig. with_truth (codes "ignore") d (λ ignore. Some (event.Sigset pid sig ignore))))
+event_as kind.Sigset d =
+    with_pid d (λ pid. with_u32 (codes "sig") d (λ sig. with_truth (codes "ignore") d
+    (λ ignore. Some (event.Sigset pid sig ignore))))
 event_as kind.Sig d = with_pid d (λ pid. with_u32 (codes "sig") d (λ sig. Some (event.Sig pid sig)))
-event_as kind.File d = with_u32 (codes "file") d (λ file. with_i64 (codes "size") d (λ size. Some (event.File file size)))
-event_as kind.Open d = with_pid_fd d (λ pid fd. with_u32 (codes "file") d (λ file. with_mode (codes "mode") d (λ mode. Some (event.Open pid fd file mode))))
+event_as kind.File d =
+    with_u32 (codes "file") d (λ file. with_i64 (codes "size") d (λ size. Some (event.File file size)))
+event_as kind.Open d =
+    with_pid_fd d (λ pid fd. with_u32 (codes "file") d (λ file. with_mode (codes "mode") d
+    (λ mode. Some (event.Open pid fd file mode))))
 event_as kind.Seek d = with_pid_fd d (λ pid fd. with_i64 (codes "offset") d (λ offset. Some (event.Seek pid fd offset)))
-event_as kind.Truncate d = with_u32 (codes "file") d (λ file. with_i64 (codes "size") d (λ size. Some (event.Truncate file size)))
-event_as kind.Note d = with_u32 (codes "file") d (λ file. with_note (codes "note") d (λ note. Some (event.Note file note)))
+event_as kind.Truncate d =
+    with_u32 (codes "file") d (λ file. with_i64 (codes "size") d (λ size. Some (event.Truncate file size)))
+event_as kind.Note d =
+    with_u32 (codes "file") d (λ file. with_note (codes "note") d (λ note. Some (event.Note file note)))
 event_as kind.Clock d = with_moment (codes "ns") d (λ ns. Some (event.Clock ns))
 event_as kind.Kevent d =
     with_pid_fd d (λ pid fd. with_u32 (codes "room") d (λ room.
