@@ -11,7 +11,7 @@ use crate::world::World;
 use kq_model::{Act, Event, Memory};
 
 impl World {
-    ghost use Rattle.kq_process.specs.Effects.{listed_after};
+    ghost use Rattle.kq_process.specs.Effects.{IsPossible, listed_after};
     ghost use Rattle.kq_process.specs.World.{world_of, IsEffectBy, IsNext};
 
     /// The step of the world: what the record at this place does, or the first reason why it is
@@ -22,6 +22,8 @@ impl World {
         ensures effect { IfOk result (IsEffectBy (plan place event.now) self.old) }
         ensures world { OnOk result (IsNext place (plan place event.now) self.old self.new) }
         ensures memory { OnErr result (world_of self.new ≡ world_of self.old) }
+        // An impossible record is answered, whatever memory there is.
+        ensures possible { OnErr result (IsPossible (plan place event.now (world_of self.old))) }
         // Then the next record may come.
         ensures next { OnOk result (IsCountedWorld (place + 1) (world_of self.new)) }
         // The same for the world that keeps each object's records, for which this one stands.
@@ -37,6 +39,7 @@ impl World {
         ensures effect { IfOk result (IsEffectBy (plan place event.now) self.old) }
         ensures world { OnOk result (IsNext place (plan place event.now) self.old self.new) }
         ensures memory { OnErr result (world_of self.new ≡ world_of self.old) }
+        ensures possible { OnErr result (IsPossible (plan place event.now (world_of self.old))) }
     {
         match event {
             Event::Proc { pid } => self.proc(*pid),

@@ -8,6 +8,7 @@ use crate::world::World;
 use kq_model::{Change, Memory, Named, Why};
 
 impl World {
+    ghost use Rattle.kq_process.specs.Effects.{IsPossible};
     ghost use Rattle.kq_process.specs.World.{world_of, IsEffectBy, IsNext};
 
     /// A process starts. UsedPid: the pid was used before.
@@ -15,6 +16,7 @@ impl World {
         ensures effect { IfOk result (IsEffectBy (plan_proc pid) self.old) }
         ensures world { (place : ℕ) → OnOk result (IsNext place (plan_proc pid) self.old self.new) }
         ensures memory { OnErr result (world_of self.new ≡ world_of self.old) }
+        ensures possible { OnErr result (IsPossible (plan_proc pid (world_of self.old))) }
     {
         self.processes.proc(pid)
     }
@@ -23,6 +25,7 @@ impl World {
     pub fn exec(&self, pid: u32) -> Result<Effect, Memory>
         ensures effect { IfOk result (IsEffectBy (plan_exec pid) self.now) }
         ensures world { (place : ℕ) → IsNext place (plan_exec pid) self.now self.now }
+        ensures possible { OnErr result (IsPossible (plan_exec pid (world_of self.now))) }
     {
         self.processes.exec(pid)
     }
@@ -40,6 +43,7 @@ impl World {
     pub fn signal(&self, pid: u32, signal: u32) -> Result<Effect, Memory>
         ensures effect { IfOk result (IsEffectBy (plan_sig pid signal) self.now) }
         ensures world { (place : ℕ) → IsNext place (plan_sig pid signal) self.now self.now }
+        ensures possible { OnErr result (IsPossible (plan_sig pid signal (world_of self.now))) }
     {
         self.processes.signal(pid, signal)
     }
@@ -78,6 +82,7 @@ impl World {
         ensures effect { IfOk result (IsEffectBy (plan_kqueue pid fd) self.old) }
         ensures world { OnOk result (IsNext place (plan_kqueue pid fd) self.old self.new) }
         ensures memory { OnErr result (world_of self.new ≡ world_of self.old) }
+        ensures possible { OnErr result (IsPossible (plan_kqueue pid fd (world_of self.old))) }
     {
         let alloc = self.processes.allocator();
         if !self.processes.is_live(pid) {

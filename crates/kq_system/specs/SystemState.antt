@@ -8,6 +8,7 @@ use Rattle.kq_model.specs.declared.event.Event.TheVariants as event
 use Rattle.kq_model.specs.declared.filter.Filter.{Filter}
 use Rattle.kq_model.specs.declared.object.Target.{Target}
 use Rattle.kq_model.specs.declared.reply.Reply.{Reply}
+use Rattle.kq_model.specs.declared.why.Why.{Why}
 use Rattle.kq_model.specs.Close.{Pair, IsNotClosed, closed, has_pair}
 use Rattle.kq_model.specs.CountedWorld.{IsCountedWorld}
 use Rattle.kq_model.specs.Hints.{notified}
@@ -20,7 +21,7 @@ use Rattle.kq_model.specs.System as system
 use Rattle.kq_model.specs.Tallied.{Live, System, World}
 use Rattle.kq_model.specs.Targets.{Posted}
 use Rattle.kq_model.specs.Views.{Views}
-use Rattle.kq_model.specs.World.{Call, Plan, Possible, idle, seen_world}
+use Rattle.kq_model.specs.World.{Call, Plan, Impossible, Possible, idle, seen_world}
 use Rattle.kq_process.specs.declared.world.World as code
 use Rattle.kq_process.specs.World.{world_of}
 
@@ -64,6 +65,10 @@ IsUnchanged old new = (system_of new ≡ system_of old) × (new.applied ≡ old.
 abbrev pub IsStep : ℕ → Event → System → System → Reply → Type 0
 IsStep place event old new reply =
     (new ≡ (system.step place event old).system) × (reply ≡ (system.step place event old).reply)
+
+-- the event can't happen at this place in this system
+abbrev pub IsImpossible : ℕ → Event → System → Type 0
+IsImpossible place event old = (why : Why) × (plan place event (seen_world old.world) ≡ Impossible why)
 
 -- the kqueue has no READ, WRITE or VNODE knote of one of these numbers of its process
 abbrev pub HasNoneOf : List Pair → Live → Type 0

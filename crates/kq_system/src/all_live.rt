@@ -66,6 +66,7 @@ pub fn call_on<V: Views>(
 pub fn reserve_one(live: &mut IndexMap<u64, Live>, wanted: bool) -> Result<(), Memory>
     ensures entries { live.new.entries ≡ live.old.entries }
     ensures room { OnOk result (wanted ≡ true → 0 < spare live.new) }
+    ensures memory { OnErr result (wanted ≡ true) }
 {
     if wanted {
         live.reserve(1).map_err(|_| Memory)?;
