@@ -1,5 +1,6 @@
 -- A piece that was found, where it is a number with a sign, a moment, or true or false.
-use Rattle.std.proofs.Common.{◌≡◌, ℕ, ℤ, pos, negsuc, ◌^◌, ◌<◌, Bool, List, Option, Some, None, IfSome, option_and_then, sym, ap, ◌∙◌}
+use Rattle.std.proofs.Common.{◌≡◌, ℕ, ℤ, pos, negsuc, ◌^◌, ◌<◌, Bool, cond, List, Option, Some, None, IfSome, option_and_then, sym, ap, ◌∙◌, arith}
+use Rattle.std.proofs.lemmas.Bool.{le-ltb}
 use Rattle.serde_json.specs.Data.{Members, negative, number, unsigned}
 use Rattle.serde_json.specs.Find.{as_bool, get_member}
 use Rattle.kq_model.specs.declared.record_kind.MemberType.TheVariants as member_type
@@ -29,7 +30,8 @@ i64_far found name n (Some z) same is = λ ms shows.
 
 moment_of : (n : ℕ) → n < 2 ^ 63 → moment_in (number (unsigned n)) ≡ Some (pos n)
 unfolding moment_in from_zero
-moment_of n fits = ap (option_and_then from_zero) (i64_of n fits)
+moment_of n fits =
+    ap (option_and_then from_zero) (i64_of n fits) ∙ ap (λ b. cond b None (Some (pos n))) (le-ltb n 0 (omega arith))
 
 pub moment_signed : (found : Found) (name : List ℕ) (n : ℕ) (o : Option ℤ) → IfSome o (λ z. z ≡ pos n) → IfSome o (λ z. n < 2 ^ 63)
     → Some (Number n) ≡ piece_in found.members.items name → IfSome o (λ z. (ms : Members) → Shows found ms → IsMoment ms name z)
