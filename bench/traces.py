@@ -1,4 +1,6 @@
 """The traces of the benchmark: one process, one kqueue, calls on USER kevents, written straight to a file."""
+import itertools
+
 TRIGGER = 16777216
 POLL_ROOM = 4
 CHANGES = 1000
@@ -142,6 +144,84 @@ def signals(path, kevents, records):
 def calls_setup(kevents):
     """How many records register so many kevents, with those of the process and its kqueue."""
     return 2 - (-kevents // CHANGES)
+
+
+def record(op, *numbers):
+    """One line: a kind of record and its members in their order, all of them numbers."""
+    members = ",".join(f'"{name}":{number}' for name, number in zip(MEMBERS[op], numbers))
+    return f'{{"op":"{op}",{members}}}\n'
+
+
+def on(pid, kqueue, room, *changes):
+    """A kevent call with changes to READ."""
+    spelled = ",".join(f'{{"ident":{fd},"filter":"READ","flags":["{flag}"]}}' for flag, fd in changes)
+    return f'{{"op":"kevent","pid":{pid},"fd":{kqueue},"changes":[{spelled}],"room":{room}}}\n'
+
+
+def server(connections, _):
+    """One process, one kqueue and so many connections open at a time. In each turn the oldest is served and closed,
+    and its number goes to the next that comes, as open(2) gives the lowest that is free."""
+    kqueue, listening, first = 3, 4, 5
+    yield from (record("proc", 1), record("kqueue", 1, kqueue), record("socket", 1, listening, 65536, 65536))
+    yield from (record("listen", 1, listening, 128), on(1, kqueue, 0, ("ADD", listening)))
+    for fd in range(first, first + connections):
+        yield from (record("arrive", 1, listening), record("accept", 1, listening, fd, 65536, 65536))
+        yield on(1, kqueue, 0, ("ADD", fd))
+    oldest = 0
+    while True:
+        fd = first + oldest
+        yield from (record("rx", 1, fd, 100), on(1, kqueue, POLL_ROOM), record("read", 1, fd, 100))
+        yield from (record("write", 1, fd, 200), record("tx", 1, fd, 200), record("close", 1, fd))
+        yield from (record("arrive", 1, listening), record("accept", 1, listening, fd, 65536, 65536))
+        yield on(1, kqueue, 0, ("ADD", fd))
+        oldest = (oldest + 7919) % connections
+
+
+def forks(live, _):
+    """So many processes at a time, each with a kqueue on its end of a pipe from the first and on a socket that all
+    share. In each turn the oldest exits, and the first starts another and writes to it; at times the socket receives."""
+    kqueue, shared, sockets, writer = 3, 4, 5, 100
+    yield from (record("proc", 1), record("kqueue", 1, kqueue), record("socket", 1, shared, 65536, 65536))
+    yield from (record("connect", 1, shared), on(1, kqueue, 0, ("ADD", shared)))
+    child = 1
+    while True:
+        child += 1
+        slot = child % live
+        if child > live + 1:
+            yield from (record("exit", child - live, 0), on(1, kqueue, POLL_ROOM), record("close", 1, writer + slot))
+        yield from (record("pipe", 1, sockets, writer + slot, 65536), record("fork", 1, child))
+        yield from (record("close", 1, sockets), record("close", child, writer + slot), record("kqueue", child, kqueue))
+        yield from (on(child, kqueue, 0, ("ADD", sockets)), record("write", 1, writer + slot, 10))
+        yield from (on(child, kqueue, POLL_ROOM), record("read", child, sockets, 10), record("rx", 1, shared, 1))
+
+
+def crowd(live, _):
+    """So many processes, each with a kqueue on a socket of its own; each receives, polls and reads in turn, and at
+    times one exits and another comes."""
+    kqueue, own = 3, 4
+    def come(pid):
+        yield from (record("proc", pid), record("kqueue", pid, kqueue), record("socket", pid, own, 65536, 65536))
+        yield from (record("connect", pid, own), on(pid, kqueue, 0, ("ADD", own)))
+    pids = list(range(1, live + 1))
+    for pid in pids:
+        yield from come(pid)
+    newest, turn = live, 0
+    while True:
+        pid = pids[turn % live]
+        yield from (record("rx", pid, own, 10), on(pid, kqueue, POLL_ROOM), record("read", pid, own, 10))
+        if turn % 10 == 9:
+            newest += 1
+            yield record("exit", pid, 0)
+            pids[turn % live] = newest
+            yield from come(newest)
+        turn += 1
+
+
+def write_all(path, kind, size, records):
+    """Writes the first so many records of such a trace."""
+    with open(path, "w", encoding="ascii") as file:
+        file.write('{"kqsim":1}\n')
+        file.writelines(itertools.islice(kind(size, records), records))
 
 
 def spelled(number, name):

@@ -28,7 +28,7 @@ pub fn look(knote: &Knote, view: Option<View>) -> Option<Seen>
 
 /// A user event sees that it was triggered, and needs no world.
 #[tactic(auto, unfolding(kq_model::specs::Look::look_user))]
-fn look_user(knote: &Knote) -> Option<Seen>
+pub fn look_user(knote: &Knote) -> Option<Seen>
     ensures { result ≡ look_user knote.now }
 {
     if !knote.triggered {

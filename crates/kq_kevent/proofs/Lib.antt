@@ -1,3 +1,4 @@
+pub mod LookLaws
 pub mod QueueLaws
 pub mod TableLaws
 pub mod KnoteSteps
@@ -10,7 +11,6 @@ pub mod TakenLaws
 pub mod AnswerLaws
 pub mod KeepLaws
 pub mod CloseLaws
-pub mod NamedLaws
 pub mod TellLaws
 pub mod NotifyLaws
 pub mod NotifiedLaws

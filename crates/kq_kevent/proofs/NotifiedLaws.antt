@@ -1,5 +1,5 @@
 -- What a kqueue that heard the hints of a record promises.
-use Rattle.std.proofs.Common.{◌≡◌, ℕ, List, sym, ◌∙◌, subst}
+use Rattle.std.proofs.Common.{◌≡◌, ℕ, List, [], sym, ◌∙◌, subst}
 use Rattle.kq_model.specs.Hearing.{listed, tallying}
 use Rattle.kq_model.specs.HintLaws.{IsNotified}
 use Rattle.kq_model.specs.Hints.{notified}
@@ -10,18 +10,23 @@ use Rattle.kq_model.specs.Recast as recast
 use Rattle.kq_model.specs.Tallied.{Kqueue}
 use Rattle.kq_model.specs.Targets.{Posted}
 use Rattle.kq_model.specs.Views.{Views}
+use Rattle.kq_model.specs.WatchedNumbers.{LeavesOpen, WatchTheirNumbers}
 use Rattle.kq_model.proofs.HintLaws.{notified-law}
 use Rattle.kq_model.proofs.SubjectsCall.{notified-subjects}
 use Rattle.kq_model.proofs.Tallied.{notified-tallied}
-use Rattle.kq_kevent.specs.Named.{HaveNames}
+use Rattle.kq_model.proofs.WatchedNumbers.{left-watched}
 
 module _ (views : Views) (posted : List Posted) (kq after : Kqueue) (is : after ≡ notified views posted kq) where
   pub after-laws : IsSound kq → IsNotified kq after
   after-laws sound = subst (λ (q : Kqueue). IsNotified kq q) (sym is) (notified-law views posted kq sound)
 
-  pub after-model : (m : kqueues.Kqueue listed) → kq ≡ recast.tallied m → after ≡ recast.tallied (notified views posted m)
+  pub after-model : (m : kqueues.Kqueue listed) → kq ≡ recast.tallied m
+      → after ≡ recast.tallied (notified views posted m)
   after-model m same = is ∙ notified-tallied kq m same views posted
 
-  pub after-named : (owner : ℕ) → HaveNames views owner kq → HaveNames views owner after
-  after-named owner all =
-      subst (λ (q : Kqueue). HaveNames views owner q) (sym is) (notified-subjects tallying (IsNamed views owner) views posted kq all)
+  pub after-named : (owner : ℕ) (before : Views) → LeavesOpen before views owner [] → WatchTheirNumbers before owner kq
+      → WatchTheirNumbers views owner after
+  after-named owner before leaves watch =
+      subst (λ (q : Kqueue). WatchTheirNumbers views owner q) (sym is)
+      (notified-subjects tallying (IsNamed views owner) views posted kq
+      (left-watched tallying before views owner kq leaves watch))

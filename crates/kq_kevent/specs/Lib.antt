@@ -1,5 +1,4 @@
 pub mod Ending
 pub mod Owned
 pub mod Decided
-pub mod Named
 pub mod Telling

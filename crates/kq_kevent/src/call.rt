@@ -4,7 +4,7 @@ ghost use Rattle.kq_model.specs.Hearing.{listed};
 ghost use Rattle.kq_model.specs.Kqueue.{Kqueue};
 ghost use Rattle.kq_model.specs.Recast.{tallied, IsTallied};
 ghost use Rattle.kq_model.specs.CallLaws.{IsAnswer, kqueue_after_changes, IsChangesThenPoll};
-ghost use Rattle.kq_kevent.specs.Named.{HaveNames};
+ghost use Rattle.kq_model.specs.WatchedNumbers.{WatchTheirNumbers};
 ghost use Rattle.kq_kevent.specs.Owned.{caller, limit};
 
 use crate::Kq;
@@ -65,8 +65,8 @@ impl Kq {
         ensures poll { IsChangesThenPoll (caller (V.sees views.now) self.old) room changes.now self.old.kq }
 
         // Where the READ, WRITE and VNODE knotes watch what their numbers name, they still do.
-        ensures named { IfOk result (λ _. HaveNames (V.sees views.now) self.old.owner self.old.kq
-            → HaveNames (V.sees views.now) self.old.owner self.new.kq) }
+        ensures named { IfOk result (λ _. WatchTheirNumbers (V.sees views.now) self.old.owner self.old.kq
+            → WatchTheirNumbers (V.sees views.now) self.old.owner self.new.kq) }
 
         ensures owner { self.new.owner ≡ self.old.owner }
         ensures version { self.new.version ≡ self.old.version }

@@ -1,7 +1,7 @@
 ghost use Rattle.std.specs.Prelude.{◌≡◌, ◌≤◌, ◌∷◌, []};
 ghost use Rattle.kq_model.specs.Close.{closed};
 ghost use Rattle.kq_model.specs.Views.{Views};
-ghost use Rattle.kq_kevent.specs.Named.{HaveNames, KeepsNames};
+ghost use Rattle.kq_model.specs.WatchedNumbers.{LeavesOpen, WatchTheirNumbers};
 ghost use Rattle.kq_kevent.specs.Owned.{limit};
 
 use crate::Kq;
@@ -14,10 +14,12 @@ impl Kq {
         ensures kq { self.new.kq
             ≡ closed self.old.owner (record { pid = self.old.owner; number = number } ∷ []) self.old.kq }
 
-        // Where the READ, WRITE and VNODE knotes watched what their numbers named before the close,
-        // they watch what these name after it.
-        ensures named { (before after : Views) → KeepsNames before after self.old.owner number
-            → HaveNames before self.old.owner self.old.kq → HaveNames after self.old.owner self.new.kq }
+        // Where the READ, WRITE and VNODE knotes watched what their numbers named before a record that
+        // closes this one, they watch what these name after it.
+        ensures named { (before after : Views)
+            → LeavesOpen before after self.old.owner (record { pid = self.old.owner; number = number } ∷ [])
+            → WatchTheirNumbers before self.old.owner self.old.kq
+            → WatchTheirNumbers after self.old.owner self.new.kq }
 
         ensures owner { self.new.owner ≡ self.old.owner }
         ensures version { self.new.version ≡ self.old.version }

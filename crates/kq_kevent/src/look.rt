@@ -5,16 +5,26 @@ ghost use Rattle.kq_model.specs.ChangedKnote.{attended};
 ghost use Rattle.kq_model.specs.Retrieval.{event_flags, event_of};
 
 use bitflags::Flags;
-use kq_filters::{Seen, Views, look};
+use kq_filters::{Seen, Views, look, look_user};
 use kq_knote::Knote;
-use kq_model::{EvFlags, Kevent};
+use kq_model::{EvFlags, Filter, Kevent};
 
-/// The look of a knote's filter in a world.
-pub fn look_in<V: Views>(views: &V, knote: &Knote) -> Option<Seen>
+/// The look of a filter at its target.
+fn look_at_target<V: Views>(views: &V, knote: &Knote) -> Option<Seen>
     ensures { result ≡ look (V.sees views.now) knote.now }
 {
     let view = knote.target.and_then(|target| views.view(target));
     look(knote, view)
+}
+
+/// The look of a knote's filter in a world, which a user event does not ask.
+pub fn look_in<V: Views>(views: &V, knote: &Knote) -> Option<Seen>
+    ensures { result ≡ look (V.sees views.now) knote.now }
+{
+    match knote.key.filter {
+        Filter::User => look_user(knote),
+        _ => look_at_target(views, knote),
+    }
 }
 
 /// Looks at an enabled knote, which becomes active where its condition holds.

@@ -1,4 +1,4 @@
-ghost use Rattle.std.specs.Prelude.{◌≡◌, ◌≤◌, false};
+ghost use Rattle.std.specs.Prelude.{◌≡◌, ◌≤◌, [], false};
 ghost use Rattle.kq_model.specs.ChangedKnote.{activated};
 ghost use Rattle.kq_model.specs.Hearing.{listed};
 ghost use Rattle.kq_model.specs.HintLaws.{IsNotified};
@@ -9,7 +9,8 @@ ghost use Rattle.kq_model.specs.Look.{look};
 ghost use Rattle.kq_model.specs.Noticing.{is_for, left_by, with_noticed, noticed_at};
 ghost use Rattle.kq_model.specs.Recast as recast;
 ghost use Rattle.kq_model.specs.Registration.{queue_for};
-ghost use Rattle.kq_kevent.specs.Named.{HaveNames};
+ghost use Rattle.kq_model.specs.Views as world;
+ghost use Rattle.kq_model.specs.WatchedNumbers.{LeavesOpen, WatchTheirNumbers};
 ghost use Rattle.kq_kevent.specs.Owned.{limit};
 ghost use Rattle.kq_kevent.specs.Telling.{told_one, told_all, StandsFor};
 
@@ -93,9 +94,11 @@ impl Kq {
         ensures model { (m : Kqueue listed) → self.old.kq ≡ recast.tallied m
             → self.new.kq ≡ recast.tallied (notified (V.sees views.now) hints.now m) }
 
-        // Where the READ, WRITE and VNODE knotes watch what their numbers name, they still do.
-        ensures named { HaveNames (V.sees views.now) self.old.owner self.old.kq
-            → HaveNames (V.sees views.now) self.old.owner self.new.kq }
+        // Where the READ, WRITE and VNODE knotes watched what their numbers named, in the same world or
+        // before a record that closes none of these, they watch what they name now.
+        ensures named { (before : world.Views) → LeavesOpen before (V.sees views.now) self.old.owner []
+            → WatchTheirNumbers before self.old.owner self.old.kq
+            → WatchTheirNumbers (V.sees views.now) self.old.owner self.new.kq }
 
         ensures owner { self.new.owner ≡ self.old.owner }
         ensures version { self.new.version ≡ self.old.version }

@@ -8,7 +8,7 @@ ghost use Rattle.kq_model.specs.Kqueue.{is_waiting, Kqueue};
 ghost use Rattle.kq_model.specs.Recast.{tallied};
 ghost use Rattle.kq_model.specs.Registration.{register, queue_for, with_made, with_removed, with_modified};
 ghost use Rattle.kq_model.specs.RegistrationLaws.{IsRegistered};
-ghost use Rattle.kq_kevent.specs.Named.{HaveNames};
+ghost use Rattle.kq_model.specs.WatchedNumbers.{WatchTheirNumbers};
 ghost use Rattle.kq_kevent.specs.Owned.{caller, limit, IsTalliedRegistration};
 
 use crate::Kq;
@@ -68,8 +68,8 @@ impl Kq {
         ensures laws { IsRegistered change.now self.old.kq self.new.kq result }
 
         // Where the READ, WRITE and VNODE knotes watch what their numbers name, they still do.
-        ensures named { HaveNames (V.sees views.now) self.old.owner self.old.kq
-            → HaveNames (V.sees views.now) self.old.owner self.new.kq }
+        ensures named { WatchTheirNumbers (V.sees views.now) self.old.owner self.old.kq
+            → WatchTheirNumbers (V.sees views.now) self.old.owner self.new.kq }
 
         // The same in the words of the definitions, which keep all that was heard.
         ensures model { (m : Kqueue listed) → self.old.kq ≡ tallied m → IsTalliedRegistration self.new.kq result

@@ -105,3 +105,12 @@ behind-first key (k ∷ ks) =
 pub walk-behind : (key : Key) (knotes : List Knote) (P : List Knote → Type 0)
     → ((past ahead : List Knote) → knotes ≡ past ++ ahead → after key knotes ≡ slice_get ahead 0 → P ahead) → P (behind key knotes)
 walk-behind key knotes P walk = walk (before key knotes) (behind key knotes) (behind-split key knotes) (behind-first key knotes)
+
+-- ---- where nobody is told anything
+
+nobody : (ks : List Knote) → filter (is_hinted []) ks ≡ []
+nobody [] = refl
+nobody (k ∷ ks) = nobody ks
+
+pub hinted-none : (ks : List Knote) → first_hinted [] ks ≡ None
+hinted-none ks = ap (λ (hinted : List Knote). slice_get (map (λ (k : Knote). k.key) hinted) 0) (nobody ks)

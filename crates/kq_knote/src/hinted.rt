@@ -1,4 +1,4 @@
-ghost use Rattle.std.specs.Prelude.{◌≡◌, ◌++◌, List, MatchOption, slice_get};
+ghost use Rattle.std.specs.Prelude.{◌≡◌, ◌++◌, [], List, MatchOption, slice_get, true};
 ghost use Rattle.kq_model.specs.Tallied as tallied;
 ghost use Rattle.kq_knote.specs.Index.{IsHinted, IsOnly, behind, first_hinted, is_hinted, is_shared};
 
@@ -28,6 +28,13 @@ fn is_hinted(knote: &Knote, posted: &[(Target, Hint)]) -> bool
     false
 }
 
+/// Whether nobody is told anything.
+fn is_nobody(posted: &[(Target, Hint)]) -> bool
+    ensures { result ≡ true → posted.now ≡ [] }
+{
+    posted.is_empty()
+}
+
 /// The one target of all hints, where they have but one and records give hints for it.
 fn only_target(posted: &[(Target, Hint)]) -> Option<Target>
     ensures { MatchOption result (Unit {0}) (λ target. IsOnly target posted.now) }
@@ -48,10 +55,14 @@ fn only_target(posted: &[(Target, Hint)]) -> Option<Target>
 
 impl Knotes {
     /// The key of the first knote, in order of registration, that watches a hinted target. Where
-    /// all hints are for one target, this takes constant time; else a walk over the knotes.
+    /// all hints are for one target, or there is none, this takes constant time; else a walk over the
+    /// knotes.
     pub fn first_hinted(&self, posted: &[(Target, Hint)]) -> Option<Key>
         ensures { result ≡ first_hinted posted.now self.now.knotes }
     {
+        if is_nobody(posted) {
+            return None;
+        }
         match only_target(posted) {
             Some(target) if self.whole => self.index.first_watching(Some(target)),
             _ => self.hinted_from(self.rows.first(), posted),

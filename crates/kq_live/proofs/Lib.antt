@@ -3,3 +3,4 @@ pub mod Fitting
 pub mod Replaying
 pub mod Telling
 pub mod Copying
+pub mod Sending

@@ -54,25 +54,25 @@ rows-replies version es = rows_after-replies 1 (empty_system version) es
 -- ---- a history of the machine
 
 abbrev pub next_step : LiveMachine → Event → Reply → LiveMachine → Type 0
-next_step v e a w = IsNextStep v.system e a w.system
+next_step v e a w = IsNextStep v e a w
 
 leads_replies : (o w : LiveMachine) (place : ℕ) (s : System) (log : List LiveCall) → Leads next_step o log w
-    → system_of o.system ≡ s → o.system.applied + 1 ≡ place → replies_of log ≡ replies_after place s (events_of log)
+    → system_of o ≡ s → o.applied + 1 ≡ place → replies_of log ≡ replies_after place s (events_of log)
 unfolding replies_after
 leads_replies o w place s [] h is at = refl
 leads_replies o w place s (c ∷ cs) h is at =
     let u : LiveMachine = h.0 in
-    let first : IsStep place c.step (system_of o.system) (system_of u.system) c.answer =
-    subst (λ (p : ℕ). IsStep p c.step (system_of o.system) (system_of u.system) c.answer) at h.1.0 in
-    let now : IsStep place c.step s (system_of u.system) c.answer =
-    subst (λ (t : System). IsStep place c.step t (system_of u.system) c.answer) is first in
+    let first : IsStep place c.step (system_of o) (system_of u) c.answer =
+    subst (λ (p : ℕ). IsStep p c.step (system_of o) (system_of u) c.answer) at h.1.0 in
+    let now : IsStep place c.step s (system_of u) c.answer =
+    subst (λ (t : System). IsStep place c.step t (system_of u) c.answer) is first in
     let rest = leads_replies u w (place + 1) (step place c.step s).system cs h.2 now.0
     (ap (λ (n : ℕ). n + 1) (h.1.1 ∙ at)) in
     ap₂ (λ (r : Reply) (rs : List Reply). r ∷ rs) now.1 rest
 
 -- a history that begins with the empty system replays
 pub legal_replays : (version : ℕ) (o w : LiveMachine) (log : List LiveCall) → Leads next_step o log w
-    → IsEmpty version o.system → Replays version log
+    → IsEmpty version o → Replays version log
 unfolding replies_by
 legal_replays version o w log h empty =
     leads_replies o w 1 (empty_system version) log h empty.0 (ap (λ (n : ℕ). n + 1) empty.1)

@@ -30,7 +30,7 @@ is_called lock version v w event at reply seen_len opens same h =
     let opened : Some opens.0 ≡ Some legal.0 =
     sym opens.1 ∙ (sym (ap (λ (l : LockName LiveMachine). l.opening) same) ∙ legal.2) in
     let begun : opens.0 ≡ legal.0 = cc in
-    let empty = subst (λ (o : LiveMachine). IsEmpty version o.system) begun opens.2 in
+    let empty = subst (λ (o : LiveMachine). IsEmpty version o) begun opens.2 in
     let number : w.number ≡ v.number = ap (λ (z : LiveSeated). z.number) h.same in record {
       same = h.same;
       begins = h.grows.begins;
@@ -64,7 +64,7 @@ ended_book lock version v value history opens end =
     let legal = end.legal in
     let opened : Some opens.0 ≡ Some legal.0 = sym opens.1 ∙ legal.1 in
     let begun : opens.0 ≡ legal.0 = cc in
-    let empty = subst (λ (o : LiveMachine). IsEmpty version o.system) begun opens.2 in
+    let empty = subst (λ (o : LiveMachine). IsEmpty version o) begun opens.2 in
     let short = end.short in let last = opens.4 in
     let long : length history ≡ length end.log = ap length end.is ∙ length-map end.log entry_of in record {
       version_one = opens.3;
@@ -94,7 +94,7 @@ merge_length ls (x ∷ xs) h =
     let less = sum_set length ls h.0 (x ∷ h.1) h.1 h.2 in omega arith
 
 pub run_book : (version threads : ℕ) (events : List Event) (o value : LiveMachine) (history : List (Entry Event Reply))
-    → version ≡ 1 → 1 ≤ threads → length events < 2 ^ 31 → IsEmpty version o.system
+    → version ≡ 1 → 1 ≤ threads → length events < 2 ^ 31 → IsEmpty version o
     → Serves next_step o value (shares actor threads threads events) history → IsBook version history
 run_book version threads events o value history one there few empty h =
     let long = merge_length (shares actor threads threads events) (events_in history) h.merged in
@@ -107,7 +107,7 @@ run_book version threads events o value history one there few empty h =
     }
 
 pub run_is : (version threads : ℕ) (events : List Event) (o value : LiveMachine) (history : List (Entry Event Reply))
-    → IsEmpty version o.system → Serves next_step o value (shares actor threads threads events) history
+    → IsEmpty version o → Serves next_step o value (shares actor threads threads events) history
     → IsRun version threads events (recorded version history)
 run_is version threads events o value history empty h = record {
   version_is = refl;

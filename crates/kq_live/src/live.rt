@@ -33,9 +33,13 @@ pub struct Live {
 }
 
 impl Model for Live {
+    ghost use Rattle.std.specs.Coded.{codes};
+    ghost use Rattle.kq_system.specs.contracts.system.System as system;
     ghost use Rattle.kq_live.specs.Lives.{LiveName, OpensEmpty};
 
     ghost Value = { LiveName };
+
+    ghost coded = { Prim.hlevel (codes, system.the_row.coded) };
 
     ghost view = { λ l. record { lock = l.lock; version = l.version } };
 
@@ -79,7 +83,10 @@ impl Live {
         ensures parted { IfOk result (λ r. AllParted r.1.items) }
         ensures err { IfErr result (λ e. e ≡ TurnError.Memory) }
     {
-        match TurnLock::new(alloc, LiveMachine::new(alloc, version), seats, last) {
+        let Ok(machine) = LiveMachine::new(alloc, version) else {
+            return Err(LiveError::Memory);
+        };
+        match TurnLock::new(alloc, machine, seats, last) {
             Ok((lock, made)) => Ok((Live { lock, version }, made)),
             Err(refused) => Err(refused),
         }
@@ -103,6 +110,19 @@ impl Live {
         ensures never_busy { IfErr result (λ e. e ≢ TurnError.Busy) }
     {
         self.lock.call(rt, seat, event)
+    }
+
+    /// The same in a single try, which waits for nobody. `WornOut` comes where all calls were made, before `Busy`,
+    /// which comes where the turn was not free, and that before `Memory`.
+    pub fn try_call(&self, seat: &mut LiveSeat, event: Event) -> Result<LiveReceipt, LiveError>
+        requires { seat.old.lock ≡ self.now.lock }
+        ensures kept { (seat.new.lock ≡ seat.old.lock) × (seat.new.number ≡ seat.old.number) }
+        ensures stride { seat.new.stride ≡ seat.old.stride }
+        ensures ok { IfOk result (λ r. IsCalled self.now.version seat.old seat.new event r.at r.answer r.seen_len) }
+        ensures err { IfErr result (λ e. Refused seat.old seat.new e) }
+        ensures worn { seat.old.worn ≡ true → result ≡ Err TurnError.WornOut }
+    {
+        self.lock.try_call(seat, event)
     }
 
     /// A seat of its own that has seen as much. It waits for nobody and takes no memory.

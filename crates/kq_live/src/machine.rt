@@ -1,5 +1,5 @@
 //! The system as a machine under the lock.
-ghost use Rattle.std.specs.Prelude.{◌≡◌};
+ghost use Rattle.std.specs.Prelude.{◌≡◌, IfOk};
 ghost use Rattle.kq_live.specs.LiveSteps.{IsEmpty, IsNextStep};
 ghost use Rattle.kq_live.specs.Owners.{actor};
 
@@ -9,6 +9,8 @@ use kq_model::{Event, Memory, Reply};
 use kq_serve::Served;
 use kq_system::System;
 use std::alloc::Global;
+use std::marker::Model;
+use std::snapshot::Snapshot;
 
 /// Events that a system can apply.
 const MOST_EVENTS: u64 = (1 << 31) - 1;
@@ -17,19 +19,38 @@ const MOST_EVENTS: u64 = (1 << 31) - 1;
 #[derive(Drop)]
 pub struct LiveMachine {
     system: System,
+    /// The system as the last event left it. An event that was refused may have left more room in `system`, which
+    /// contracts see in a system and not here.
+    settled: Snapshot<System>,
     alloc: Global,
+}
+
+impl Model for LiveMachine {
+    ghost use Rattle.kq_system.specs.contracts.system.System as code;
+    ghost use Rattle.kq_system.specs.SystemState.{IsUnchanged, SystemState};
+
+    ghost Value = { SystemState };
+
+    ghost coded = { code.the_row.coded };
+
+    ghost view = { λ m. m.settled.value };
+
+    ghost invariant = { λ m. IsUnchanged m.settled.value m.system };
 }
 
 impl LiveMachine {
     /// The system before the first event of a trace of this version, which is 1.
-    pub(crate) fn new(alloc: Global, version: u32) -> Self
+    pub(crate) fn new(alloc: Global, version: u32) -> Result<Self, Memory>
         requires { version ≡ 1 }
-        ensures { IsEmpty version result.system }
+        ensures { IfOk result (λ m. IsEmpty version m) }
     {
-        LiveMachine {
-            system: System::new(alloc, version),
+        let system = System::new(alloc, version)?;
+        let settled = Snapshot::of(&system);
+        Ok(LiveMachine {
+            system,
+            settled,
             alloc,
-        }
+        })
     }
 }
 
@@ -38,7 +59,7 @@ impl Machine for LiveMachine {
 
     type Answer = Reply;
 
-    ghost leads = { λ v e a w. IsNextStep v.system e a w.system };
+    ghost leads = { λ v e a w. IsNextStep v e a w };
 
     // Memory comes before the step, for the second reply too: after the step there is no way back.
     fn apply(&mut self, event: &Event) -> Result<(Reply, Reply), Memory> {
@@ -47,6 +68,7 @@ impl Machine for LiveMachine {
         }
         let spare = Spare::for_reply_to(self.alloc, event)?;
         let reply = self.system.apply(event)?;
+        self.settled = Snapshot::of(&self.system);
         let copy = spare.copy_of(&reply);
         Ok((reply, copy))
     }
@@ -57,8 +79,31 @@ impl Served for LiveMachine {
 
     fn owner_of(event: &Event) -> u64 {
         match event {
-            Event::Proc { pid } | Event::Kqueue { pid, .. } | Event::Kevent { pid, .. } =>
-                u64::from(*pid),
+            Event::Proc { pid }
+            | Event::Fork { pid, .. }
+            | Event::Exit { pid, .. }
+            | Event::Kqueue { pid, .. }
+            | Event::Dup { pid, .. }
+            | Event::Close { pid, .. }
+            | Event::Socket { pid, .. }
+            | Event::Listen { pid, .. }
+            | Event::Arrive { pid, .. }
+            | Event::Accept { pid, .. }
+            | Event::Connect { pid, .. }
+            | Event::Rx { pid, .. }
+            | Event::Tx { pid, .. }
+            | Event::Shut { pid, .. }
+            | Event::Lowat { pid, .. }
+            | Event::Pipe { pid, .. }
+            | Event::Read { pid, .. }
+            | Event::Write { pid, .. }
+            | Event::Exec { pid }
+            | Event::Sigset { pid, .. }
+            | Event::Sig { pid, .. }
+            | Event::Open { pid, .. }
+            | Event::Seek { pid, .. }
+            | Event::Kevent { pid, .. } => u64::from(*pid),
+            Event::File { .. } | Event::Truncate { .. } | Event::Note { .. } | Event::Clock { .. } => 0,
         }
     }
 

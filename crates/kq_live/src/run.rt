@@ -25,7 +25,7 @@ pub fn live_run<R: Threads + Wait + Sync, G: Gate + Sync, S: Starts>(
     requires { (1 ≤ threads) × (threads ≤ 64) }
     ensures { IfOk result (λ b. IsRun trace.now.version threads trace.now.events b) }
 {
-    let machine = LiveMachine::new(alloc, trace.version);
+    let machine = LiveMachine::new(alloc, trace.version)?;
     let events = trace.events.as_slice();
     let (_, entries) = serve(rt, alloc, gate, starts, machine, events, threads)?;
     Ok(Book::new(trace.version, entries))

@@ -19,7 +19,7 @@ use Rattle.kq_model.specs.Spelling.{flags_data, integer, line_text, natural}
 use Rattle.kq_model.specs.Report.{call_count, calls_in, event_count, events_data, events_in, kevent_data, last_line, reply_line, report, row_data, row_lines}
 use Rattle.kq_model.specs.declared.row.Row.{Row}
 use Rattle.kq_text.specs.Adds.{Adds}
-use Rattle.kq_merge.specs.EventsText.{events_text}
+use Rattle.kq_merge.specs.EventsText.{before_flags, events_text}
 
 pub number_text-of_integer : (z : ℤ) → number_text (of_integer z) ≡ signed_decimal z
 number_text-of_integer (pos n) = refl
@@ -43,12 +43,19 @@ escape-filter_name Sendfile = refl
 escape-filter_name Empty = refl
 
 -- the text of an event, piece by piece
-pub kevent_text : (e : Kevent) → compact_text (kevent_data e)
+kevent_text : (e : Kevent) → compact_text (kevent_data e)
     ≡ codes "{\"data\":" ++ (signed_decimal e.datum ++ (codes ",\"fflags\":" ++ (decimal e.fflags
-    ++ (codes ",\"filter\":\"" ++ (filter_name e.filter ++ (codes "\",\"flags\":" ++ (compact_text (flags_data e.flags)
-    ++ (codes ",\"ident\":" ++ (decimal e.ident ++ (codes ",\"udata\":" ++ (decimal e.udata ++ codes "}")))))))))))
+    ++ (before_flags e.filter ++ (compact_text (flags_data e.flags)
+    ++ (codes ",\"ident\":" ++ (decimal e.ident ++ (codes ",\"udata\":" ++ (decimal e.udata ++ codes "}")))))))))
 unfolding kevent_data natural integer escape_byte
 kevent_text e = simp (number_text-of_integer, escape-filter_name, append_assoc)
+
+-- the same behind another event, or as the first
+pub listed_text : (later : Bool) (e : Kevent) → comma_if later ++ compact_text (kevent_data e)
+    ≡ (comma_if later ++ codes "{\"data\":") ++ (signed_decimal e.datum ++ (codes ",\"fflags\":" ++ (decimal e.fflags
+    ++ (before_flags e.filter ++ (compact_text (flags_data e.flags)
+    ++ (codes ",\"ident\":" ++ (decimal e.ident ++ (codes ",\"udata\":" ++ (decimal e.udata ++ codes "}")))))))))
+listed_text later e = ap (λ text. comma_if later ++ text) (kevent_text e) ∙ sym (append_assoc (comma_if later) (codes "{\"data\":") _)
 
 -- a list of events, event by event
 events_text-is : (later : Bool) (es : List Kevent) → items_text later (items_of (map kevent_data es)) ≡ events_text later es

@@ -1,11 +1,11 @@
 -- The law of close: after a record that closes numbers, no kqueue of their process has a READ, WRITE or
 -- VNODE knote of one of them.
-use Rattle.std.proofs.Common.{◌≡◌, ℕ, Bool, true, false, cond, not, List, [], ◌∷◌, map, filter, Option, None, refl, sym, subst}
+use Rattle.std.proofs.Common.{◌≡◌, ℕ, Bool, true, false, cond, not, ◌&&◌, List, [], ◌∷◌, map, filter, Option, None, refl, sym, subst}
 use Rattle.std.proofs.lemmas.List.Elements.{All-nil, All-cons}
 use Rattle.std.specs.Prelude.{All}
 use Rattle.kq_model.specs.Close.{Pair, is_closed, closed, IsNotClosed, has_pair}
 use Rattle.kq_model.specs.Hearing.{Hearing}
-use Rattle.kq_model.specs.Knote.{Knote}
+use Rattle.kq_model.specs.Knote.{Knote, watches_number}
 use Rattle.kq_model.specs.Kqueue.{Kqueue}
 use Rattle.kq_model.specs.Moment.{Moment, happened, after_call, kqueue_step}
 use Rattle.kq_model.specs.Subjects.{HasSubject, HaveSubjects}
@@ -29,6 +29,16 @@ module _ {S : Type 0} (h : Hearing S) (owner : ℕ) (pairs : List Pair) where
   pub closed-gone : (kq : Kqueue h) → HaveSubjects (IsNotClosed owner pairs) (closed owner pairs kq).knotes
   unfolding closed
   closed-gone kq = not_closed kq.knotes
+
+-- where nothing is closed
+and-false : (b : Bool) → (b && false) ≡ false
+and-false true = refl
+and-false false = refl
+
+pub none-closed : {S : Type 0} (h : Hearing S) (owner : ℕ) (ks : List (Knote h)) → HaveSubjects (IsNotClosed owner []) ks
+none-closed h owner [] = All-nil (HasSubject {h = h} (IsNotClosed owner []))
+none-closed h owner (k ∷ ks) =
+    All-cons (HasSubject {h = h} (IsNotClosed owner [])) k ks (and-false (watches_number k.key.filter)) (none-closed h owner ks)
 
 module _ {S : Type 0} (h : Hearing S) (m : Moment) where
   -- the hints and the clock of the record bring none back

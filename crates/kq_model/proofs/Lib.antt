@@ -91,6 +91,8 @@ pub mod NumberLaws
 pub mod KnoteMiddle
 pub mod HeardAlong
 pub mod UntouchedNumbers
+pub mod OpenNumbers
+pub mod WatchedNumbers
 pub mod UntouchedTargets
 pub mod PrivateItems
 pub mod HistoryPushed

@@ -10,10 +10,10 @@ use Rattle.kq_model.specs.World.{World, Plan, with_kqueue, carried_out}
 use Rattle.kq_model.proofs.KnoteLaws.{by_test}
 
 module _ (pid number : ℕ) where
-  abbrev is_it : Descriptor → Bool
+  abbrev pub is_it : Descriptor → Bool
   is_it d = eqb d.pid pid && eqb d.number number
 
-  passed : (d : Descriptor) (es : List Descriptor) → is_it d ≡ false → named_among pid number (d ∷ es) ≡ named_among pid number es
+  pub passed : (d : Descriptor) (es : List Descriptor) → is_it d ≡ false → named_among pid number (d ∷ es) ≡ named_among pid number es
   unfolding named_among
   passed d es other = ap (λ b. cond b (Some d.named) (named_among pid number es)) other
 
@@ -44,7 +44,7 @@ module _ (pid number : ℕ) where
       both_ways (has_pair pid number pairs) stays
       (ap (λ p. has_pair p number pairs) (sym (eqb-true e.pid pid parts.0)) ∙ ap (λ n. has_pair e.pid n pairs) (sym (eqb-true e.number number parts.1)) ∙ shut))
 
-  other-closed : (pairs : List Pair) (es : List Descriptor) → has_pair pid number pairs ≡ false → named_among pid number (without_closed pairs es) ≡ named_among pid number es
+  pub other-closed : (pairs : List Pair) (es : List Descriptor) → has_pair pid number pairs ≡ false → named_among pid number (without_closed pairs es) ≡ named_among pid number es
   other-closed pairs [] stays = refl
   other-closed pairs (e ∷ es) stays =
       by_test (λ b. named_among pid number (cond (not b) (e ∷ without_closed pairs es) (without_closed pairs es)) ≡ named_among pid number (e ∷ es)) (has_pair e.pid e.number pairs)

@@ -69,6 +69,8 @@ pub mod Replayed
 pub mod OwnedRows
 pub mod LiveCalls
 pub mod Projection
+pub mod ClosedNumbers
+pub mod WatchedNumbers
 pub mod TouchedNumbers
 pub mod TouchedTargets
 pub mod Items

@@ -1,46 +1,41 @@
 -- After a record no kqueue has a READ, WRITE or VNODE knote of a number that was closed in its process.
-use Rattle.std.proofs.Common.{◌≡◌, ◌∙◌, ◌⊎◌, inl, inr, ◌&&◌, ◌++◌, ℕ, Bool, true, false, List, [], ◌∷◌, Option, None, Some, refl, sym, ap, subst}
+use Rattle.std.proofs.Common.{◌≡◌, ◌∙◌, ◌⊎◌, inl, inr, ◌+◌, ◌++◌, ℕ, List, [], ◌∷◌, Option, None, Some, refl, sym, ap, subst}
 use Rattle.std.proofs.lemmas.List.Elements.{All-nil, All-cons, All-append}
 use Rattle.std.specs.Prelude.{All}
 use Rattle.kq_model.specs.declared.event.Event.{Event}
 use Rattle.kq_model.specs.declared.event.Event.TheVariants as event
 use Rattle.kq_model.specs.declared.reply.Reply.{Reply}
 use Rattle.kq_model.specs.Close.{Pair, IsNotClosed}
-use Rattle.kq_model.specs.Hearing.{tallying}
-use Rattle.kq_model.specs.Knote.{watches_number}
-use Rattle.kq_model.specs.Moment.{Moment, moment_of}
+use Rattle.kq_model.specs.ClosedNumbers.{AlwaysClosesAll, ClosesAll, HasNoneOf}
+use Rattle.kq_model.specs.Hearing.{Hearing}
+use Rattle.kq_model.specs.Moment.{moment_of}
+use Rattle.kq_model.specs.Objects.{Keeping}
 use Rattle.kq_model.specs.Plans.{plan}
 use Rattle.kq_model.specs.Subjects.{HasSubject}
-use Rattle.kq_model.specs.System.{born, lived, step, step_by}
-use Rattle.kq_model.specs.Tallied.{Knote, Live, System, World}
+use Rattle.kq_model.specs.System as system
+use Rattle.kq_model.specs.System.{Live, born, lived, step, step_by}
+use Rattle.kq_model.specs.Tallied.{System, World}
 use Rattle.kq_model.specs.World.{Plan, Planned, Possible, seen_world}
-use Rattle.kq_model.proofs.CloseLaw.{lived-closed}
-use Rattle.kq_system.specs.SystemState.{ClosesAll, HasNoneOf, IsStep}
+use Rattle.kq_model.proofs.CloseLaw.{lived-closed, none-closed}
+use Rattle.kq_system.specs.SystemState.{IsStep}
 use Rattle.kq_system.proofs.ClockLemmas.{clock-calls}
 use Rattle.kq_system.proofs.PlainPlans.{other-plain}
 use Rattle.kq_system.proofs.StepLemmas.{kevent_plan, kqueue_plan, possible_call, possible_kqueue}
 
--- ---- where nothing is closed
+module _ {S : Type 0} (h : Hearing S) where
+  -- ---- where nothing is closed
 
-false_and : (b : Bool) → (b && false) ≡ false
-false_and true = refl
-false_and false = refl
+  all_open : (ls : List (Live h)) → All (HasNoneOf []) ls
+  all_open [] = All-nil (HasNoneOf {h = h} [])
+  all_open (l ∷ ls) = All-cons (HasNoneOf {h = h} []) l ls (none-closed h l.owner l.kq.knotes) (all_open ls)
 
-none_closed : (owner : ℕ) (ks : List Knote) → All (HasSubject (IsNotClosed owner [])) ks
-none_closed owner [] = All-nil (HasSubject (IsNotClosed owner []))
-none_closed owner (k ∷ ks) =
-    All-cons (HasSubject (IsNotClosed owner [])) k ks (false_and (watches_number k.key.filter)) (none_closed owner ks)
-
-all_open : (ls : List Live) → All (HasNoneOf []) ls
-all_open [] = All-nil (HasNoneOf [])
-all_open (l ∷ ls) = All-cons (HasNoneOf []) l ls (none_closed l.owner l.kq.knotes) (all_open ls)
-
--- a new kqueue has no knotes
-born_none : (pairs : List Pair) (place : ℕ) (b : Option Pair) → All (HasNoneOf pairs) (born place b)
-unfolding born
-born_none pairs place None = All-nil (HasNoneOf pairs)
-born_none pairs place (Some p) =
-    All-cons (HasNoneOf pairs) _ [] (All-nil (HasSubject (IsNotClosed p.pid pairs))) (All-nil (HasNoneOf pairs))
+  -- a new kqueue has no knotes
+  born_none : (pairs : List Pair) (place : ℕ) (b : Option Pair) → All (HasNoneOf pairs) (born {h = h} place b)
+  unfolding born
+  born_none pairs place None = All-nil (HasNoneOf {h = h} pairs)
+  born_none pairs place (Some p) =
+      All-cons (HasNoneOf {h = h} pairs) _ [] (All-nil (HasSubject {h = h} (IsNotClosed p.pid pairs)))
+      (All-nil (HasNoneOf {h = h} pairs))
 
 -- ---- a record calls, or it may close
 
@@ -91,23 +86,29 @@ calls_or_closes place (event.Clock ns) w p is = inl (clock-calls place ns w p is
 
 -- ---- a step
 
-closed_by : (place : ℕ) (p : Plan) (s : System) → (p.call ≡ None) ⊎ (p.closed ≡ [])
-    → All (HasNoneOf p.closed) (step_by place (Possible p) s).system.live
-unfolding step_by moment_of
-closed_by place p s (inl none) =
-    let m = moment_of s.version place p s.world in
-    All-append (HasNoneOf p.closed) (lived m s.live) (born place p.born) (lived-closed tallying m none s.live)
-    (born_none p.closed place p.born)
-closed_by place p s (inr nothing) =
-    subst (λ (ps : List Pair). All (HasNoneOf ps) (step_by place (Possible p) s).system.live) (sym nothing)
-    (all_open (step_by place (Possible p) s).system.live)
+module _ {S A B C D : Type 0} {h : Hearing S} {k : Keeping A B C D} where
+  closed_by : (place : ℕ) (p : Plan) (s : system.System h k) → (p.call ≡ None) ⊎ (p.closed ≡ [])
+      → All (HasNoneOf p.closed) (step_by place (Possible p) s).system.live
+  unfolding step_by moment_of
+  closed_by place p s (inl none) =
+      let m = moment_of s.version place p s.world in
+      All-append (HasNoneOf {h = h} p.closed) (lived m s.live) (born place p.born) (lived-closed h m none s.live)
+      (born_none h p.closed place p.born)
+  closed_by place p s (inr nothing) =
+      subst (λ (ps : List Pair). All (HasNoneOf ps) (step_by place (Possible p) s).system.live) (sym nothing)
+      (all_open h (step_by place (Possible p) s).system.live)
 
-closed_step : (place : ℕ) (e : Event) (s : System) (p : Plan) → plan place e (seen_world s.world) ≡ Possible p
-    → All (HasNoneOf p.closed) (step place e s).system.live
-unfolding step
-closed_step place e s p is =
-    subst (λ (q : Planned). All (HasNoneOf p.closed) (step_by place q s).system.live) (sym is)
-    (closed_by place p s (calls_or_closes place e (seen_world s.world) p is))
+  closed_step : (place : ℕ) (e : Event) (s : system.System h k) → ClosesAll place e s (step place e s).system
+  unfolding step
+  closed_step place e s p is =
+      subst (λ (q : Planned). All (HasNoneOf p.closed) (step_by place q s).system.live) (sym is)
+      (closed_by place p s (calls_or_closes place e (seen_world s.world) p is))
+
+  -- over a whole run
+  pub always_closes : (place : ℕ) (s : system.System h k) (es : List Event) → AlwaysClosesAll place s es
+  unfolding AlwaysClosesAll
+  always_closes place s [] = tt
+  always_closes place s (e ∷ es) = (closed_step place e s, always_closes (place + 1) (step place e s).system es)
 
 pub closes_all : (place : ℕ) (e : Event) (old new : System) (r : Reply) → IsStep place e old new r
     → ClosesAll place e old new

@@ -7,3 +7,4 @@ pub mod PlainPlans
 pub mod StepLemmas
 pub mod ClockLemmas
 pub mod ClosedLemmas
+pub mod WatchedRuns

@@ -23,6 +23,7 @@ use Rattle.kq_model.specs.Processes.{is_live}
 use Rattle.kq_model.specs.System.{born}
 use Rattle.kq_model.specs.Tallied.{Live, System, World}
 use Rattle.kq_model.specs.Targets.{Posted}
+use Rattle.kq_model.specs.WatchedNumbers.{AllWatchTheirNumbers}
 use Rattle.kq_model.specs.World.{Call, Plan, Planned, Impossible, Possible, idle, named_by, views_of}
 use Rattle.kq_model.proofs.SeenWorld.{seen-counted}
 use Rattle.kq_process.specs.declared.effect.Effect.{Effect}
@@ -47,13 +48,15 @@ counted_later place w c = record {
 pub lawful_after : (version applied : ℕ) (w w' : code.World) (es es' : List (ℕ × NumberedKqueue))
     → IsLawful version applied w es → HaveStayed es es'
     → AreAllLive (record { version = version; world = world_of w'; live = map live_of es' })
+    → AllWatchTheirNumbers (record { version = version; world = world_of w'; live = map live_of es' })
     → All HasNoTimer (map live_of es')
     → IsCountedWorld (applied + 1 + 1) (world_of w') → IsLawful version (applied + 1) w' es'
-lawful_after version applied w w' es es' old stayed live timerless counted = record {
+lawful_after version applied w w' es es' old stayed live watched timerless counted = record {
   version_one = old.version_one;
   of_version = stayed.of_version version old.of_version;
   born = stayed.up_to (applied + 1) (up_to_more applied (applied + 1) (keys_of es) (omega arith) old.born);
   all_live = live;
+  watched = watched;
   timerless = timerless;
   counted = counted;
 }
@@ -68,6 +71,9 @@ lawful_same version applied w es es' old stayed same = record {
   born = stayed.up_to applied old.born;
   all_live = subst (λ (ls : List Live). AreAllLive (record { version = version; world = world_of w; live = ls }))
       (sym same) old.all_live;
+  watched = subst (λ (ls : List Live). AllWatchTheirNumbers
+      (record { version = version; world = world_of w; live = ls }))
+      (sym same) old.watched;
   timerless = subst (λ (ls : List Live). All HasNoTimer ls) (sym same) old.timerless;
   counted = old.counted;
 }

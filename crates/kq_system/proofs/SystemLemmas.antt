@@ -5,7 +5,8 @@ use Rattle.kq_model.specs.declared.reply.Reply.{Reply}
 use Rattle.kq_model.specs.declared.reply.Reply.TheVariants as reply
 use Rattle.kq_model.specs.declared.why.Why.{Why}
 use Rattle.kq_model.specs.Close.{Pair}
-use Rattle.kq_model.specs.Descriptors.{Descriptor, with_descriptors}
+use Rattle.kq_model.specs.CountedWorld.{IsCountedWorld}
+use Rattle.kq_model.specs.Descriptors.{Descriptor, IsRising, with_descriptors}
 use Rattle.kq_model.specs.LiveKqueues.{AreAllLive}
 use Rattle.kq_model.specs.Moment.{Moment, moment_of}
 use Rattle.kq_model.specs.Objects.{all_done}
@@ -14,9 +15,11 @@ use Rattle.kq_model.specs.Processes.{with_process, without_process, with_disposi
 use Rattle.kq_model.specs.System.{born, lived, reply_to, step, step_by}
 use Rattle.kq_model.specs.Tallied.{Live, System, World}
 use Rattle.kq_model.specs.Targets.{Posted}
+use Rattle.kq_model.specs.WatchedNumbers.{AllWatchTheirNumbers}
 use Rattle.kq_model.specs.World.{Call, Impossible, Plan, Planned, Possible, carried_out, clock_after, idle, views_of, seen_world, with_kqueue}
 use Rattle.kq_model.proofs.LiveKqueues.{step-live}
 use Rattle.kq_model.proofs.SeenWorld.{seen-counted}
+use Rattle.kq_model.proofs.WatchedNumbers.{step-watched}
 use Rattle.kq_process.specs.declared.effect.Effect.{Effect}
 use Rattle.kq_process.specs.Effects.{IsEffectOf, pairs_in}
 use Rattle.kq_system.specs.SystemState.{IsCalled, IsQuiet, IsStep, call_plan, happened_to_all}
@@ -166,3 +169,10 @@ opened place pid number e p old w live planned is world grown =
 pub stays_live : (place : ℕ) (e : Event) (old new : System) (r : Reply) → IsStep place e old new r → AreAllLive old
     → AreAllLive new
 stays_live place e old new r steps all = subst (λ (s : System). AreAllLive s) (sym steps.0) (step-live place e old all)
+
+-- and READ, WRITE and VNODE knotes watch what their numbers name, where they did before
+pub stays_watched : (place next : ℕ) (e : Event) (old new : System) (r : Reply) → IsStep place e old new r
+    → IsCountedWorld next new.world → AllWatchTheirNumbers old → AllWatchTheirNumbers new
+stays_watched place next e old new r steps counted all =
+    subst (λ (s : System). AllWatchTheirNumbers s) (sym steps.0)
+    (step-watched place e old (subst (λ (s : System). IsRising s.world.table) steps.0 counted.rising) all)

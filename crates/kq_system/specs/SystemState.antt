@@ -9,7 +9,7 @@ use Rattle.kq_model.specs.declared.filter.Filter.{Filter}
 use Rattle.kq_model.specs.declared.object.Target.{Target}
 use Rattle.kq_model.specs.declared.reply.Reply.{Reply}
 use Rattle.kq_model.specs.declared.why.Why.{Why}
-use Rattle.kq_model.specs.Close.{Pair, IsNotClosed, closed, has_pair}
+use Rattle.kq_model.specs.Close.{Pair, closed, has_pair}
 use Rattle.kq_model.specs.CountedWorld.{IsCountedWorld}
 use Rattle.kq_model.specs.Hints.{notified}
 use Rattle.kq_model.specs.Knote.{is_timer}
@@ -21,6 +21,7 @@ use Rattle.kq_model.specs.System as system
 use Rattle.kq_model.specs.Tallied.{Live, System, World}
 use Rattle.kq_model.specs.Targets.{Posted}
 use Rattle.kq_model.specs.Views.{Views}
+use Rattle.kq_model.specs.WatchedNumbers.{AllWatchTheirNumbers}
 use Rattle.kq_model.specs.World.{Call, Plan, Impossible, Possible, idle, seen_world}
 use Rattle.kq_process.specs.declared.world.World as code
 use Rattle.kq_process.specs.World.{world_of}
@@ -70,21 +71,12 @@ IsStep place event old new reply =
 abbrev pub IsImpossible : ℕ → Event → System → Type 0
 IsImpossible place event old = (why : Why) × (plan place event (seen_world old.world) ≡ Impossible why)
 
--- the kqueue has no READ, WRITE or VNODE knote of one of these numbers of its process
-abbrev pub HasNoneOf : List Pair → Live → Type 0
-HasNoneOf pairs l = HaveSubjects (IsNotClosed l.owner pairs) l.kq.knotes
-
 abbrev pub NoTimer : Filter → ℕ → Option Target → Type 0
 NoTimer filter ident target = is_timer filter ≡ false
 
 -- no knote of the kqueue is a TIMER
 abbrev pub HasNoTimer : Live → Type 0
 HasNoTimer l = HaveSubjects NoTimer l.kq.knotes
-
--- after the event no kqueue has such a knote of a number that it closed, also where a duplicate stays open
-abbrev pub ClosesAll : ℕ → Event → System → System → Type 0
-ClosesAll place event old new =
-    (p : Plan) → plan place event (seen_world old.world) ≡ Possible p → All (HasNoneOf p.closed) new.live
 
 -- the plan of a call, and of nothing else
 abbrev pub call_plan : Call → Plan
@@ -152,6 +144,8 @@ pub record IsLawful (version applied : ℕ) (world : code.World) (live : List (�
   pub born : AreUpTo applied (keys_of live)
   -- a number that names a kqueue names a live one, under this number and of this process
   pub all_live : AreAllLive (record { version = version; world = world_of world; live = map live_of live })
+  -- each READ, WRITE or VNODE knote watches what its number names
+  pub watched : AllWatchTheirNumbers (record { version = version; world = world_of world; live = map live_of live })
   pub timerless : All HasNoTimer (map live_of live)
   -- what descriptors name was made by earlier records, and is counted by them
   pub counted : IsCountedWorld (applied + 1) (world_of world)

@@ -1,5 +1,9 @@
 ghost use Rattle.std.specs.Prelude.{◌≡◌, ◌++◌, IfOk, OnOk};
-ghost use Rattle.kq_model.specs.System.{row_of, rows};
+ghost use Rattle.kq_model.specs.ClosedNumbers.{AlwaysClosesAll};
+ghost use Rattle.kq_model.specs.Hearing.{listed};
+ghost use Rattle.kq_model.specs.Objects as objects;
+ghost use Rattle.kq_model.specs.System.{empty_system, row_of, rows};
+ghost use Rattle.kq_model.specs.WatchedNumbers.{AlwaysWatchTheirNumbers};
 
 use crate::System;
 use kq_model::{Memory, Reply, Row, Trace};
@@ -7,9 +11,18 @@ use std::alloc::Global;
 
 impl System {
     /// The rows of a trace: a row for each answer of a kevent call and each impossible record, as
-    /// one fold of the whole system over the trace gives them.
+    /// one fold of the whole system over the trace gives them. In that fold a close leaves no knote
+    /// behind that watches its number, and the others go on to watch what their numbers name.
     pub fn run(alloc: Global, trace: &Trace) -> Result<Vec<Row>, Memory>
-        ensures { IfOk result (λ rs. rs.items ≡ rows trace.now.version trace.now.events) }
+        ensures rows { IfOk result (λ rs. rs.items ≡ rows trace.now.version trace.now.events) }
+
+        // After each record no kqueue has a READ, WRITE or VNODE knote of a number that it closed.
+        ensures closed { AlwaysClosesAll 1
+            (empty_system {h = listed} {k = objects.listed} trace.now.version) trace.now.events }
+
+        // At first and after each record, these knotes watch what their numbers name.
+        ensures watched { AlwaysWatchTheirNumbers 1
+            (empty_system {h = listed} {k = objects.listed} trace.now.version) trace.now.events }
     {
         let mut system = System::new(alloc, trace.version)?;
         let mut rows = Vec::new(alloc);

@@ -10,7 +10,7 @@ use std::alloc::Global;
 use std::marker::Model;
 
 /// The simulated system: a world, and the live kqueues in order of birth. A number of a process that
-/// names a kqueue names a live one.
+/// names a kqueue names a live one, and each READ, WRITE or VNODE knote watches what its number names.
 #[derive(Drop)]
 pub struct System {
     version: u32,
@@ -72,12 +72,14 @@ fn kqueue_named(named: Option<Named>) -> Option<u64>
 
 impl System {
     ghost use Rattle.kq_model.specs.declared.event.Event.TheVariants as event_of;
+    ghost use Rattle.kq_model.specs.ClosedNumbers.{ClosesAll};
     ghost use Rattle.kq_model.specs.DescriptorPlans.{plan_kqueue};
     ghost use Rattle.kq_model.specs.Plans.{plan};
+    ghost use Rattle.kq_model.specs.WatchedNumbers.{AllWatchTheirNumbers};
     ghost use Rattle.kq_model.specs.World.{Plan, Possible};
     ghost use Rattle.kq_process.specs.Effects.{IsPossible};
     ghost use Rattle.kq_process.specs.World.{world_of};
-    ghost use Rattle.kq_system.specs.SystemState.{ClosesAll, IsClock, IsImpossible, IsPlain, IsStep, IsUnchanged, system_of};
+    ghost use Rattle.kq_system.specs.SystemState.{IsClock, IsImpossible, IsPlain, IsStep, IsUnchanged, system_of};
 
     /// Applies one event, and gives the reply to it. A record that is possible changes the world, then
     /// closes, then tells the knotes, which see the world after the whole record.
@@ -91,11 +93,23 @@ impl System {
         // No kqueue keeps a knote of a number that was closed, also where a duplicate stays open.
         ensures closed { OnOk result
             (ClosesAll (self.old.applied + 1) event.now (system_of self.old) (system_of self.new)) }
+
+        // Each READ, WRITE or VNODE knote of each kqueue watches what its number names now.
+        ensures watched { AllWatchTheirNumbers (system_of self.new) }
         ensures applied { IfOk result (λ _. self.new.applied ≡ self.old.applied + 1) }
         ensures memory { OnErr result (IsUnchanged self.old self.new) }
         ensures impossible { IsImpossible (self.old.applied + 1) event.now (system_of self.old) → IsOk result }
     {
-        self.step(event)
+        let reply = self.step(event);
+        self.watch_their_numbers();
+        reply
+    }
+
+    /// What the type keeps of READ, WRITE and VNODE knotes.
+    fn watch_their_numbers(&self)
+        ensures { AllWatchTheirNumbers (system_of self.now) }
+    {
+        let _ = &self.world;
     }
 
     fn step(&mut self, event: &Event) -> Result<Reply, Memory>

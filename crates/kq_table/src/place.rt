@@ -16,6 +16,7 @@ pub(crate) struct Found<T> {
 }
 
 /// The row of a key with its slot.
+#[inline(always)]
 pub(crate) fn slot_of<T: Keyed>(
     slots: &VecDeque<Option<T>>,
     base: usize,

@@ -53,7 +53,8 @@ impl Ticker {
     /// The moment of the first expiration after `from`, where there is one up to 2^63 - 1. `from` may
     /// be any number, also a negative one.
     pub fn first_after(&self, from: i64) -> Option<i64>
-        ensures next { MatchOption result (HasNoTick (is_tick self.now) from) (λ moment. IsNextTick (is_tick self.now) from (unsigned_abs moment)) }
+        ensures next { MatchOption result (HasNoTick (is_tick self.now) from)
+            (λ moment. IsNextTick (is_tick self.now) from (unsigned_abs moment)) }
         ensures not_negative { IfSome result (λ moment. pos 0 ≤ℤ moment) }
     {
         i64::try_from(self.next_after(from)).ok()

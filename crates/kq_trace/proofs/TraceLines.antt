@@ -6,7 +6,11 @@ use Rattle.kq_model.specs.declared.line_fault.LineFault.{LineFault}
 use Rattle.kq_model.specs.declared.line_fault.LineFault.TheVariants.{TooLong, Header, TooManyRecords}
 use Rattle.kq_model.specs.Lines.{lines_of, pieces_of, without_empty_end}
 use Rattle.kq_model.specs.Reading.{Outcome, Good, Bad, behind_header, event_of, header_of, header_version, joined, json_of, read_lines, read_records, reading, record_on, version_on, with_event}
+use Rattle.kq_trace.specs.declared.fault.TraceError.{TraceError}
+use Rattle.kq_trace.specs.declared.fault.TraceError.TheVariants.{Memory as NoMemory, Bad as BadTrace}
+use Rattle.kq_trace.specs.Faults.{IsFault}
 use Rattle.kq_trace.specs.Rest.{lines_behind}
+use Rattle.kq_trace.specs.Unread.{IsFaultAhead}
 
 -- what lines give that follow lines with these events
 abbrev pub behind_events : List Event → Outcome → Outcome
@@ -47,49 +51,59 @@ pub first_bad : (bytes line : List ℕ) (more : List (List ℕ)) (fault : LineFa
 unfolding reading read_lines behind_header
 first_bad bytes line more fault cut is = rw (cut, is) refl
 
+pub opened : (bytes line : List ℕ) (more : List (List ℕ)) (version : ℕ)
+    → lines_of bytes ≡ line ∷ more → version_on line ≡ Ok version → reading bytes ≡ read_records version 2 more
+unfolding reading read_lines behind_header
+opened bytes line more version cut is = rw (cut, is) refl
+
+-- ---- a later line
+
+pub later_bad : (rest line : List ℕ) (more : List (List ℕ)) (version number : ℕ) (fault : LineFault)
+    → lines_behind rest ≡ line ∷ more → record_on number line ≡ Err fault
+    → read_records version number (lines_behind rest) ≡ Bad number fault
+unfolding read_records joined
+later_bad rest line more version number fault cut is =
+    ap (read_records version number) cut ∙ ap (λ m. joined number m (read_records version (number + 1) more)) is
+
+pub later_good : (rest line : List ℕ) (more : List (List ℕ)) (version number : ℕ) (event : Event)
+    → lines_behind rest ≡ line ∷ more → record_on number line ≡ Ok event
+    → read_records version number (lines_behind rest) ≡ with_event event (read_records version (number + 1) more)
+unfolding read_records joined
+later_good rest line more version number event cut is =
+    ap (read_records version number) cut ∙ ap (λ m. joined number m (read_records version (number + 1) more)) is
+
+pub no_line : (rest : List ℕ) (version number : ℕ) → rest ≡ [] → read_records version number (lines_behind rest) ≡ Good version []
+unfolding read_records lines_behind pieces_of without_empty_end
+no_line rest version number none = ap (λ text. read_records version number (lines_behind text)) none
+
+-- ---- one record after the other
+
 behind_none : (rest : Outcome) → rest ≡ behind_events [] rest
 behind_none (Good version events) = refl
 behind_none (Bad line fault) = refl
 
-pub started : (bytes line : List ℕ) (more : List (List ℕ)) (events : List Event) (version : ℕ)
-    → lines_of bytes ≡ line ∷ more → version_on line ≡ Ok version → events ≡ []
-    → reading bytes ≡ behind_events events (read_records version 2 more)
-unfolding reading read_lines behind_header
-started bytes line more events version cut is none = rw (cut, is, none) (behind_none (read_records version 2 more))
+pub none_yet : (all ahead : Outcome) (events : List Event) → all ≡ ahead → events ≡ [] → all ≡ behind_events events ahead
+none_yet all ahead events is none = is ∙ behind_none ahead ∙ ap (λ es. behind_events es ahead) (sym none)
 
--- ---- a later line
-
-pub later_bad : (bytes rest line : List ℕ) (more : List (List ℕ)) (events : List Event) (version number : ℕ) (fault : LineFault)
-    → reading bytes ≡ behind_events events (read_records version number (lines_behind rest))
-    → lines_behind rest ≡ line ∷ more → record_on number line ≡ Err fault → reading bytes ≡ Bad number fault
-unfolding read_records joined
-later_bad bytes rest line more events version number fault so_far cut is =
-    so_far ∙ ap (λ lines. behind_events events (read_records version number lines)) cut
-    ∙ ap (λ m. behind_events events (joined number m (read_records version (number + 1) more))) is
-
-behind_more : (events : List Event) (event : Event) (rest : Outcome)
+pub behind_more : (events : List Event) (event : Event) (rest : Outcome)
     → behind_events events (with_event event rest) ≡ behind_events (events ++ event ∷ []) rest
 unfolding with_event
 behind_more events event (Good version more) = ap (Good version) (sym (append_assoc events (event ∷ []) more))
 behind_more events event (Bad line fault) = refl
 
-pub later_good : (bytes rest line : List ℕ) (more : List (List ℕ)) (events after : List Event) (version number : ℕ) (event : Event)
-    → reading bytes ≡ behind_events events (read_records version number (lines_behind rest))
-    → lines_behind rest ≡ line ∷ more → record_on number line ≡ Ok event → after ≡ events ++ event ∷ []
-    → reading bytes ≡ behind_events after (read_records version (number + 1) more)
-unfolding read_records joined
-later_good bytes rest line more events after version number event so_far cut is added =
-    so_far ∙ ap (λ lines. behind_events events (read_records version number lines)) cut
-    ∙ ap (λ m. behind_events events (joined number m (read_records version (number + 1) more))) is
-    ∙ behind_more events event (read_records version (number + 1) more)
-    ∙ ap (λ es. behind_events es (read_records version (number + 1) more)) (sym added)
+pub one_further : (all ahead rest : Outcome) (events after : List Event) (event : Event)
+    → all ≡ behind_events events ahead → ahead ≡ with_event event rest → after ≡ events ++ event ∷ [] → all ≡ behind_events after rest
+one_further all ahead rest events after event so_far read added =
+    so_far ∙ ap (behind_events events) read ∙ behind_more events event rest ∙ ap (λ es. behind_events es rest) (sym added)
 
-pub ended : (bytes rest : List ℕ) (events : List Event) (version number : ℕ)
-    → reading bytes ≡ behind_events events (read_records version number (lines_behind rest)) → rest ≡ [] → reading bytes ≡ Good version events
-unfolding read_records lines_behind pieces_of without_empty_end
-ended bytes rest events version number so_far none =
-    so_far ∙ ap (λ text. behind_events events (read_records version number (lines_behind text))) none
-    ∙ ap (Good version) (append-nil events)
+pub all_read : (all ahead : Outcome) (events : List Event) (version : ℕ)
+    → all ≡ behind_events events ahead → ahead ≡ Good version [] → all ≡ Good version events
+all_read all ahead events version so_far none = so_far ∙ ap (behind_events events) none ∙ ap (Good version) (append-nil events)
+
+pub faulty : (bytes : List ℕ) (ahead : Outcome) (events : List Event) (error : TraceError)
+    → reading bytes ≡ behind_events events ahead → IsFaultAhead ahead error → IsFault bytes error
+faulty bytes ahead events NoMemory so_far is = tt
+faulty bytes ahead events (BadTrace line fault) so_far is = so_far ∙ ap (behind_events events) is
 
 pub empty_list : (text : List ℕ) → length text ≡ 0 → text ≡ []
 empty_list [] none = refl

@@ -18,7 +18,8 @@ pub record IsFirstBad (first : ℕ) (lines : List (List ℕ)) (line : ℕ) (faul
   pub text : List ℕ
   pub there : slice_get lines place ≡ Some text
   pub faulty : fault_on line text ≡ Some fault
-  pub earlier : (k : ℕ) (before : List ℕ) → k < place → slice_get lines k ≡ Some before → fault_on (first + k) before ≡ None
+  pub earlier : (k : ℕ) (before : List ℕ) → k < place → slice_get lines k ≡ Some before
+      → fault_on (first + k) before ≡ None
 
 abbrev pub IsLeastFault : List ℕ → TraceError → Type 0
 IsLeastFault bytes Memory = Unit {0}

@@ -3,3 +3,4 @@ pub mod Faults
 pub mod Parts
 pub mod Rest
 pub mod Texts
+pub mod Unread

@@ -15,9 +15,11 @@ mod record;
 mod record_line;
 mod shape;
 mod spell;
+mod trace_reader;
 mod values;
 mod write;
 
 pub use fault::TraceError;
 pub use read::{read_trace, read_trace_by_values};
+pub use trace_reader::TraceReader;
 pub use write::write_trace;

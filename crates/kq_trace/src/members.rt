@@ -85,7 +85,9 @@ fn put_member(out: &mut Vec<u8>, name: &str, value: Spelled, is_later: bool) -> 
     requires name { is_word name.now ≡ true }
     requires value { is_spelled_by_words value ≡ true }
     ensures text { OnOk result (Adds out.old.items
-        (comma_if is_later ++ (compact_text (string name.now) ++ 58 ∷ compact_text (value_data (value_of value.entry)))) out.new.items) }
+        (comma_if is_later
+        ++ (compact_text (string name.now) ++ 58 ∷ compact_text (value_data (value_of value.entry))))
+        out.new.items) }
     ensures fits { OnOk result (FitsValue (value_of value.entry)) }
 {
     put(out, if is_later { "," } else { "" })?;

@@ -25,7 +25,8 @@ WritesReport given before after =
 -- a prefix of that report was written
 abbrev pub WritesPart : Option (List ℕ) → Option (List ℕ) → Option (List ℕ) → Type 0
 WritesPart given before after =
-    (bytes : List ℕ) × (done : List ℕ) × (rest : List ℕ) × WereGiven given bytes × IsReport bytes (done ++ rest) × Appends before after done
+    (bytes : List ℕ) × (done : List ℕ) × (rest : List ℕ)
+    × WereGiven given bytes × IsReport bytes (done ++ rest) × Appends before after done
 
 -- after the fault; but for Write nothing was written
 abbrev pub LeavesBy : Fault → ℕ → Option (List ℕ) → Option (List ℕ) → Option (List ℕ) → Type 0

@@ -27,7 +27,8 @@ pub fn run_order<R: AllocGlobal, I: Read, O: Write, E: Write>(
     out: &mut O,
     err: &mut E,
 ) -> u8
-    ensures ends { EndsBy result (workers_of order.now) (I.remaining reader.old) (O.contents out.old) (O.contents out.new) }
+    ensures ends { EndsBy result (workers_of order.now) (I.remaining reader.old)
+        (O.contents out.old) (O.contents out.new) }
     ensures usage { (result ≡ 2) ↔ ¬ IsWorkerCount (workers_of order.now) }
     ensures unread { ¬ IsWorkerCount (workers_of order.now) → Keeps (I.remaining reader.old) (I.remaining reader.new) }
 {
@@ -47,7 +48,8 @@ fn carry_out<R: AllocGlobal, I: Read, O: Write>(
     out: &mut O,
 ) -> Result<(), Fault>
     ensures whole { OnOk result (WritesReport (I.remaining reader.old) (O.contents out.old) (O.contents out.new)) }
-    ensures fault { IfErr result (λ f. LeavesBy f (workers_of order.now) (I.remaining reader.old) (O.contents out.old) (O.contents out.new)) }
+    ensures fault { IfErr result (λ f. LeavesBy f (workers_of order.now) (I.remaining reader.old)
+        (O.contents out.old) (O.contents out.new)) }
     ensures usage { IsErrOf result Fault.Usage ↔ ¬ IsWorkerCount (workers_of order.now) }
     ensures unread { ¬ IsWorkerCount (workers_of order.now) → Keeps (I.remaining reader.old) (I.remaining reader.new) }
 {

@@ -1,6 +1,5 @@
 ghost use Rattle.std.specs.Prelude.{◌++◌, codes, decimal, false, OnOk};
-ghost use Rattle.serde_json.specs.Written.{comma_if, compact_text};
-ghost use Rattle.kq_model.specs.Report.{kevent_data, last_line, reply_line};
+ghost use Rattle.kq_model.specs.Report.{last_line, reply_line};
 ghost use Rattle.kq_text.specs.Adds.{Adds};
 ghost use Rattle.kq_merge.specs.EventsText.{events_text};
 
@@ -63,18 +62,10 @@ fn put_events(out: &mut Vec<u8>, events: &[Kevent]) -> Result<(), Memory>
 {
     let mut is_later = false;
     for event in events {
-        put_item(out, event, is_later)?;
+        put_event(out, event, is_later)?;
         is_later = true;
     }
     put(out, "]")
-}
-
-fn put_item(out: &mut Vec<u8>, event: &Kevent, is_later: bool) -> Result<(), Memory>
-    ensures { OnOk result
-        (Adds out.old.items (comma_if is_later ++ compact_text (kevent_data event.now)) out.new.items) }
-{
-    put(out, if is_later { "," } else { "" })?;
-    put_event(out, event)
 }
 
 /// Adds the line that counts calls, events and records.

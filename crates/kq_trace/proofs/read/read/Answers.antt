@@ -1,46 +1,22 @@
--- The header, and then a line at a time.
-use Rattle.std.proofs.Common.{◌≡◌, ◌<◌, ◌≤◌, length, sym, ap, ◌∙◌, arith, rules, tests}
-use Rattle.kq_model.specs.Reading.{Good}
-use Rattle.kq_trace.proofs.TraceLines.{long_header, wrong_header, right_header, first_bad, started, later_bad, later_good, ended, empty_list}
+-- One event more, and the last.
+use Rattle.std.proofs.Common.{◌≡◌, ◌++◌, ◌∷◌, ◌∙◌, [], arith, rules, ap, length, length-append}
+use Rattle.kq_trace.specs.Unread.{IsReadOff}
+use Rattle.kq_trace.proofs.TraceLines.{one_further}
 use Rattle.kq_trace.proofs.read.read.Goals as goal
 
-pub returns-then-header-gt-MOST_LINE_BYTES-clause-bad : goal.returns-then-header-gt-MOST_LINE_BYTES-clause-bad
-returns-then-header-gt-MOST_LINE_BYTES-clause-bad c =
-    first_bad c.args.bytes.now _ _ _ c.first_line.ensures.first (long_header _ c.if-header-gt-MOST_LINE_BYTES.true)
-
-pub loop-rest-init : goal.loop-rest-init
-loop-rest-init c = record {
-  counted = search rules;
-  in_limit = omega arith;
-  so_far = started c.args.bytes.now _ _ _ _ c.first_line.ensures.first
-      (right_header _ _ c.if-header-gt-MOST_LINE_BYTES.false (sym c.in-Some.is ∙ c.in_ok-version.ensures.named)) c.new-events.ensures.items;
-}
-
-pub returns-in-Err-clause-bad : goal.returns-in-Err-clause-bad
-returns-in-Err-clause-bad c =
-    let some : 0 < length c.loop-rest.rest.now = search (rules, tests) in
-    later_bad c.args.bytes.now c.loop-rest.rest.now _ _ c.loop-rest.events.items _ c.loop-rest.number c.in-Err.fault
-    c.loop-rest.invariant.so_far (c.first_line-in-loop-rest.ensures.later some)
-    (c.in_ok-event.ensures.record ∙ c.in-Err.is)
-
-pub loop-rest-preserved : goal.loop-rest-preserved
-loop-rest-preserved c =
-    let some : 0 < length c.loop-rest.rest.now = search (rules, tests) in
+pub records-preserved : goal.records-preserved
+records-preserved c =
+    let off : IsReadOff c.in-Some.event c.records.reader c.next_event.new.self = rw c.in-Some.is at c.in_ok-event.ensures.next in
+    let added : c.push.new.self.items ≡ c.records.events.items ++ c.in-Some.event ∷ [] = search rules in
     record {
-      counted = search rules;
-      in_limit = let below : c.loop-rest.number ≤ 1000001 = rw c.in-Ok.is at c.in_ok-event.ensures.limit in omega arith;
-      so_far = later_good c.args.bytes.now c.loop-rest.rest.now _ _ c.loop-rest.events.items c.push.new.self.items _ c.loop-rest.number c.in-Ok.event
-          c.loop-rest.invariant.so_far (c.first_line-in-loop-rest.ensures.later some)
-          (c.in_ok-event.ensures.record ∙ c.in-Ok.is) (search rules);
+      counted = omega (arith, off.line, ap length added ∙ length-append c.records.events.items (c.in-Some.event ∷ []), c.records.invariant.counted);
+      in_limit = omega (arith, off.line, off.limit);
+      so_far = one_further _ c.records.reader.meaning c.next_event.new.self.meaning c.records.events.items c.push.new.self.items c.in-Some.event
+          c.records.invariant.so_far off.meaning added;
     }
 
-pub returns-clause-good : goal.returns-clause-good
-returns-clause-good c =
-    let none : length c.loop-rest.rest.now ≡ 0 = search (rules, tests) in
-    ended c.args.bytes.now c.loop-rest.rest.now c.loop-rest.events.items _ c.loop-rest.number c.loop-rest.invariant.so_far (empty_list _ none)
-    ∙ ap (Good c.in-Some.version) (sym c.from_vec.ensures)
-
-pub returns-in_default-clause-bad : goal.returns-in_default-clause-bad
-returns-in_default-clause-bad c =
-    first_bad c.args.bytes.now _ _ _ c.first_line.ensures.first
-    (wrong_header _ c.if-header-gt-MOST_LINE_BYTES.false (sym c.in_default.is ∙ c.in_ok-version.ensures.named))
+pub invariant_of-result : goal.invariant_of-result
+invariant_of-result c = record {
+  version_one = c.version.ensures.known;
+  countable = omega (arith, ap length c.from_vec.ensures, c.records.invariant.counted, c.records.invariant.in_limit);
+}

@@ -6,12 +6,13 @@ use Rattle.kq_model.specs.declared.reply.Reply.TheVariants.{Events}
 use Rattle.kq_model.specs.Call.{ended}
 use Rattle.kq_model.specs.CallLaws.{IsAnswer, kqueue_after_changes}
 use Rattle.kq_model.specs.Kqueue.{IsSound}
+use Rattle.kq_model.specs.Hearing.{tallying}
 use Rattle.kq_model.specs.Tallied.{Called}
+use Rattle.kq_model.specs.WatchedNumbers.{WatchTheirNumbers}
 use Rattle.kq_model.proofs.Tallied.{call-tallied}
+use Rattle.kq_model.proofs.WatchedNumbers.{call-watched}
 use Rattle.kq_kevent.specs.Owned.{OwnedKqueue, caller}
 use Rattle.kq_kevent.proofs.AnswerLaws.{call-answer, changes_then_poll}
-use Rattle.kq_kevent.specs.Named.{HaveNames}
-use Rattle.kq_kevent.proofs.NamedLaws.{call-named}
 use Rattle.kq_kevent.proofs.CallLaws.{same_caller, called, call-fails, call-full, call-entries, call-retrieves, process-from}
 use Rattle.kq_kevent.proofs.kq.Kq.call.Goals as goal
 use Rattle.kq_kevent.proofs.kq.Kq.call.Goals.{then-reads_pending, else-reads_pending}
@@ -157,17 +158,17 @@ returns-after-reads_pending-clause-model g c = λ m same.
 pub returns-in-Ended-Some-clause-named : goal.returns-in-Ended-Some-clause-named
 returns-in-Ended-Some-clause-named g c = λ all.
     let by = caller (g.V.Views.sees c.args.views.now) c.args.self.now in
-    subst (λ (x : Called). HaveNames by.views by.owner x.kq) (sym (returns-in-Ended-Some-clause-called g c))
-    (call-named by c.args.room c.args.changes.now c.args.self.now.kq all)
+    subst (λ (x : Called). WatchTheirNumbers by.views by.owner x.kq) (sym (returns-in-Ended-Some-clause-called g c))
+    (call-watched tallying by c.args.room c.args.changes.now c.args.self.now.kq all)
 
 pub returns-in-Ended-None-clause-named : goal.returns-in-Ended-None-clause-named
 returns-in-Ended-None-clause-named g c = λ all.
     let by = caller (g.V.Views.sees c.args.views.now) c.args.self.now in
-    subst (λ (x : Called). HaveNames by.views by.owner x.kq) (sym (returns-in-Ended-None-clause-called g c))
-    (call-named by c.args.room c.args.changes.now c.args.self.now.kq all)
+    subst (λ (x : Called). WatchTheirNumbers by.views by.owner x.kq) (sym (returns-in-Ended-None-clause-called g c))
+    (call-watched tallying by c.args.room c.args.changes.now c.args.self.now.kq all)
 
 pub returns-after-reads_pending-clause-named : goal.returns-after-reads_pending-clause-named
 returns-after-reads_pending-clause-named g c = λ all.
     let by = caller (g.V.Views.sees c.args.views.now) c.args.self.now in
-    subst (λ (x : Called). HaveNames by.views by.owner x.kq) (sym (returns-after-reads_pending-clause-called g c))
-    (call-named by c.args.room c.args.changes.now c.args.self.now.kq all)
+    subst (λ (x : Called). WatchTheirNumbers by.views by.owner x.kq) (sym (returns-after-reads_pending-clause-called g c))
+    (call-watched tallying by c.args.room c.args.changes.now c.args.self.now.kq all)

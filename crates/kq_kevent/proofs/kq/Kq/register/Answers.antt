@@ -5,11 +5,11 @@ use Rattle.kq_model.specs.NamedTargets.{IsNamed}
 use Rattle.kq_model.specs.Registration.{register}
 use Rattle.kq_model.specs.RegistrationLaws.{IsRegistered}
 use Rattle.kq_model.specs.Tallied.{Kqueue}
+use Rattle.kq_model.specs.WatchedNumbers.{WatchTheirNumbers}
 use Rattle.kq_model.proofs.NamedTargets.{makes-named}
 use Rattle.kq_model.proofs.Subjects.{register-subjects}
 use Rattle.kq_model.proofs.RegistrationLaws.{register-registered}
 use Rattle.kq_model.proofs.Tallied.{register-tallied, register-error-tallied}
-use Rattle.kq_kevent.specs.Named.{HaveNames}
 use Rattle.kq_kevent.specs.Owned.{caller}
 use Rattle.kq_kevent.proofs.kq.Kq.register.Goals as goal
 
@@ -38,5 +38,5 @@ returns-clause-named g c = λ all.
     let by = caller views c.args.self.now in
     let kq = c.args.self.now.kq in
     let change = c.args.change.now in
-    subst (λ (after : Kqueue). HaveNames views c.args.self.now.owner after) (sym c.apply.ensures.kq)
+    subst (λ (after : Kqueue). WatchTheirNumbers views c.args.self.now.owner after) (sym c.apply.ensures.kq)
     (register-subjects tallying (IsNamed views c.args.self.now.owner) by change kq all (makes-named tallying by change kq))

@@ -5,8 +5,8 @@ use Rattle.kq_merge.proofs.report.line.put_events.Goals as goal
 
 pub loop-event-preserved : goal.loop-event-preserved
 loop-event-preserved c =
-    event_taken c.loop-event.is_later c.args.events.now c.loop-event.event-index _ c.loop-event.out.items c.put_item.new.out.items c.loop-event-test.true
-    c.in_ok-put_item.ensures ∙ c.loop-event.invariant
+    event_taken c.loop-event.is_later c.args.events.now c.loop-event.event-index _ c.loop-event.out.items c.put_event.new.out.items c.loop-event-test.true
+    c.in_ok-put_event.ensures ∙ c.loop-event.invariant
 
 pub returns : goal.returns
 returns c = on_ok_weaker c.put.result

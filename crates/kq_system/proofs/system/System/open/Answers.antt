@@ -15,7 +15,7 @@ use Rattle.kq_system.proofs.CallLemmas.{not_born, up_to_more}
 use Rattle.kq_system.proofs.ClockLemmas.{stays_timerless}
 use Rattle.kq_system.proofs.HappenLemmas.{stayed_same}
 use Rattle.kq_system.proofs.StepLemmas.{Opens, kqueue_plan, kqueue_possible, lawful_after, possible_kqueue, refused_step}
-use Rattle.kq_system.proofs.SystemLemmas.{HasDone, done, opened, refused, stays_live}
+use Rattle.kq_system.proofs.SystemLemmas.{HasDone, done, opened, refused, stays_live, stays_watched}
 use Rattle.kq_system.proofs.system.System.open.Goals as goal
 
 pub invariant_of-self-in-Err : goal.invariant_of-self-in-Err
@@ -32,6 +32,8 @@ invariant_of-self-in-Err c =
     (lawful_after old.version old.applied old.world c.apply.new.self old.live.entries old.live.entries
     c.self.invariant (stayed_same old.live.entries)
     (stays_live place e (system_of s) _ (reply.Impossible c.in-Err.why) steps c.self.invariant.all_live)
+    (stays_watched place (place + 1) e (system_of s) _ (reply.Impossible c.in-Err.why) steps c.in_ok-effect.ensures.next
+    c.self.invariant.watched)
     (stays_timerless place e (system_of s) _ (reply.Impossible c.in-Err.why) steps c.self.invariant.timerless)
     c.in_ok-effect.ensures.next)
 
@@ -106,6 +108,8 @@ invariant_of-self-2 c =
           (up_to_more old.applied (old.applied + 1) (keys_of old.live.entries) (omega arith)
           c.self.invariant.born));
       all_live = stays_live place e (system_of s) _ reply.Done steps c.self.invariant.all_live;
+      watched = stays_watched place (place + 1) e (system_of s) _ reply.Done steps c.in_ok-effect.ensures.next
+          c.self.invariant.watched;
       timerless = stays_timerless place e (system_of s) _ reply.Done steps c.self.invariant.timerless;
       counted = c.in_ok-effect.ensures.next;
     }

@@ -1,7 +1,11 @@
 use Rattle.std.proofs.Common.{◌∙◌, ◌+◌, ◌++◌, ap}
-use Rattle.kq_model.specs.System.{rows, rows_after}
+use Rattle.kq_model.specs.Hearing.{listed}
+use Rattle.kq_model.specs.Objects as objects
+use Rattle.kq_model.specs.System.{empty_system, rows, rows_after}
 use Rattle.kq_system.specs.SystemState.{system_of}
+use Rattle.kq_system.proofs.ClosedLemmas.{always_closes}
 use Rattle.kq_system.proofs.RowLemmas.{rows-begin, kept_row, rows-end}
+use Rattle.kq_system.proofs.WatchedRuns.{always_watched_from_none}
 use Rattle.kq_system.proofs.system.System.run.Goals as goal
 
 pub loop-event-init : goal.loop-event-init
@@ -26,8 +30,15 @@ loop-event-preserved c =
       applied,
     )
 
-pub returns : goal.returns
-returns c =
+pub returns-clause-rows : goal.returns-clause-rows
+returns-clause-rows c =
     rows-end c.as_slice-event-items.result.now c.loop-event.event-index (c.loop-event.event-index + 1)
     (system_of c.loop-event.system) c.loop-event.rows.items c.loop-event-test.false
     ∙ c.loop-event.invariant.0 ∙ ap (rows c.args.trace.now.version) c.as_slice-event-items.ensures
+
+pub returns-clause-closed : goal.returns-clause-closed
+returns-clause-closed c =
+    always_closes 1 (empty_system {h = listed} {k = objects.listed} c.args.trace.now.version) c.args.trace.now.events
+
+pub returns-clause-watched : goal.returns-clause-watched
+returns-clause-watched c = always_watched_from_none c.args.trace.now.version c.args.trace.now.events

@@ -6,7 +6,7 @@ use Rattle.kq_system.specs.SystemState.{IsStep, SystemState, state_of, system_of
 use Rattle.kq_system.proofs.ClockLemmas.{stays_timerless, ticked_step}
 use Rattle.kq_system.proofs.HappenLemmas.{stayed_same}
 use Rattle.kq_system.proofs.StepLemmas.{lawful_after, refused_step}
-use Rattle.kq_system.proofs.SystemLemmas.{refused, stays_live}
+use Rattle.kq_system.proofs.SystemLemmas.{refused, stays_live, stays_watched}
 use Rattle.kq_system.proofs.system.System.tick.Goals as goal
 
 pub invariant_of-self-in-Err : goal.invariant_of-self-in-Err
@@ -21,6 +21,8 @@ invariant_of-self-in-Err c =
     lawful_after old.version old.applied old.world c.apply.new.self old.live.entries old.live.entries c.self.invariant
     (stayed_same old.live.entries)
     (stays_live place e (system_of s) _ (reply.Impossible c.in-Err.why) steps c.self.invariant.all_live)
+    (stays_watched place (place + 1) e (system_of s) _ (reply.Impossible c.in-Err.why) steps c.in_ok-effect.ensures.next
+    c.self.invariant.watched)
     (stays_timerless place e (system_of s) _ (reply.Impossible c.in-Err.why) steps c.self.invariant.timerless)
     c.in_ok-effect.ensures.next
 
@@ -49,6 +51,8 @@ invariant_of-self-2 c =
     lawful_after old.version old.applied old.world c.apply.new.self old.live.entries old.live.entries c.self.invariant
     (stayed_same old.live.entries)
     (stays_live place e (system_of s) _ reply.Done steps c.self.invariant.all_live)
+    (stays_watched place (place + 1) e (system_of s) _ reply.Done steps c.in_ok-effect.ensures.next
+    c.self.invariant.watched)
     (stays_timerless place e (system_of s) _ reply.Done steps c.self.invariant.timerless)
     c.in_ok-effect.ensures.next
 

@@ -1,6 +1,6 @@
 -- A line that is too long, or too late.
 use Rattle.kq_trace.proofs.TraceLines.{long_line, late_line, plain_line}
-use Rattle.kq_trace.proofs.read.event_on_line.Goals as goal
+use Rattle.kq_trace.proofs.trace_reader.event_on_line.Goals as goal
 
 pub returns-then-line-gt-MOST_LINE_BYTES-clause-record : goal.returns-then-line-gt-MOST_LINE_BYTES-clause-record
 returns-then-line-gt-MOST_LINE_BYTES-clause-record c = long_line c.args.number c.args.line.now c.if-line-gt-MOST_LINE_BYTES.true

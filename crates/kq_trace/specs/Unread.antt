@@ -1,0 +1,32 @@
+-- What a reader of a trace has before it, and what reading one record more leaves of that.
+use Rattle.std.specs.Prelude.{◌≡◌, ℕ, ◌+◌, ◌≤◌, [], Option, Some, None}
+use Rattle.kq_model.specs.declared.event.Event.{Event}
+use Rattle.kq_model.specs.Limits.{most_records}
+use Rattle.kq_model.specs.Reading.{Outcome, Good, Bad, with_event}
+use Rattle.kq_trace.specs.declared.fault.TraceError.{TraceError}
+use Rattle.kq_trace.specs.declared.fault.TraceError.TheVariants.{Memory, Bad as BadTrace}
+
+pub record Unread : Type 0 where
+  -- the version that the header names
+  pub version : ℕ
+  -- the number of the next line
+  pub line : ℕ
+  -- what the lines from there on mean
+  pub meaning : Outcome
+
+-- a record was read off the next line
+pub record IsReadOff (event : Event) (old new : Unread) : Type 0 where
+  pub meaning : old.meaning ≡ with_event event new.meaning
+  pub line : new.line ≡ old.line + 1
+  -- there are no more records than a trace may have
+  pub limit : old.line ≤ 1 + most_records
+
+-- the record that was read, or that no line is left
+abbrev pub IsNext : Unread → Option Event → Unread → Type 0
+IsNext old (Some event) new = IsReadOff event old new
+IsNext old None new = old.meaning ≡ Good old.version []
+
+-- This is the first bad line of those ahead. That memory is short says nothing of them.
+abbrev pub IsFaultAhead : Outcome → TraceError → Type 0
+IsFaultAhead meaning Memory = Unit {0}
+IsFaultAhead meaning (BadTrace line fault) = meaning ≡ Bad line fault

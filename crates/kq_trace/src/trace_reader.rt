@@ -1,0 +1,176 @@
+//! The records of a trace, one after the other, for who keeps none of them.
+
+ghost use Rattle.std.specs.Prelude.{◌≡◌, ◌≤◌, IfErr, IfOk, IfSome, Ok, OnErr, OnOk};
+ghost use Rattle.kq_model.specs.Reading.{event_of, json_of, reading, record_on};
+ghost use Rattle.kq_trace.specs.Faults.{IsFault};
+ghost use Rattle.kq_trace.specs.Unread.{IsFaultAhead, IsNext};
+
+use crate::TraceError;
+use crate::header::version_on_line;
+use crate::line::first_line;
+use crate::record::event_of;
+use crate::values::line_value;
+use kq_line::LineReader;
+use kq_model::limits::{MOST_LINE_BYTES, MOST_RECORDS};
+use kq_model::{Event, LineFault, Memory};
+use std::alloc::Global;
+use std::marker::Model;
+
+/// What reads a line behind the header.
+#[derive(Drop, Clone, Copy)]
+pub(crate) enum Readers {
+    /// The typed pass, and what that does not know a JSON value.
+    TypedFirst,
+    /// A JSON value alone.
+    ValuesAlone,
+}
+
+/// The record on a line, where the typed pass is asked and knows it.
+#[inline(always)]
+fn typed_event<'a>(readers: Readers, reader: &mut LineReader<'a>, line: &'a [u8]) -> Option<Event>
+    ensures { IfSome result (λ event. event_of (json_of line.now) ≡ Ok event) }
+{
+    match readers {
+        Readers::TypedFirst => reader.event_on(line),
+        Readers::ValuesAlone => None,
+    }
+}
+
+/// The record on a line that is not the first, or the fault of that line. What the typed pass does not
+/// know is read as a JSON value, which alone finds faults.
+#[tactic(auto, unfolding(kq_model::specs::Reading::record_on, kq_model::specs::Reading::event_of))]
+fn event_on_line<'a>(
+    alloc: Global,
+    number: u64,
+    line: &'a [u8],
+    readers: Readers,
+    reader: &mut LineReader<'a>,
+) -> Result<Result<Event, LineFault>, Memory>
+    ensures record { IfOk result (λ event. record_on number line.now ≡ event) }
+    ensures limit { IfOk result (λ event. OnOk event (number ≤ 1000001)) }
+{
+    if line.len() > MOST_LINE_BYTES {
+        return Ok(Err(LineFault::TooLong));
+    }
+    if number > MOST_RECORDS + 1 {
+        return Ok(Err(LineFault::TooManyRecords));
+    }
+    if let Some(event) = typed_event(readers, reader, line) {
+        return Ok(Ok(event));
+    }
+    match line_value(alloc, line)? {
+        Some(value) => event_of(alloc, &value),
+        None => Ok(Err(LineFault::Json)),
+    }
+}
+
+/// Reads the records of a text, each when it is asked for. A trace of which a later line is bad gives
+/// its earlier records first.
+#[derive(Drop)]
+pub struct TraceReader<'a> {
+    alloc: Global,
+    readers: Readers,
+    line_reader: LineReader<'a>,
+    version: u32,
+    /// The number of the next line.
+    number: u64,
+    /// The text behind the lines that were read.
+    rest: &'a [u8],
+}
+
+impl<'a> Model for TraceReader<'a> {
+    ghost use Rattle.std.specs.Prelude.{◌≡◌, ◌≤◌};
+    ghost use Rattle.kq_model.specs.Reading.{read_records};
+    ghost use Rattle.kq_trace.specs.Rest.{lines_behind};
+    ghost use Rattle.kq_trace.specs.Unread.{Unread};
+
+    ghost Value = { Unread };
+
+    ghost view = { λ r. record {
+      version = r.version;
+      line = r.number;
+      meaning = read_records r.version r.number (lines_behind r.rest.now);
+    } };
+
+    ghost invariant = { λ r. (r.version ≡ 1) × (r.number ≤ 1000002) };
+}
+
+impl<'a> TraceReader<'a> {
+    /// Reads the header of a text. An error is that of line 1, or `Memory`.
+    pub fn new(alloc: Global, bytes: &'a [u8]) -> Result<Self, TraceError>
+        ensures meaning { IfOk result (λ reader. reading bytes.now ≡ reader.meaning) }
+        ensures line { IfOk result (λ reader. reader.line ≡ 2) }
+        ensures bad { IfErr result (IsFault bytes.now) }
+    {
+        TraceReader::by(alloc, bytes, Readers::TypedFirst)
+    }
+
+    /// The same, with these readers of a line.
+    pub(crate) fn by(alloc: Global, bytes: &'a [u8], readers: Readers) -> Result<Self, TraceError>
+        ensures meaning { IfOk result (λ reader. reading bytes.now ≡ reader.meaning) }
+        ensures line { IfOk result (λ reader. reader.line ≡ 2) }
+        ensures bad { IfErr result (IsFault bytes.now) }
+    {
+        let (header, rest) = first_line(bytes);
+        if header.len() > MOST_LINE_BYTES {
+            return Err(TraceError::Bad {
+                line: 1,
+                fault: LineFault::TooLong,
+            });
+        }
+        let Some(version) = version_on_line(alloc, header)? else {
+            return Err(TraceError::Bad {
+                line: 1,
+                fault: LineFault::Header,
+            });
+        };
+        Ok(TraceReader {
+            alloc,
+            readers,
+            line_reader: LineReader::new(alloc),
+            version,
+            number: 2,
+            rest,
+        })
+    }
+
+    /// The version that the header names.
+    pub fn version(&self) -> u32
+        ensures version { result ≡ self.now.version }
+        ensures known { result ≡ 1 }
+    {
+        self.version
+    }
+
+    /// The record on the next line, or `None` behind the last line. On `Bad` that line is the first of
+    /// those ahead that has a fault; after an error nothing was read.
+    pub fn next_event(&mut self) -> Result<Option<Event>, TraceError>
+        ensures next { IfOk result (λ event. IsNext self.old event self.new) }
+        ensures version { self.new.version ≡ self.old.version }
+        ensures bad { IfErr result (IsFaultAhead self.old.meaning) }
+        ensures err { OnErr result (self.new ≡ self.old) }
+    {
+        if self.rest.is_empty() {
+            return Ok(None);
+        }
+        let (line, rest) = first_line(self.rest);
+        let number = self.number;
+        match event_on_line(
+            self.alloc,
+            number,
+            line,
+            self.readers,
+            &mut self.line_reader,
+        )? {
+            Ok(event) => {
+                self.number = number + 1;
+                self.rest = rest;
+                Ok(Some(event))
+            }
+            Err(fault) => Err(TraceError::Bad {
+                line: number,
+                fault,
+            }),
+        }
+    }
+}
