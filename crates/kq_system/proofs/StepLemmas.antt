@@ -74,6 +74,7 @@ lawful_unchanged version applied w w' es es' old same entries =
       watched =
           subst (λ (v : World). AllWatchTheirNumbers (record { version = version; world = v; live = map live_of es }))
           (sym same) old.watched;
+      timerless = old.timerless;
       counted = subst (λ (v : World). IsCountedWorld (applied + 1) v) (sym same) old.counted;
     })
 
