@@ -1,6 +1,7 @@
 ghost use Rattle.std.specs.Prelude.{◌≡◌, ℕ, false};
 ghost use Rattle.kq_model.specs.Caller.{Caller};
 ghost use Rattle.kq_model.specs.Knote.{watches_number, is_timer};
+ghost use Rattle.kq_model.specs.Look.{is_simulated};
 ghost use Rattle.kq_model.specs.Refusals.{is_malformed, is_unopened, invalid_if, is_readable, is_writable, is_file, is_live_process, process_refusal, own_refusal};
 
 use crate::named::{named_in, process_in};
@@ -9,13 +10,24 @@ use kq_filters::Views;
 use kq_model::notes::NOTE_TRACK;
 use kq_model::{Change, Errno, EvFlags, Filter, Named, View};
 
+/// Whether a filter is simulated.
+#[tactic(auto, unfolding(kq_model::specs::Look::is_simulated))]
+fn is_simulated(filter: Filter) -> bool
+    ensures { result ≡ is_simulated filter }
+{
+    match filter {
+        Filter::Read | Filter::Write | Filter::Vnode => true,
+        Filter::Proc | Filter::Signal | Filter::User => true,
+        _ => false,
+    }
+}
+
 /// Whether a change is refused whatever is there: its filter is not simulated, or it asks for
 /// ENABLE together with DISABLE.
-#[tactic(auto, unfolding(kq_model::specs::Look::is_simulated))]
 pub fn is_malformed(change: &Change) -> bool
     ensures { result ≡ is_malformed change.now }
 {
-    if !matches!(change.filter, Filter::Read | Filter::Write | Filter::User) {
+    if !is_simulated(change.filter) {
         return true;
     }
     asks(change.flags, EvFlags::ENABLE) && asks(change.flags, EvFlags::DISABLE)

@@ -5,6 +5,7 @@ pub mod RowLemmas
 pub mod HappenLemmas
 pub mod PlainPlans
 pub mod StepLemmas
+pub mod ClockLemmas
 pub mod ClosedLemmas
 pub mod ShowLemmas
 pub mod ConcernedLemmas

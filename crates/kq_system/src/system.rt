@@ -78,7 +78,7 @@ impl System {
     ghost use Rattle.kq_model.specs.World.{Plan, Possible};
     ghost use Rattle.kq_process.specs.Effects.{IsPossible};
     ghost use Rattle.kq_process.specs.World.{world_of};
-    ghost use Rattle.kq_system.specs.SystemState.{IsImpossible, IsPlain, IsStep, IsUnchanged, system_of};
+    ghost use Rattle.kq_system.specs.SystemState.{IsClock, IsImpossible, IsPlain, IsStep, IsUnchanged, system_of};
 
     /// Applies one event, and gives the reply to it. A record that is possible changes the world, then
     /// closes, then tells the knotes, which see the world after the whole record.
@@ -127,11 +127,31 @@ impl System {
                 changes,
                 room,
             } => self.call(*pid, *fd, changes.as_slice(), *room),
+            Event::Clock { .. } => self.tick(event),
             _ => self.happen(event),
         }
     }
 
-    /// A record that opens no kqueue and calls none.
+    /// The clock goes on. No kqueue has a timer, so none hears of it.
+    fn tick(&mut self, event: &Event) -> Result<Reply, Memory>
+        requires applied { self.old.applied < 2 ^ 31 - 1 }
+        requires clock { IsClock event.now }
+        ensures reply { IfOk result
+            (IsStep (self.old.applied + 1) event.now (system_of self.old) (system_of self.new)) }
+        ensures applied { IfOk result (λ _. self.new.applied ≡ self.old.applied + 1) }
+        ensures memory { OnErr result (IsUnchanged self.old self.new) }
+        ensures possible { OnErr result (IsPossible (plan (self.old.applied + 1) event.now (world_of self.old.world))) }
+    {
+        let place = self.applied + 1;
+        let effect = self.world.apply(place, event)?;
+        self.applied = place;
+        if let Err(why) = effect.verdict {
+            return Ok(Reply::Impossible(why));
+        }
+        Ok(Reply::Done)
+    }
+
+    /// A record that opens no kqueue, calls none and does not move the clock.
     fn happen(&mut self, event: &Event) -> Result<Reply, Memory>
         requires applied { self.old.applied < 2 ^ 31 - 1 }
         requires plain { IsPlain event.now }

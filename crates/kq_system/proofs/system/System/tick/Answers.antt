@@ -1,0 +1,76 @@
+use Rattle.std.proofs.Common.{◌≡◌, ◌+◌, ℕ, IsOk, refl, sym, subst}
+use Rattle.kq_model.specs.declared.reply.Reply.TheVariants as reply
+use Rattle.kq_model.specs.Plans.{plan}
+use Rattle.kq_process.specs.World.{world_of}
+use Rattle.kq_system.specs.SystemState.{IsStep, SystemState, state_of, system_of}
+use Rattle.kq_system.proofs.ClockLemmas.{stays_timerless, ticked_step}
+use Rattle.kq_system.proofs.HappenLemmas.{stayed_same}
+use Rattle.kq_system.proofs.StepLemmas.{lawful_after, lawful_unchanged, refused_step}
+use Rattle.kq_system.proofs.SystemLemmas.{refused, stays_live, stays_watched}
+use Rattle.kq_system.proofs.system.System.tick.Goals as goal
+
+pub invariant_of-self : goal.invariant_of-self
+invariant_of-self c =
+    let old = c.self.inside in
+    lawful_unchanged old.version old.applied old.world c.apply.new.self old.live.entries old.live.entries
+    c.self.invariant c.in_err-effect.ensures.memory refl
+
+pub invariant_of-self-in-Err : goal.invariant_of-self-in-Err
+invariant_of-self-in-Err c =
+    let old = c.self.inside in
+    let s : SystemState = state_of old.version old.world old.live.entries old.applied in
+    let place = old.applied + 1 in
+    let e = c.args.event.now in
+    let steps = refused_step place e (system_of s) (world_of c.apply.new.self) c.in-Err.why
+    (refused (plan place e (world_of old.world)) c.in_ok-effect.effect c.in-Err.why c.in_ok-effect.ensures.effect
+    c.in-Err.is) c.in_ok-effect.ensures.world in
+    lawful_after old.version old.applied old.world c.apply.new.self old.live.entries old.live.entries c.self.invariant
+    (stayed_same old.live.entries)
+    (stays_live place e (system_of s) _ (reply.Impossible c.in-Err.why) steps c.self.invariant.all_live)
+    (stays_watched place (place + 1) e (system_of s) _ (reply.Impossible c.in-Err.why) steps c.in_ok-effect.ensures.next
+    c.self.invariant.watched)
+    (stays_timerless place e (system_of s) _ (reply.Impossible c.in-Err.why) steps c.self.invariant.timerless)
+    c.in_ok-effect.ensures.next
+
+pub returns-in-Err-clause-reply : goal.returns-in-Err-clause-reply
+returns-in-Err-clause-reply c =
+    let old = c.self.inside in
+    let s : SystemState = state_of old.version old.world old.live.entries old.applied in
+    let place = old.applied + 1 in
+    let e = c.args.event.now in
+    subst (λ (now : SystemState). IsStep (now.applied + 1) e (system_of now)
+    (record (system_of s) { world = world_of c.apply.new.self }) (reply.Impossible c.in-Err.why)) c.self.view_is
+    (refused_step place e (system_of s) (world_of c.apply.new.self) c.in-Err.why
+    (refused (plan place e (world_of old.world)) c.in_ok-effect.effect c.in-Err.why c.in_ok-effect.ensures.effect
+    c.in-Err.is) c.in_ok-effect.ensures.world)
+
+pub invariant_of-self-2 : goal.invariant_of-self-2
+invariant_of-self-2 c =
+    let old = c.self.inside in
+    let s : SystemState = state_of old.version old.world old.live.entries old.applied in
+    let place = old.applied + 1 in
+    let e = c.args.event.now in
+    let effect = c.in_ok-effect.effect in
+    let ok : IsOk effect.verdict = subst IsOk (sym c.in_default.is) refl in
+    let steps = ticked_step place e (system_of s) effect (world_of c.apply.new.self) c.requires.clock
+    c.in_ok-effect.ensures.effect ok c.in_ok-effect.ensures.world c.self.invariant.timerless in
+    lawful_after old.version old.applied old.world c.apply.new.self old.live.entries old.live.entries c.self.invariant
+    (stayed_same old.live.entries)
+    (stays_live place e (system_of s) _ reply.Done steps c.self.invariant.all_live)
+    (stays_watched place (place + 1) e (system_of s) _ reply.Done steps c.in_ok-effect.ensures.next
+    c.self.invariant.watched)
+    (stays_timerless place e (system_of s) _ reply.Done steps c.self.invariant.timerless)
+    c.in_ok-effect.ensures.next
+
+pub returns-clause-reply : goal.returns-clause-reply
+returns-clause-reply c =
+    let old = c.self.inside in
+    let s : SystemState = state_of old.version old.world old.live.entries old.applied in
+    let place = old.applied + 1 in
+    let e = c.args.event.now in
+    let effect = c.in_ok-effect.effect in
+    let ok : IsOk effect.verdict = subst IsOk (sym c.in_default.is) refl in
+    subst (λ (now : SystemState). IsStep (now.applied + 1) e (system_of now)
+    (record (system_of s) { world = world_of c.apply.new.self }) reply.Done) c.self.view_is
+    (ticked_step place e (system_of s) effect (world_of c.apply.new.self) c.requires.clock
+    c.in_ok-effect.ensures.effect ok c.in_ok-effect.ensures.world c.self.invariant.timerless)
