@@ -3,3 +3,4 @@ pub mod Owned
 pub mod Decided
 pub mod Named
 pub mod Telling
+pub mod Ringing

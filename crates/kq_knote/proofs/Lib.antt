@@ -3,3 +3,5 @@ pub mod CountLaws
 pub mod IndexLaws
 pub mod TargetLaws
 pub mod WalkLaws
+pub mod TimerLaws
+pub mod QuietLaws

@@ -4,3 +4,4 @@ mod program;
 mod streams;
 mod system;
 mod text;
+mod timers;
