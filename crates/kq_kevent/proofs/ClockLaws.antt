@@ -55,6 +55,34 @@ filter-changed p f (x ∷ xs) all =
     (λ _ e. ap (λ b. cond b (f x ∷ filter p (map f xs)) (filter p (map f xs))) (all.0.0 ∙ e) ∙ ap₂ (λ y rest. y ∷ rest) (all.0.1 e) (filter-changed p f xs all.1))
     (λ _ e. ap (λ b. cond b (f x ∷ filter p (map f xs)) (filter p (map f xs))) (all.0.0 ∙ e) ∙ filter-changed p f xs all.1) refl
 
+filter-alike : {X : Type 0} (p q : X → Bool) → ((x : X) → p x ≡ q x) → (xs : List X) → filter p xs ≡ filter q xs
+filter-alike p q same xs = λ i. filter (λ x. same x i) xs
+
+-- ---- tests
+
+and_true : (b : Bool) → (b && true) ≡ b
+and_true true = refl
+and_true false = refl
+
+and_false : (b : Bool) → (b && false) ≡ false
+and_false true = refl
+and_false false = refl
+
+-- not after a moment is before the one behind it
+leb-suc : (n m : ℕ) → leb n m ≡ ltb n (suc m)
+leb-suc n m = by_place (cases_lt m n)
+  where
+    by_place : (m < n) ⊎ (n ≤ m) → leb n m ≡ ltb n (suc m)
+    by_place (inl h) = lt-leb n m h ∙ sym (le-ltb n (suc m) (omega (arith, h)))
+    by_place (inr h) = le-leb n m h ∙ sym (lt-ltb n (suc m) (omega (arith, h)))
+
+leb-more : (n m : ℕ) → leb n m ≡ ltb n (m + 1)
+leb-more n m = by_place (cases_lt m n)
+  where
+    by_place : (m < n) ⊎ (n ≤ m) → leb n m ≡ ltb n (m + 1)
+    by_place (inl h) = lt-leb n m h ∙ sym (le-ltb n (m + 1) (omega (arith, h)))
+    by_place (inr h) = le-leb n m h ∙ sym (lt-ltb n (m + 1) (omega (arith, h)))
+
 -- ---- those that ring before a moment
 
 module _ (from to : ℕ) where
@@ -85,18 +113,19 @@ module _ (from to : ℕ) where
 
   -- ---- the moment of the next one
 
+  not_yet : (moment : ℕ) (k : Knote) → from ≤ last_moment → (first_of from k ≤ from) ⊎ (moment ≤ first_of from k) → is_before moment k ≡ false
+  not_yet moment k begun (inl past) = absurd (omega (arith, past, first-later from k begun))
+  not_yet moment k begun (inr over) = le-ltb (first_of from k) moment over
+
+  none-before : (moment : ℕ) (ks : List Knote) → from ≤ last_moment → AreOutside from from moment ks → filter (is_before moment) ks ≡ []
+  none-before moment [] begun outside = refl
+  none-before moment (k ∷ ks) begun outside =
+      ap (λ b. cond b (k ∷ filter (is_before moment) ks) (filter (is_before moment) ks)) (not_yet moment k begun outside.0) ∙ none-before moment ks begun outside.1
+
   -- none rings before the first moment
   pub ringing-none : (moment : ℕ) (ks : List Knote) → from ≤ last_moment → AreOutside from from moment ks → ringing_before moment ks ≡ []
   unfolding in_order
-  ringing-none moment ks begun outside = ap (in_order (first_of from)) (nothing ks outside)
-    where
-      nothing : (ks : List Knote) → AreOutside from from moment ks → filter (is_before moment) ks ≡ []
-      nothing [] none = refl
-      nothing (k ∷ ks) none = ap (λ b. cond b (k ∷ filter (is_before moment) ks) (filter (is_before moment) ks)) (late none.0) ∙ nothing ks none.1
-        where
-          late : (first_of from k ≤ from) ⊎ (moment ≤ first_of from k) → is_before moment k ≡ false
-          late (inl past) = absurd (omega (arith, past, first-later from k begun))
-          late (inr over) = le-ltb (first_of from k) moment over
+  ringing-none moment ks begun outside = ap (in_order (first_of from)) (none-before moment ks begun outside)
 
   -- with none between, the same ring before the next moment and up to this one
   before-next : (moment next : ℕ) (ks : List Knote) → moment < next → AreOutside from moment next ks → filter (is_before next) ks ≡ filter (λ k. leb (first_of from k) moment) ks
@@ -113,26 +142,13 @@ module _ (from to : ℕ) where
       → in_order (first_of from) (filter (λ k. leb (first_of from k) moment) ks) ≡ ringing_before moment ks ++ firsts_at from moment ks
   up_to zero ks later = absurd (omega (arith, later))
   up_to (suc last) ks later =
-      ap (in_order (first_of from)) (filter-agree (λ k. leb (first_of from k) (suc last)) (λ k. leb (first_of from k) (suc last) && true) ks (each (λ k. sym (and_true (leb (first_of from k) (suc last)))) ks))
+      ap (in_order (first_of from))
+      (filter-alike (λ k. leb (first_of from k) (suc last)) (λ k. leb (first_of from k) (suc last) && true) (λ k. sym (and_true (leb (first_of from k) (suc last)))) ks)
       ∙ sym (sorted_step (first_of from) (λ _. true) last ks)
-      ∙ ap₂ (λ a b. a ++ b)
-      (ap (in_order (first_of from)) (filter-agree (λ k. leb (first_of from k) last && true) (is_before (suc last)) ks (each (λ k. and_true (leb (first_of from k) last) ∙ below (first_of from k)) ks)))
-      (filter-agree (λ k. eqb (first_of from k) (suc last) && true) (λ k. eqb (first_of from k) (suc last)) ks (each (λ k. and_true (eqb (first_of from k) (suc last))) ks))
-    where
-      and_true : (b : Bool) → (b && true) ≡ b
-      and_true true = refl
-      and_true false = refl
-
-      below : (n : ℕ) → leb n last ≡ ltb n (suc last)
-      below n = by_place (cases_lt last n)
-        where
-          by_place : (last < n) ⊎ (n ≤ last) → leb n last ≡ ltb n (suc last)
-          by_place (inl h) = lt-leb n last h ∙ sym (le-ltb n (suc last) (omega (arith, h)))
-          by_place (inr h) = le-leb n last h ∙ sym (lt-ltb n (suc last) (omega (arith, h)))
-
-      each : {P : Knote → Type 0} → ((k : Knote) → P k) → (ks : List Knote) → AllByRecursion P ks
-      each holds [] = tt
-      each holds (k ∷ ks) = (holds k, each holds ks)
+      ∙ ap₂ (λ (a : List Knote) (b : List Knote). a ++ b)
+      (ap (in_order (first_of from))
+      (filter-alike (λ k. leb (first_of from k) last && true) (is_before (suc last)) (λ k. and_true (leb (first_of from k) last) ∙ leb-suc (first_of from k) last) ks))
+      (filter-alike (λ k. eqb (first_of from k) (suc last) && true) (λ k. eqb (first_of from k) (suc last)) (λ k. and_true (eqb (first_of from k) (suc last))) ks)
 
   -- ---- after some rang
 
@@ -173,17 +189,8 @@ module _ (from to : ℕ) where
         → AreOutside from moment next after.knotes → AreOutside from moment next kq.knotes
     outside-up_to moment next after is outside =
         outside-after (moment + 1) moment next
-        (subst (λ (q : Kqueue). AreOutside from moment next q.knotes) (is ∙ ap (λ ks. rung_each from to (in_order (first_of from) ks) kq) (same kq.knotes)) outside)
-      where
-        at_once : (n : ℕ) → leb n moment ≡ ltb n (moment + 1)
-        at_once n = by_place (cases_lt moment n)
-          where
-            by_place : (moment < n) ⊎ (n ≤ moment) → leb n moment ≡ ltb n (moment + 1)
-            by_place (inl h) = lt-leb n moment h ∙ sym (le-ltb n (moment + 1) (omega (arith, h)))
-            by_place (inr h) = le-leb n moment h ∙ sym (lt-ltb n (moment + 1) (omega (arith, h)))
-
-        same : (ks : List Knote) → filter (λ k. leb (first_of from k) moment) ks ≡ filter (is_before (moment + 1)) ks
-        same ks = λ i. filter (λ k. at_once (first_of from k) i) ks
+        (subst (λ (q : Kqueue). AreOutside from moment next q.knotes) (is ∙ ap (λ ks. rung_each from to (in_order (first_of from) ks) kq)
+        (filter-alike (λ k. leb (first_of from k) moment) (is_before (moment + 1)) (λ k. leb-more (first_of from k) moment) kq.knotes)) outside)
 
     -- and then those at the moment
     pub rung-next-at : (moment next : ℕ) (now after : Kqueue) → from < moment → moment < next → now ≡ rung_each from to (ringing_before moment kq.knotes) kq
@@ -208,16 +215,10 @@ module _ (from to : ℕ) where
     -- a knote expires up to `to` just where it does so first
     due-ticks : (k : Knote) → is_before (to + 1) k ≡ ltb 0 (ticks_of from to k)
     due-ticks k =
-        below (first_of from k)
+        sym (leb-more (first_of from k) to)
         ∙ ap (λ n. leb (first_of from k) n) (sym reached)
-        ∙ sym (counted-expired (expires_at k) from last_moment (first_of from k) (to - from) (next_tick-is (expires_at k) from (omega (arith, ordered, within))) (omega (arith, reached, within)))
-      where
-        below : (n : ℕ) → ltb n (to + 1) ≡ leb n to
-        below n = by_place (cases_lt to n)
-          where
-            by_place : (to < n) ⊎ (n ≤ to) → ltb n (to + 1) ≡ leb n to
-            by_place (inl h) = le-ltb n (to + 1) (omega (arith, h)) ∙ sym (lt-leb n to h)
-            by_place (inr h) = lt-ltb n (to + 1) (omega (arith, h)) ∙ sym (le-leb n to h)
+        ∙ sym (counted-expired (expires_at k) from last_moment (first_of from k) (to - from)
+        (next_tick-is (expires_at k) from (omega (arith, ordered, within))) (omega (arith, reached, within)))
 
     due-some : AllByRecursion (λ k. 0 < ticks_of from to k) all_due
     due-some =
@@ -227,11 +228,7 @@ module _ (from to : ℕ) where
 
     disabled-out : (k : Knote) → find_knote k.key kq.knotes ≡ Some k → k.enabled ≡ false → has_key k.key kq.queue ≡ false
     disabled-out k here off =
-        sound.waiting k.key ∙ ap is_waiting here ∙ waiting-some k ∙ ap (λ b. k.active && b) off ∙ none k.active
-      where
-        none : (b : Bool) → (b && false) ≡ false
-        none true = refl
-        none false = refl
+        sound.waiting k.key ∙ ap is_waiting here ∙ waiting-some k ∙ ap (λ b. k.active && b) off ∙ and_false k.active
 
     due-out : AllByRecursion (λ k. k.enabled ≡ false → has_key k.key kq.queue ≡ false) all_due
     due-out =

@@ -183,21 +183,16 @@ module _ (from to : ℕ) where
   queue_for-rung : (k : Knote) (queue : List Key) → 0 < ticks_of from to k → (k.enabled ≡ false → has_key k.key queue ≡ false)
       → queue_for (rung from to k) queue ≡ pushed k queue (joining queue k)
   queue_for-rung k queue due out =
-      by_test (λ e. k.enabled ≡ e → queue_for r queue ≡ pushed k queue (e && not (has_key k.key queue))) k.enabled
-      (λ _ on. by_test (λ b. has_key k.key queue ≡ b → queue_for r queue ≡ pushed k queue (true && not b)) (has_key k.key queue)
-      (λ _ there. queue_for-there r queue (enabled ∙ on) (ap (λ key. has_key key queue) same ∙ there))
-      (λ _ absent. queue_for-comes r queue (enabled ∙ on) (rung_times-active (ticks_of from to k) k due) (ap (λ key. has_key key queue) same ∙ absent)
+      let same = rung-key k in
+      let enabled = rung_times-enabled (ticks_of from to k) k in
+      by_test (λ e. k.enabled ≡ e → queue_for (rung from to k) queue ≡ pushed k queue (e && not (has_key k.key queue))) k.enabled
+      (λ _ on. by_test (λ b. has_key k.key queue ≡ b → queue_for (rung from to k) queue ≡ pushed k queue (true && not b)) (has_key k.key queue)
+      (λ _ there. queue_for-there (rung from to k) queue (enabled ∙ on) (ap (λ key. has_key key queue) same ∙ there))
+      (λ _ absent. queue_for-comes (rung from to k) queue (enabled ∙ on) (rung_times-active (ticks_of from to k) k due)
+      (ap (λ key. has_key key queue) same ∙ absent)
       ∙ ap (λ key. queue ++ key ∷ []) same) refl)
-      (λ _ off. queue_for-disabled r queue (enabled ∙ off) ∙ ap (λ key. without_key key queue) same ∙ without_key-absent k.key queue (out off)) refl
-    where
-      r : Knote
-      r = rung from to k
-
-      same : r.key ≡ k.key
-      same = rung-key k
-
-      enabled : r.enabled ≡ k.enabled
-      enabled = rung_times-enabled (ticks_of from to k) k
+      (λ _ off. queue_for-disabled (rung from to k) queue (enabled ∙ off) ∙ ap (λ key. without_key key queue) same
+      ∙ without_key-absent k.key queue (out off)) refl
 
   -- what one pushes changes nothing for the others
   has_key-pushed : (k x : Knote) (queue : List Key) (b : Bool) → key_eq k.key x.key ≡ false → has_key x.key (pushed k queue b) ≡ has_key x.key queue
@@ -229,7 +224,7 @@ module _ (from to : ℕ) where
   rung_each-queue (k ∷ some) kq apart due out =
       let here = queue_for-rung k kq.queue due.0 out.0 in
       rung_each-queue some (with_rung from to k kq) apart.1 due.1
-      (subst (λ q. AreOut q some) (sym here) (out-after k kq.queue (joining kq.queue k) some apart.0 out.1))
+      (subst (λ (q : List Key). AreOut q some) (sym here) (out-after k kq.queue (joining kq.queue k) some apart.0 out.1))
       ∙ ap (λ q. q ++ map key_in (filter (joining q) some)) here
       ∙ ap (λ rest. pushed k kq.queue (joining kq.queue k) ++ map key_in rest) (joining-after k kq.queue (joining kq.queue k) some apart.0)
       ∙ pushed-all k kq.queue (joining kq.queue k) (filter (joining kq.queue) some)

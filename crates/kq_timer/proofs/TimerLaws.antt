@@ -1,6 +1,7 @@
 -- How often a timer expires and when it does so next, where it does so once and where it goes on.
-use Rattle.std.proofs.Common.{◌≡◌, ℕ, zero, suc, ◌+◌, ◌-◌, ◌*◌, ◌/◌, ◌%◌, ◌<◌, ◌≤◌, max, Bool, true, false, cond, ◌&&◌, ◌||◌, eqb, leb, ltb, ℤ, pos, ◌<ℤ◌, ◌⊎◌, inl, inr, refl, sym, ap, ap₂, ◌∙◌, arith}
-use Rattle.std.proofs.lemmas.Bool.{cases_eq, cases_lt, le-leb, lt-leb, lt-ltb, le-ltb, eq-eqb, ne_eqb, and_left, and_right, and_from}
+use Rattle.std.proofs.Common.{◌≡◌, ℕ, zero, suc, ◌+◌, ◌-◌, ◌*◌, ◌/◌, ◌%◌, ◌^◌, ◌<◌, ◌≤◌, max, Bool, true, false, cond, ◌&&◌, ◌||◌, eqb, leb, ltb, ℤ, pos, ◌<ℤ◌, ◌⊎◌, inl, inr, refl, sym, ap, ap₂, ◌∙◌, arith}
+use Rattle.std.proofs.lemmas.Bool.{cases_lt, le-leb, lt-leb, lt-ltb, le-ltb, eq-eqb, ne_eqb, and_left, and_right, and_from}
+use Rattle.std.proofs.lemmas.Bool.Decides.{nat_tests}
 use Rattle.std.proofs.lemmas.Int.{ints}
 use Rattle.kq_model.specs.Ticks.{Ticking, last_moment, is_among_first, is_tick, expires, counted, ticks_between, next_tick, IsNextTick, HasNoTick}
 use Rattle.kq_model.proofs.Ticks.{periods, ticks_between-periods, moment_after, moment_after-later, moment_after-tick, moment_after-least}
@@ -23,19 +24,15 @@ or_same : (b : Bool) → (b || b) ≡ b
 or_same true = refl
 or_same false = refl
 
+eqb-turned : (a b : ℕ) → eqb a b ≡ eqb b a
+eqb-turned a b = grind (arith, nat_tests)
+
 -- without a period each of its moments is its start
 still : (t : Ticking) (m k : ℕ) → t.period ≡ 0 → (eqb (t.start + suc k * t.period) m) ≡ eqb m (t.start + t.period)
 still t m k none =
     let nothing : t.start + suc k * 0 ≡ t.start + 0 = omega arith in
     let at : t.start + suc k * t.period ≡ t.start + t.period = ap (λ p. t.start + suc k * p) none ∙ nothing ∙ sym (ap (λ p. t.start + p) none) in
-    ap (λ n. eqb n m) at ∙ turned (t.start + t.period) m
-  where
-    turned : (a b : ℕ) → eqb a b ≡ eqb b a
-    turned a b = by_place (cases_eq a b)
-      where
-        by_place : (a ≡ b) ⊎ (a ≡ b → ⊥) → eqb a b ≡ eqb b a
-        by_place (inl e) = eq-eqb a b e ∙ sym (eq-eqb b a (sym e))
-        by_place (inr ne) = ne_eqb a b ne ∙ sym (ne_eqb b a (λ e. ne (sym e)))
+    ap (λ n. eqb n m) at ∙ eqb-turned (t.start + t.period) m
 
 still_among : (t : Ticking) (m k : ℕ) → t.period ≡ 0 → is_among_first (suc k) t m ≡ eqb m (t.start + t.period)
 unfolding is_among_first
@@ -130,3 +127,11 @@ module _ (t : Ticking) (from : ℕ) (positive : 0 < t.period) where
   -- as the code has it
   pub moment_after-found : (later : ℕ) → later ≡ max from t.start → later - (later - t.start) % t.period + t.period ≡ moment_after t from
   moment_after-found later e = moment_after-code t from later e
+
+-- what has no place in 64 bits is past the last moment
+pub too_far : (moment : ℕ) → (moment < 2 ^ 64 → ⊥) → last_moment < moment
+too_far moment no = by_place (cases_lt moment (2 ^ 64))
+  where
+    by_place : (moment < 2 ^ 64) ⊎ (2 ^ 64 ≤ moment) → last_moment < moment
+    by_place (inl h) = absurd (no h)
+    by_place (inr h) = omega (arith, h)

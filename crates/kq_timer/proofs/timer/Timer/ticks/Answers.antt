@@ -13,7 +13,8 @@ ticking_of start period = record { start = start; period = period }
 pub returns-then-self : goal.returns-then-self
 returns-then-self c =
     let t = ticking_of c.args.self.start c.args.self.period in
-    let once : c.from.result ≡ cond {A = ℕ} (leb (once_after (t.start + t.period) c.args.from) c.args.to) 1 0 = rw (← c.single.ensures) (search rules) in
+    let raw : c.from.result ≡ cond {A = ℕ} (leb c.single.result c.args.to) 1 0 = search rules in
+    let once = raw ∙ ap (λ n. cond {A = ℕ} (leb n c.args.to) 1 0) c.single.ensures in
     elim c.then-self.branch [
       | then-self-via-then-self w ↦
           once ∙ single-ticks (expires true t) (t.start + t.period) (once-single t) c.args.from c.args.to c.requires.ordered c.requires.within
