@@ -2,9 +2,11 @@
 TRIGGER = 16777216
 POLL_ROOM = 4
 CHANGES = 1000
+NOTE_WRITE = 2
+SIGNALS = 64
 
 
-# the members of each kind of record besides `op`; `side` is the name of a side, `changes` a list, all others are numbers
+# the members of each kind of record besides `op`; all but those below, `ignore` and `changes` are whole numbers from 0
 MEMBERS = {
     "proc": ["pid"],
     "fork": ["pid", "child"],
@@ -24,18 +26,33 @@ MEMBERS = {
     "pipe": ["pid", "rfd", "wfd", "cap"],
     "read": ["pid", "fd", "n"],
     "write": ["pid", "fd", "n"],
+    "exec": ["pid"],
+    "sigset": ["pid", "sig", "ignore"],
+    "sig": ["pid", "sig"],
+    "file": ["file", "size"],
+    "open": ["pid", "fd", "file", "mode"],
+    "seek": ["pid", "fd", "offset"],
+    "truncate": ["file", "size"],
+    "note": ["file", "note"],
+    "clock": ["ns"],
     "kevent": ["pid", "fd", "changes", "room"],
 }
-SIDES = ["read", "write"]
+# the members whose values are words, and those that have a sign
+WORDS = {
+    "side": ["read", "write"],
+    "mode": ["r", "w", "rw"],
+    "note": ["attrib", "link", "rename", "delete", "revoke"],
+}
+SIGNED = ["size", "offset"]
 
 
 def call(changes, room):
     return '{"op":"kevent","pid":1,"fd":9,"changes":[%s],"room":%d}\n' % (",".join(changes), room)
 
 
-def change(ident, flags, fflags):
+def change(ident, flags, fflags, filter="USER"):
     names = ",".join(f'"{it}"' for it in flags)
-    return '{"ident":%d,"filter":"USER","flags":[%s],"fflags":%d}' % (ident, names, fflags)
+    return '{"ident":%d,"filter":"%s","flags":[%s],"fflags":%d}' % (ident, filter, names, fflags)
 
 
 def level(ident):
@@ -82,10 +99,60 @@ def turnover(path, kevents, records):
             file.write(call([change(oldest, ["DELETE"], 0), change(oldest + kevents, ["ADD"], 0)], 0))
 
 
+def in_calls(changes):
+    """Yields calls without room that make these changes, so many in each as are allowed."""
+    for start in range(0, len(changes), CHANGES):
+        yield call(changes[start : start + CHANGES], 0)
+
+
+def by_turns(file, told, records):
+    """Writes so many records: these by turns, and each fourth is a poll."""
+    poll, turn = call([], POLL_ROOM), 0
+    for number in range(1, records + 1):
+        if number % 4 == 0:
+            file.write(poll)
+        else:
+            file.write(told[turn])
+            turn = (turn + 1) % len(told)
+
+
+def files(path, kevents, records):
+    """Writes a trace in which one file after the other is written to; a VNODE kevent with CLEAR watches each."""
+    numbers = range(10, 10 + kevents)
+    setup = ['{"op":"file","file":%d,"size":0}\n{"op":"open","pid":1,"fd":%d,"file":%d,"mode":"w"}\n' % (it, it, it) for it in numbers]
+    setup += in_calls([change(it, ["ADD", "CLEAR"], NOTE_WRITE, "VNODE") for it in numbers])
+    with open(path, "w", encoding="ascii") as file:
+        file.write('{"kqsim":1}\n{"op":"proc","pid":1}\n{"op":"kqueue","pid":1,"fd":9}\n' + "".join(setup))
+        by_turns(file, ['{"op":"write","pid":1,"fd":%d,"n":1}\n' % it for it in numbers], records - files_setup(kevents))
+
+
+def files_setup(kevents):
+    return 2 + 2 * kevents - (-kevents // CHANGES)
+
+
+def signals(path, kevents, records):
+    """Writes a trace in which signals come by turns, each heard by a kevent, beside user kevents that nothing triggers."""
+    heard = range(1, SIGNALS + 1)
+    changes = [change(it, ["ADD"], 0, "SIGNAL") for it in heard] + [change(it, ["ADD"], 0) for it in range(kevents - SIGNALS)]
+    with open(path, "w", encoding="ascii") as file:
+        file.write('{"kqsim":1}\n{"op":"proc","pid":1}\n{"op":"kqueue","pid":1,"fd":9}\n' + "".join(in_calls(changes)))
+        by_turns(file, ['{"op":"sig","pid":1,"sig":%d}\n' % it for it in heard], records - calls_setup(kevents))
+
+
+def calls_setup(kevents):
+    """How many records register so many kevents, with those of the process and its kqueue."""
+    return 2 - (-kevents // CHANGES)
+
+
 def spelled(number, name):
     """The value of a member of record `number`, as JSON."""
-    if name == "side":
-        return f'"{SIDES[number % 2]}"'
+    turn = number // len(MEMBERS)
+    if name in WORDS:
+        return f'"{WORDS[name][turn % len(WORDS[name])]}"'
+    if name == "ignore":
+        return "true" if turn % 2 else "false"
+    if name in SIGNED:
+        return str(number * 7919 - 2**20)
     return "[]" if name == "changes" else str(number * 7919 % 2**32)
 
 

@@ -18,10 +18,11 @@ use kq_timer::Period;
 fn is_simulated(filter: Filter) -> bool
     ensures { result ≡ is_simulated filter }
 {
-    matches!(
-        filter,
-        Filter::Read | Filter::Write | Filter::Timer | Filter::User
-    )
+    match filter {
+        Filter::Read | Filter::Write | Filter::Vnode => true,
+        Filter::Proc | Filter::Signal | Filter::Timer | Filter::User => true,
+        _ => false,
+    }
 }
 
 /// Whether a change is refused whatever is there: its filter is not simulated, or it asks for

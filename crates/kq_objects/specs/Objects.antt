@@ -1,5 +1,5 @@
 -- What contracts see of all objects, and what a plan needs to be carried out without memory.
-use Rattle.std.specs.Prelude.{◌≡◌, ℕ, nat_eq, ◌+◌, ◌≤◌, List, [], ◌∷◌, Result, Ok, Err}
+use Rattle.std.specs.Prelude.{◌≡◌, ℕ, nat_eq, ◌+◌, ◌≤◌, List, [], ◌∷◌, Result, Ok, Err, IsOk}
 use Rattle.std.specs.HashMap.{get, spare}
 use Rattle.kq_model.specs.declared.doing.Doing.{Doing}
 use Rattle.kq_model.specs.declared.doing.Doing.TheVariants.{ToSocket, ToPipe, ToDescription, ToFile}
@@ -76,10 +76,11 @@ pub record IsReady (ds : List Doing) (o : Objects) : Type 0 where
 
 -- ---- what is asked of a plan
 
--- the plan is the wanted one, and the reason the wanted one; a growth may have been refused
+-- the plan is the wanted one, and the reason the wanted one; a growth may have been refused, but only where
+-- the record is possible
 abbrev pub IsPlanned : Result ObjectPlan PlanError → Planned → Type 0
 IsPlanned (Ok p) wanted = wanted ≡ Ok p
-IsPlanned (Err plan_error.Memory) wanted = Unit {0}
+IsPlanned (Err plan_error.Memory) wanted = IsOk wanted
 IsPlanned (Err (plan_error.Why why)) wanted = wanted ≡ Err why
 
 -- only noted of sockets that are there

@@ -6,7 +6,7 @@ use thiserror::Error;
 /// Why there is no plan for a record.
 #[derive(Debug, Drop, Clone, Copy, PartialEq, Eq, Error)]
 pub enum PlanError {
-    /// A growth was refused.
+    /// A growth was refused, for a record that is possible.
     #[error("out of memory")]
     Memory,
     /// The record is impossible.

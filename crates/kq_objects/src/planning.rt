@@ -12,6 +12,9 @@ impl Objects {
     /// What the record of this place does to the objects, or the first reason why it is impossible:
     /// WrongKind, Absent, UsedFile, TooMany. Whether the process and its numbers are right is for
     /// the caller to see before. Nothing that contracts see is changed until `commit`.
+    ///
+    /// Memory is wanted only for a record that is possible: an impossible one is answered with its
+    /// reason, whatever memory there is.
     #[tactic(auto, unfolding(kq_model::specs::Planning::plan))]
     pub fn plan(&mut self, place: u64, act: &Act) -> Result<Plan, PlanError>
         requires { IsFree place (objects_of self.old) }

@@ -1,9 +1,10 @@
 -- A record about objects that is possible: its plan, the world after it, and what it keeps true.
-use Rattle.std.proofs.Common.{◌≡◌, ℕ, ◌+◌, ◌<◌, ◌^◌, List, [], ◌∷◌, ◌++◌, length, Option, None, Ok, refl, sym, ap, subst, ◌∙◌}
+use Rattle.std.proofs.Common.{◌≡◌, ℕ, ◌+◌, ◌<◌, ◌^◌, List, [], ◌∷◌, ◌++◌, length, Option, None, Ok, Err, IsOk, is_ok, refl, sym, ap, subst, ◌∙◌}
 use Rattle.kq_model.specs.declared.act.Act.{Act}
 use Rattle.kq_model.specs.declared.object.Named.{Named}
 use Rattle.kq_model.specs.Descriptors.{Descriptor, with_descriptors, without_closed}
 use Rattle.kq_model.specs.Holding.{IsCounted, made_names}
+use Rattle.kq_model.specs.ObjectPlan as object
 use Rattle.kq_model.specs.ObjectPlan.{ObjectPlan}
 use Rattle.kq_model.specs.ObjectRecordPlans.{plan_act, with_objects}
 use Rattle.kq_model.specs.Objects.{Objects, counted, all_done}
@@ -14,7 +15,7 @@ use Rattle.kq_model.specs.World.{World, Plan, Planned, Possible, idle, carried_o
 use Rattle.kq_model.proofs.CountedPlans.{counted-plan}
 use Rattle.kq_model.proofs.FreePlaces.{held-all_done}
 use Rattle.kq_process.specs.Counts.{IsSound}
-use Rattle.kq_process.specs.Effects.{world_after}
+use Rattle.kq_process.specs.Effects.{world_after, IsPossible}
 use Rattle.kq_process.specs.Uses.{act_on}
 use Rattle.kq_process.specs.declared.uses.Use.{Use}
 use Rattle.kq_process.specs.declared.uses.Use.TheVariants as use_of
@@ -35,6 +36,21 @@ uses-make (use_of.LowWater side mark) place on = refl
 uses-make (use_of.Read bytes) place on = refl
 uses-make (use_of.Write bytes) place on = refl
 uses-make (use_of.Seek offset) place on = refl
+
+possible_with : (ds : List Descriptor) (x : object.Planned) → IsOk x → IsPossible (with_objects ds x)
+unfolding with_objects
+possible_with ds (Ok p) ok = tt
+possible_with ds (Err why) ok = absurd (cc)
+
+-- a record about objects is possible where it has a plan
+pub possible-act : (place : ℕ) (a : Act) (w : World counted) (ds : List Descriptor) → IsOk (objects.plan place a w.objects)
+    → IsPossible (plan_act place ds a w)
+unfolding plan_act
+possible-act place a w ds ok = possible_with ds (objects.plan place a w.objects) ok
+
+pub possible-planned : (place : ℕ) (a : Act) (w : World counted) (ds : List Descriptor) (p : ObjectPlan)
+    → objects.plan place a w.objects ≡ Ok p → IsPossible (plan_act place ds a w)
+possible-planned place a w ds p is = possible-act place a w ds (ap is_ok is)
 
 module _ (place : ℕ) (a : Act) (w : World counted) (p : ObjectPlan) (is : objects.plan place a w.objects ≡ Ok p) (ds : List Descriptor) where
   abbrev acted : Plan

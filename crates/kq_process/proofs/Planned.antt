@@ -1,5 +1,5 @@
 -- The plans of records about processes and signals once their tests are passed, and the worlds after them.
-use Rattle.std.proofs.Common.{◌≡◌, ℕ, ◌==◌, ◌<◌, ◌≤◌, nat_lt, Bool, true, false, not, ◌&&◌, List, [], ◌∷◌, Option, Some, None, Result, Ok, Err, IfOk, refl, sym, ap, arith, ◌∙◌}
+use Rattle.std.proofs.Common.{◌≡◌, ℕ, ◌==◌, ◌<◌, ◌≤◌, nat_lt, Bool, true, false, not, ◌&&◌, List, [], ◌∷◌, Option, Some, None, Result, Ok, Err, IfOk, OnErr, refl, sym, ap, arith, ◌∙◌}
 use Rattle.kq_model.specs.declared.memory.Memory.{Memory}
 use Rattle.kq_model.specs.declared.object.Hint.{Hint}
 use Rattle.kq_model.specs.declared.object.Hint.TheVariants as hint
@@ -28,6 +28,11 @@ pub told_by : {E : Type 0} (hints : List Posted) (Q : Effect → Type 0) → ((e
     → (r : Result Effect E) → IfOk r (Tells hints) → IfOk r Q
 told_by hints Q tells (Ok e) told = tells e told
 told_by hints Q tells (Err e) told = tt
+
+-- what holds anyway holds where memory was refused
+pub held_anyway : {T E : Type 0} (P : Type 0) (r : Result T E) → P → OnErr r P
+held_anyway P (Ok x) p = tt
+held_anyway P (Err e) p = p
 
 -- a world of these processes and this table
 abbrev pub world_like : World counted → List Process → List Descriptor → World counted
@@ -83,7 +88,7 @@ module _ (pid : ℕ) (w : World counted) where
   abbrev pub ignored : ℕ → Bool
   ignored signal = ignored_by (process_of pid w.processes) signal
 
-  sig_plan : (signal : ℕ) → is_live pid w.processes ≡ true → 1 ≤ signal → signal ≤ most_signal
+  pub sig_plan : (signal : ℕ) → is_live pid w.processes ≡ true → 1 ≤ signal → signal ≤ most_signal
       → plan_sig pid signal w ≡ Possible (record idle { hints = delivery pid signal (ignored signal) })
   unfolding plan_sig
   sig_plan signal live low high = rw (live, signal_true signal low high) refl

@@ -30,6 +30,11 @@ pair_of p = record { pid = p.0; number = p.1 }
 abbrev pub pairs_in : List (ℕ × ℕ) → List Pair
 pairs_in ps = map pair_of ps
 
+-- the record can be carried out; memory is wanted for no other
+abbrev pub IsPossible : Planned → Type 0
+IsPossible (Impossible why) = ⊥
+IsPossible (Possible p) = Unit {0}
+
 -- nothing closed, no hints, and the reason
 pub record IsRefused (why : Why) (e : Effect) : Type 0 where
   pub verdict : e.verdict ≡ Err why
@@ -55,6 +60,10 @@ Tells hints e = (p : Plan) → p.closed ≡ [] → p.hints ≡ hints → IsDone 
 -- the effect is that of the plan
 abbrev pub IsToldBy : (World counted → Planned) → Processes → Effect → Type 0
 IsToldBy plan old e = (o : Objects counted) (now : ℕ) → IsEffectOf (plan (world_with old o now)) e
+
+-- the record can be carried out
+abbrev pub IsPossibleBy : (World counted → Planned) → Processes → Type 0
+IsPossibleBy plan old = (o : Objects counted) (now : ℕ) → IsPossible (plan (world_with old o now))
 
 -- the new processes are those that the plan leads to
 abbrev pub IsAfter : ℕ → (World counted → Planned) → Processes → Processes → Type 0

@@ -15,6 +15,7 @@ use kq_model::{Act, Memory, Mode, Named, Why};
 use kq_objects::PlanError;
 
 impl World {
+    ghost use Rattle.kq_process.specs.Effects.{IsPossible};
     ghost use Rattle.kq_process.specs.Processes.{descriptor_in};
     ghost use Rattle.kq_process.specs.Uses.{act_on};
     ghost use Rattle.kq_process.specs.World.{world_of, IsEffectBy, IsNext};
@@ -27,6 +28,7 @@ impl World {
         ensures effect { IfOk result (IsEffectBy (plan_at place pid fd (act_on what)) self.old) }
         ensures world { OnOk result (IsNext place (plan_at place pid fd (act_on what)) self.old self.new) }
         ensures memory { OnErr result (world_of self.new ≡ world_of self.old) }
+        ensures possible { OnErr result (IsPossible (plan_at place pid fd (act_on what) (world_of self.old))) }
     {
         match self.on(pid, fd) {
             Ok(on) => self.act(place, &what.on(on)),
@@ -43,6 +45,7 @@ impl World {
         ensures effect { IfOk result (IsEffectBy (plan_act place [] act.now) self.old) }
         ensures world { OnOk result (IsNext place (plan_act place [] act.now) self.old self.new) }
         ensures memory { OnErr result (world_of self.new ≡ world_of self.old) }
+        ensures possible { OnErr result (IsPossible (plan_act place [] act.now (world_of self.old))) }
     {
         let alloc = self.processes.allocator();
         match self.objects.plan(place, act) {
@@ -75,6 +78,8 @@ impl World {
         ensures world { OnOk result
             (IsNext place (plan_act place (descriptor_in pid (number, named) ∷ []) act.now) self.old self.new) }
         ensures memory { OnErr result (world_of self.new ≡ world_of self.old) }
+        ensures possible { OnErr result
+            (IsPossible (plan_act place (descriptor_in pid (number, named) ∷ []) act.now (world_of self.old))) }
     {
         let alloc = self.processes.allocator();
         match self.objects.plan(place, act) {
@@ -109,6 +114,8 @@ impl World {
         ensures world { OnOk result
             (IsNext place (plan_socket place pid fd receive_buffer send_buffer) self.old self.new) }
         ensures memory { OnErr result (world_of self.new ≡ world_of self.old) }
+        ensures possible { OnErr result
+            (IsPossible (plan_socket place pid fd receive_buffer send_buffer (world_of self.old))) }
     {
         let alloc = self.processes.allocator();
         if !self.processes.is_live(pid) {
@@ -142,6 +149,8 @@ impl World {
         ensures world { OnOk result
             (IsNext place (plan_accept place pid fd to receive_buffer send_buffer) self.old self.new) }
         ensures memory { OnErr result (world_of self.new ≡ world_of self.old) }
+        ensures possible { OnErr result
+            (IsPossible (plan_accept place pid fd to receive_buffer send_buffer (world_of self.old))) }
     {
         let alloc = self.processes.allocator();
         let on = match self.on(pid, fd) {
@@ -174,6 +183,7 @@ impl World {
         ensures effect { IfOk result (IsEffectBy (plan_open place pid fd file mode) self.old) }
         ensures world { OnOk result (IsNext place (plan_open place pid fd file mode) self.old self.new) }
         ensures memory { OnErr result (world_of self.new ≡ world_of self.old) }
+        ensures possible { OnErr result (IsPossible (plan_open place pid fd file mode (world_of self.old))) }
     {
         let alloc = self.processes.allocator();
         if !self.processes.is_live(pid) {
@@ -204,6 +214,7 @@ impl World {
         ensures effect { IfOk result (IsEffectBy (plan_pipe place pid read_fd write_fd cap) self.old) }
         ensures world { OnOk result (IsNext place (plan_pipe place pid read_fd write_fd cap) self.old self.new) }
         ensures memory { OnErr result (world_of self.new ≡ world_of self.old) }
+        ensures possible { OnErr result (IsPossible (plan_pipe place pid read_fd write_fd cap (world_of self.old))) }
     {
         let alloc = self.processes.allocator();
         if !self.processes.is_live(pid) {
@@ -241,6 +252,8 @@ impl World {
         ensures world { OnOk result
             (IsNext place (plan_act place (pipe_ends place pid read_fd write_fd) (act.Pipe cap)) self.old self.new) }
         ensures memory { OnErr result (world_of self.new ≡ world_of self.old) }
+        ensures possible { OnErr result (IsPossible
+            (plan_act place (pipe_ends place pid read_fd write_fd) (act.Pipe cap) (world_of self.old))) }
     {
         let alloc = self.processes.allocator();
         match self.objects.plan(place, &Act::Pipe { cap }) {

@@ -8,10 +8,10 @@ ghost use Rattle.kq_model.specs.World.{World as Kept, seen_world};
 use crate::effect::Effect;
 use crate::uses::Use;
 use crate::world::World;
-use kq_model::{Event, Memory};
+use kq_model::{Act, Event, Memory};
 
 impl World {
-    ghost use Rattle.kq_process.specs.Effects.{listed_after};
+    ghost use Rattle.kq_process.specs.Effects.{IsPossible, listed_after};
     ghost use Rattle.kq_process.specs.World.{world_of, IsEffectBy, IsNext};
 
     /// The step of the world: what the record at this place does, or the first reason why it is
@@ -22,6 +22,8 @@ impl World {
         ensures effect { IfOk result (IsEffectBy (plan place event.now) self.old) }
         ensures world { OnOk result (IsNext place (plan place event.now) self.old self.new) }
         ensures memory { OnErr result (world_of self.new ≡ world_of self.old) }
+        // An impossible record is answered, whatever memory there is.
+        ensures possible { OnErr result (IsPossible (plan place event.now (world_of self.old))) }
         // Then the next record may come.
         ensures next { OnOk result (IsCountedWorld (place + 1) (world_of self.new)) }
         // The same for the world that keeps each object's records, for which this one stands.
@@ -31,12 +33,13 @@ impl World {
         self.step(place, event)
     }
 
-    #[tactic(auto, unfolding(kq_model::specs::Plans::plan))]
+    #[tactic(auto, unfolding(kq_model::specs::Plans::plan, kq_model::specs::Holding::made_names))]
     fn step(&mut self, place: u64, event: &Event) -> Result<Effect, Memory>
         requires { IsCountedWorld place (world_of self.old) }
         ensures effect { IfOk result (IsEffectBy (plan place event.now) self.old) }
         ensures world { OnOk result (IsNext place (plan place event.now) self.old self.new) }
         ensures memory { OnErr result (world_of self.new ≡ world_of self.old) }
+        ensures possible { OnErr result (IsPossible (plan place event.now (world_of self.old))) }
     {
         match event {
             Event::Proc { pid } => self.proc(*pid),
@@ -105,6 +108,43 @@ impl World {
                 *fd,
                 Use::Write { bytes: *n },
             ),
+            Event::Exec { pid } => self.exec(*pid),
+            Event::Sigset { pid, sig, ignore } => Ok(self.sigset(*pid, *sig, *ignore)),
+            Event::Sig { pid, sig } => self.signal(*pid, *sig),
+            Event::File { file, size } => {
+                let act = Act::File {
+                    file: *file,
+                    size: *size,
+                };
+                self.act(place, &act)
+            }
+            Event::Open {
+                pid,
+                fd,
+                file,
+                mode,
+            } => self.open(place, *pid, *fd, *file, *mode),
+            Event::Seek { pid, fd, offset } => self.use_object(
+                place,
+                *pid,
+                *fd,
+                Use::Seek { offset: *offset },
+            ),
+            Event::Truncate { file, size } => {
+                let act = Act::Truncate {
+                    file: *file,
+                    size: *size,
+                };
+                self.act(place, &act)
+            }
+            Event::Note { file, note } => {
+                let act = Act::Note {
+                    file: *file,
+                    note: *note,
+                };
+                self.act(place, &act)
+            }
+            Event::Clock { ns } => Ok(self.clock_at(*ns)),
             Event::Kevent {
                 pid,
                 fd,

@@ -17,7 +17,7 @@ const SIGCHLD: u32 = 20;
 
 impl Processes {
     ghost use Rattle.kq_process.specs.Processes.{table_of};
-    ghost use Rattle.kq_process.specs.Effects.{IsToldBy, IsAfter, IsUnchanged, IsCallBy};
+    ghost use Rattle.kq_process.specs.Effects.{IsToldBy, IsAfter, IsPossibleBy, IsUnchanged, IsCallBy};
 
     /// A process starts. UsedPid: the pid was used before.
     #[tactic(auto, unfolding(kq_model::specs::ProcessPlans::plan_proc))]
@@ -26,6 +26,7 @@ impl Processes {
         ensures world { (place : ℕ) → OnOk result (IsAfter place (plan_proc pid) self.old self.new) }
         ensures table { table_of self.new ≡ table_of self.old }
         ensures err { OnErr result (IsUnchanged self.old self.new) }
+        ensures possible { OnErr result (IsPossibleBy (plan_proc pid) self.old) }
     {
         let alloc = self.allocator();
         if self.was_used(pid) {
@@ -38,7 +39,8 @@ impl Processes {
     /// A process executes another program. NoProcess: the pid names no live process.
     #[tactic(auto, unfolding(kq_model::specs::ProcessPlans::plan_exec))]
     pub fn exec(&self, pid: u32) -> Result<Effect, Memory>
-        ensures { IfOk result (IsToldBy (plan_exec pid) self.now) }
+        ensures effect { IfOk result (IsToldBy (plan_exec pid) self.now) }
+        ensures possible { OnErr result (IsPossibleBy (plan_exec pid) self.now) }
     {
         let alloc = self.allocator();
         if !self.is_live(pid) {
@@ -69,7 +71,8 @@ impl Processes {
     /// but for SIGCHLD (kqueue(2)). NoProcess; TooMany: no such signal.
     #[tactic(auto, unfolding(kq_model::specs::ProcessPlans::plan_sig, kq_model::specs::ProcessPlans::is_signal))]
     pub fn signal(&self, pid: u32, signal: u32) -> Result<Effect, Memory>
-        ensures { IfOk result (IsToldBy (plan_sig pid signal) self.now) }
+        ensures effect { IfOk result (IsToldBy (plan_sig pid signal) self.now) }
+        ensures possible { OnErr result (IsPossibleBy (plan_sig pid signal) self.now) }
     {
         let alloc = self.allocator();
         if !self.is_live(pid) {

@@ -13,7 +13,7 @@ use kq_model::notes::{NOTE_EXIT, NOTE_FORK};
 use kq_model::{Hint, Memory, Named, Target, Why};
 
 impl World {
-    ghost use Rattle.kq_process.specs.Effects.{IsDone, world_after};
+    ghost use Rattle.kq_process.specs.Effects.{IsDone, IsPossible, world_after};
     ghost use Rattle.kq_process.specs.Processes.{descriptor_in, AreOnce};
     ghost use Rattle.kq_process.specs.World.{world_of, IsEffectBy, IsNext, sharing};
 
@@ -24,6 +24,7 @@ impl World {
         ensures effect { IfOk result (IsEffectBy (plan_fork pid child) self.old) }
         ensures world { (place : ℕ) → OnOk result (IsNext place (plan_fork pid child) self.old self.new) }
         ensures memory { OnErr result (world_of self.new ≡ world_of self.old) }
+        ensures possible { OnErr result (IsPossible (plan_fork pid child (world_of self.old))) }
     {
         let alloc = self.processes.allocator();
         if !self.processes.is_live(pid) {
@@ -50,6 +51,7 @@ impl World {
         ensures effect { IfOk result (IsEffectBy (plan_exit pid status) self.old) }
         ensures world { (place : ℕ) → OnOk result (IsNext place (plan_exit pid status) self.old self.new) }
         ensures memory { OnErr result (world_of self.new ≡ world_of self.old) }
+        ensures possible { OnErr result (IsPossible (plan_exit pid status (world_of self.old))) }
     {
         let alloc = self.processes.allocator();
         if !self.processes.is_live(pid) {
@@ -72,6 +74,7 @@ impl World {
         ensures effect { IfOk result (IsEffectBy (plan_close pid fd) self.old) }
         ensures world { (place : ℕ) → OnOk result (IsNext place (plan_close pid fd) self.old self.new) }
         ensures memory { OnErr result (world_of self.new ≡ world_of self.old) }
+        ensures possible { OnErr result (IsPossible (plan_close pid fd (world_of self.old))) }
     {
         let alloc = self.processes.allocator();
         let named = match self.on(pid, fd) {
@@ -93,6 +96,7 @@ impl World {
         ensures effect { IfOk result (IsEffectBy (plan_dup pid fd to) self.old) }
         ensures world { (place : ℕ) → OnOk result (IsNext place (plan_dup pid fd to) self.old self.new) }
         ensures memory { OnErr result (world_of self.new ≡ world_of self.old) }
+        ensures possible { OnErr result (IsPossible (plan_dup pid fd to (world_of self.old))) }
     {
         let alloc = self.processes.allocator();
         let named = match self.on(pid, fd) {

@@ -1,13 +1,14 @@
 // The records about one process, the clock, a new kqueue and a kevent call.
 ghost use Rattle.std.specs.Prelude.{◌≡◌, ℕ, IfOk, OnOk, OnErr};
 ghost use Rattle.kq_model.specs.DescriptorPlans.{plan_kqueue, plan_kevent};
-ghost use Rattle.kq_model.specs.ProcessPlans.{plan_proc, plan_exec, plan_sigset, plan_sig, plan_clock};
+ghost use Rattle.kq_model.specs.ProcessPlans.{plan_proc, plan_exec, plan_sigset, plan_sig, plan_clock, plan_clock_at};
 
 use crate::effect::Effect;
 use crate::world::World;
 use kq_model::{Change, Memory, Named, Why};
 
 impl World {
+    ghost use Rattle.kq_process.specs.Effects.{IsPossible};
     ghost use Rattle.kq_process.specs.World.{world_of, IsEffectBy, IsNext};
 
     /// A process starts. UsedPid: the pid was used before.
@@ -15,6 +16,7 @@ impl World {
         ensures effect { IfOk result (IsEffectBy (plan_proc pid) self.old) }
         ensures world { (place : ℕ) → OnOk result (IsNext place (plan_proc pid) self.old self.new) }
         ensures memory { OnErr result (world_of self.new ≡ world_of self.old) }
+        ensures possible { OnErr result (IsPossible (plan_proc pid (world_of self.old))) }
     {
         self.processes.proc(pid)
     }
@@ -23,6 +25,7 @@ impl World {
     pub fn exec(&self, pid: u32) -> Result<Effect, Memory>
         ensures effect { IfOk result (IsEffectBy (plan_exec pid) self.now) }
         ensures world { (place : ℕ) → IsNext place (plan_exec pid) self.now self.now }
+        ensures possible { OnErr result (IsPossible (plan_exec pid (world_of self.now))) }
     {
         self.processes.exec(pid)
     }
@@ -40,6 +43,7 @@ impl World {
     pub fn signal(&self, pid: u32, signal: u32) -> Result<Effect, Memory>
         ensures effect { IfOk result (IsEffectBy (plan_sig pid signal) self.now) }
         ensures world { (place : ℕ) → IsNext place (plan_sig pid signal) self.now self.now }
+        ensures possible { OnErr result (IsPossible (plan_sig pid signal (world_of self.now))) }
     {
         self.processes.signal(pid, signal)
     }
@@ -58,6 +62,19 @@ impl World {
         Effect::quiet(alloc)
     }
 
+    /// The same for a moment that may be below 0, where the clock never is. ClockBack: it would go
+    /// back.
+    #[tactic(auto, unfolding(kq_model::specs::ProcessPlans::plan_clock_at))]
+    pub fn clock_at(&mut self, moment: i64) -> Effect
+        ensures effect { IsEffectBy (plan_clock_at moment) self.old result }
+        ensures world { (place : ℕ) → IsNext place (plan_clock_at moment) self.old self.new }
+    {
+        if moment < 0 {
+            return Effect::impossible(self.processes.allocator(), Why::ClockBack);
+        }
+        self.clock(moment as u64)
+    }
+
     /// A process opens a kqueue, named by the record's place, under a number that is not open
     /// (kqueue(2)). NoProcess; UsedDescriptor: the number is open.
     #[tactic(auto, unfolding(kq_model::specs::DescriptorPlans::plan_kqueue, kq_model::specs::World::named_by))]
@@ -65,6 +82,7 @@ impl World {
         ensures effect { IfOk result (IsEffectBy (plan_kqueue pid fd) self.old) }
         ensures world { OnOk result (IsNext place (plan_kqueue pid fd) self.old self.new) }
         ensures memory { OnErr result (world_of self.new ≡ world_of self.old) }
+        ensures possible { OnErr result (IsPossible (plan_kqueue pid fd (world_of self.old))) }
     {
         let alloc = self.processes.allocator();
         if !self.processes.is_live(pid) {

@@ -5,4 +5,5 @@ pub mod RowLemmas
 pub mod HappenLemmas
 pub mod PlainPlans
 pub mod StepLemmas
+pub mod ClockLemmas
 pub mod ClosedLemmas

@@ -1,5 +1,5 @@
 -- What holds of the system after a record.
-use Rattle.std.proofs.Common.{◌≡◌, ◌∙◌, ◌+◌, ◌≤◌, ◌++◌, ◌||◌, ◌&&◌, ℕ, Bool, true, false, not, cond, List, [], ◌∷◌, map, length, nat_lt, nat_eq, Option, None, Some, IsOk, is_some, refl, sym, ap, ap₂, subst, append-nil, arith}
+use Rattle.std.proofs.Common.{◌≡◌, ◌∙◌, ◌+◌, ◌≤◌, ◌++◌, ◌||◌, ◌&&◌, ℕ, Bool, true, false, not, cond, List, [], ◌∷◌, map, length, nat_lt, nat_eq, Option, None, Some, Result, Ok, Err, IsOk, OnErr, is_some, refl, sym, ap, ap₂, subst, append-nil, arith}
 use Rattle.std.proofs.lemmas.List.Elements.{All-weaker}
 use Rattle.std.specs.Map.{keys_of}
 use Rattle.kq_model.specs.declared.change.Change.{Change}
@@ -23,11 +23,12 @@ use Rattle.kq_model.specs.System.{born}
 use Rattle.kq_model.specs.Tallied.{Live, System, World}
 use Rattle.kq_model.specs.Targets.{Posted}
 use Rattle.kq_model.specs.World.{Call, Plan, Planned, Impossible, Possible, idle, named_by, views_of}
+use Rattle.kq_model.proofs.SeenWorld.{seen-counted}
 use Rattle.kq_process.specs.declared.effect.Effect.{Effect}
 use Rattle.kq_process.specs.declared.world.World as code
-use Rattle.kq_process.specs.Effects.{IsEffectOf, pairs_in, world_after}
+use Rattle.kq_process.specs.Effects.{IsEffectOf, IsPossible, pairs_in, world_after}
 use Rattle.kq_process.specs.World.{world_of}
-use Rattle.kq_system.specs.SystemState.{AreOfVersion, AreUpTo, HaveStayed, IsLawful, IsPlain, IsStep, NumberedKqueue, call_plan, happened_to_all, live_of}
+use Rattle.kq_system.specs.SystemState.{AreOfVersion, AreUpTo, HaveStayed, IsImpossible, IsLawful, IsPlain, IsStep, NumberedKqueue, call_plan, happened_to_all, live_of}
 use Rattle.kq_system.proofs.CallLemmas.{up_to_more}
 use Rattle.kq_system.proofs.SystemLemmas.{HasDone, done, impossible, told}
 
@@ -183,3 +184,33 @@ possible_kqueue pid fd w p e =
       absent = absent.0;
       plan_is = sym (same_plan (record idle { born = Some (record { pid = pid; number = fd }) }) p absent.1);
     }
+
+-- ---- where memory is refused
+
+pub opens_possible : (pid fd : ℕ) (w : World) → is_live pid w.processes ≡ true → is_some (named_by pid fd w) ≡ false
+    → IsPossible (plan_kqueue pid fd w)
+unfolding plan_kqueue
+opens_possible pid fd w live absent = rw (live, absent) tt
+
+pub kqueue_possible : (place pid fd : ℕ) (e : Event) (w : World) → e ≡ event.Kqueue pid fd
+    → IsPossible (plan_kqueue pid fd w) → IsPossible (plan place e w)
+kqueue_possible place pid fd e w is possible =
+    subst IsPossible (sym (ap (λ (x : Event). plan place x w) is ∙ kqueue_plan place pid fd w)) possible
+
+pub call_possible : (place pid fd room : ℕ) (changes : List Change) (w : World) (effect : Effect)
+    → IsEffectOf (plan_kevent pid fd changes room w) effect → IsOk effect.verdict
+    → IsPossible (plan place (event.Kevent pid fd changes room) w)
+call_possible place pid fd room changes w effect is ok =
+    let d = done (plan_kevent pid fd changes room w) effect is ok in
+    subst IsPossible (sym (kevent_plan place pid fd room changes w ∙ d.is)) tt
+
+not_possible : (planned : Planned) (why : Why) → planned ≡ Impossible why → IsPossible planned → ⊥
+not_possible planned why is possible = subst IsPossible is possible
+
+-- an impossible event is answered
+pub answered : {T E : Type 0} (r : Result T E) (place : ℕ) (e : Event) (s : System)
+    → OnErr r (IsPossible (plan place e s.world)) → IsImpossible place e s → IsOk r
+answered (Ok x) place e s possible impossible = refl
+answered (Err x) place e s possible impossible =
+    absurd (not_possible (plan place e s.world) impossible.0
+    (ap (plan place e) (sym (seen-counted s.world)) ∙ impossible.1) possible)

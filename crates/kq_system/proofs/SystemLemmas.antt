@@ -25,10 +25,10 @@ use Rattle.kq_system.proofs.QuietLemmas.{lived_none, none_closed}
 
 -- ---- steps by their plans
 
-abbrev StepsBy : ℕ → Planned → System → System → Reply → Type 0
+abbrev pub StepsBy : ℕ → Planned → System → System → Reply → Type 0
 StepsBy place p old new r = (new ≡ (step_by place p old).system) × (r ≡ (step_by place p old).reply)
 
-by_plan : (place : ℕ) (e : Event) (p : Planned) (old new : System) (r : Reply) → plan place e old.world ≡ p
+pub by_plan : (place : ℕ) (e : Event) (p : Planned) (old new : System) (r : Reply) → plan place e old.world ≡ p
     → StepsBy place p old new r → IsStep place e old new r
 unfolding step
 by_plan place e p old new r is steps =

@@ -1,10 +1,13 @@
 -- The system of the code as contracts see it, and how its tables stand for the model's lists.
-use Rattle.std.specs.Prelude.{◌≡◌, ◌==◌, ◌+◌, ◌≤◌, ℕ, Bool, true, not, List, [], ◌∷◌, map, filter, Some, None, All}
+use Rattle.std.specs.Prelude.{◌≡◌, ◌==◌, ◌+◌, ◌≤◌, ℕ, Bool, true, false, not, List, [], ◌∷◌, map, filter, Option, Some, None, All}
 use Rattle.std.specs.List.{list_any}
 use Rattle.std.specs.Map.{keys_of}
 use Rattle.kq_kevent.specs.Owned.{OwnedKqueue}
 use Rattle.kq_model.specs.declared.event.Event.{Event}
+use Rattle.kq_model.specs.declared.event.Event.TheVariants as event
 use Rattle.kq_model.specs.declared.reply.Reply.{Reply}
+use Rattle.kq_model.specs.declared.why.Why.{Why}
+use Rattle.kq_model.specs.Clock.{Span, clocked}
 use Rattle.kq_model.specs.Close.{Pair, IsNotClosed, closed, has_pair}
 use Rattle.kq_model.specs.CountedWorld.{IsCountedWorld}
 use Rattle.kq_model.specs.Hints.{notified}
@@ -16,7 +19,7 @@ use Rattle.kq_model.specs.System as system
 use Rattle.kq_model.specs.Tallied.{Live, System, World}
 use Rattle.kq_model.specs.Targets.{Posted}
 use Rattle.kq_model.specs.Views.{Views}
-use Rattle.kq_model.specs.World.{Call, Plan, Possible, idle, seen_world}
+use Rattle.kq_model.specs.World.{Call, Plan, Impossible, Possible, idle, seen_world}
 use Rattle.kq_process.specs.declared.world.World as code
 use Rattle.kq_process.specs.World.{world_of}
 
@@ -61,6 +64,10 @@ abbrev pub IsStep : ℕ → Event → System → System → Reply → Type 0
 IsStep place event old new reply =
     (new ≡ (system.step place event old).system) × (reply ≡ (system.step place event old).reply)
 
+-- the event can't happen at this place in this system
+abbrev pub IsImpossible : ℕ → Event → System → Type 0
+IsImpossible place event old = (why : Why) × (plan place event (seen_world old.world) ≡ Impossible why)
+
 -- the kqueue has no READ, WRITE or VNODE knote of one of these numbers of its process
 abbrev pub HasNoneOf : List Pair → Live → Type 0
 HasNoneOf pairs l = HaveSubjects (IsNotClosed l.owner pairs) l.kq.knotes
@@ -99,6 +106,10 @@ pub record IsQuiet (m : Moment) : Type 0 where
 -- a kqueue that goes on and is not called: closes, then hints
 abbrev pub happened_to : List Pair → List Posted → Views → Live → Live
 happened_to pairs hints views l = record l { kq = notified views hints (closed l.owner pairs l.kq) }
+
+-- one whose clock goes on by this span
+abbrev pub ticked : Span → Live → Live
+ticked span l = record l { kq = clocked (Some span) l.kq }
 
 -- one whose own number is closed ends
 abbrev pub goes_on : List Pair → Live → Bool

@@ -4,8 +4,9 @@ ghost use Rattle.std.specs.Map.{keys_of};
 ghost use Rattle.indexmap.specs.IndexMap.{get, spare};
 ghost use Rattle.kq_model.specs.Moment.{Moment};
 ghost use Rattle.kq_model.specs.System.{born};
+ghost use Rattle.kq_model.specs.Ticks.{last_moment};
 ghost use Rattle.kq_process.specs.Effects.{pairs_in};
-ghost use Rattle.kq_system.specs.SystemState.{live_of, AreOfVersion, AreUpTo, HaveStayed, IsCalled, IsLive, IsQuiet, happened_to_all};
+ghost use Rattle.kq_system.specs.SystemState.{live_of, AreOfVersion, AreUpTo, HaveStayed, IsCalled, IsLive, IsQuiet, happened_to_all, ticked};
 
 use crate::live::Live;
 use indexmap::IndexMap;
@@ -29,6 +30,18 @@ pub fn happen_to_all<V: Views>(
         return;
     }
     live.retain(|_, one| one.happen(pairs, hints, views));
+}
+
+/// The clock goes on for all kqueues. It takes no memory; a kqueue in which no timer expires until
+/// then costs a look at the moment when the next one does.
+pub fn tick_all(live: &mut IndexMap<u64, Live>, from: u64, to: u64)
+    requires ordered { from ≤ to }
+    requires within { to ≤ last_moment }
+    ensures ticked { map live_of live.new.entries
+        ≡ map (ticked (record { from = from; to = to })) (map live_of live.old.entries) }
+    ensures stayed { HaveStayed live.old.entries live.new.entries }
+{
+    live.retain(|_, one| one.tick(from, to));
 }
 
 /// Whether nothing is closed and nobody is told.
@@ -66,6 +79,7 @@ pub fn call_on<V: Views>(
 pub fn reserve_one(live: &mut IndexMap<u64, Live>, wanted: bool) -> Result<(), Memory>
     ensures entries { live.new.entries ≡ live.old.entries }
     ensures room { OnOk result (wanted ≡ true → 0 < spare live.new) }
+    ensures memory { OnErr result (wanted ≡ true) }
 {
     if wanted {
         live.reserve(1).map_err(|_| Memory)?;

@@ -1,7 +1,7 @@
-ghost use Rattle.std.specs.Prelude.{◌≡◌, ◌+◌, ◌-◌, ◌^◌, ◌<◌, ℕ, true, None, Some, IfOk, IfSome, OnErr, OnOk};
+ghost use Rattle.std.specs.Prelude.{◌≡◌, ◌+◌, ◌-◌, ◌^◌, ◌<◌, ℕ, true, None, Some, IfOk, IfSome, IsOk, OnErr, OnOk};
 ghost use Rattle.kq_model.specs.declared.object.Named.TheVariants as named_as;
 
-use crate::all_live::{bear, call_on, happen_to_all, reserve_one};
+use crate::all_live::{bear, call_on, happen_to_all, reserve_one, tick_all};
 use crate::live::Live;
 use indexmap::IndexMap;
 use kq_model::{Change, Event, Memory, Named, Reply};
@@ -73,14 +73,16 @@ fn kqueue_named(named: Option<Named>) -> Option<u64>
 impl System {
     ghost use Rattle.kq_model.specs.declared.event.Event.TheVariants as event_of;
     ghost use Rattle.kq_model.specs.DescriptorPlans.{plan_kqueue};
+    ghost use Rattle.kq_model.specs.Plans.{plan};
     ghost use Rattle.kq_model.specs.World.{Plan, Possible};
+    ghost use Rattle.kq_process.specs.Effects.{IsPossible};
     ghost use Rattle.kq_process.specs.World.{world_of};
-    ghost use Rattle.kq_system.specs.SystemState.{ClosesAll, IsPlain, IsStep, IsUnchanged, system_of};
+    ghost use Rattle.kq_system.specs.SystemState.{ClosesAll, IsImpossible, IsPlain, IsStep, IsUnchanged, system_of};
 
     /// Applies one event, and gives the reply to it. A record that is possible changes the world, then
     /// closes, then tells the knotes, which see the world after the whole record.
     ///
-    /// After [`Memory`] nothing has changed.
+    /// After [`Memory`] nothing has changed; a record that is impossible takes no memory.
     pub fn apply(&mut self, event: &Event) -> Result<Reply, Memory>
         requires { self.old.applied < 2 ^ 31 - 1 }
         ensures reply { IfOk result
@@ -91,6 +93,7 @@ impl System {
             (ClosesAll (self.old.applied + 1) event.now (system_of self.old) (system_of self.new)) }
         ensures applied { IfOk result (λ _. self.new.applied ≡ self.old.applied + 1) }
         ensures memory { OnErr result (IsUnchanged self.old self.new) }
+        ensures impossible { IsImpossible (self.old.applied + 1) event.now (system_of self.old) → IsOk result }
     {
         self.step(event)
     }
@@ -101,6 +104,7 @@ impl System {
             (IsStep (self.old.applied + 1) event.now (system_of self.old) (system_of self.new)) }
         ensures applied { IfOk result (λ _. self.new.applied ≡ self.old.applied + 1) }
         ensures memory { OnErr result (IsUnchanged self.old self.new) }
+        ensures possible { OnErr result (IsPossible (plan (self.old.applied + 1) event.now (world_of self.old.world))) }
     {
         match event {
             Event::Kqueue { pid, fd } => self.open(event, *pid, *fd),
@@ -110,11 +114,34 @@ impl System {
                 changes,
                 room,
             } => self.call(*pid, *fd, changes.as_slice(), *room),
+            Event::Clock { ns } => self.tick(event, *ns),
             _ => self.happen(event),
         }
     }
 
-    /// A record that opens no kqueue and calls none.
+    /// The clock goes on to a moment, in nanoseconds, and the timers ring that expire until then.
+    fn tick(&mut self, event: &Event, moment: i64) -> Result<Reply, Memory>
+        requires applied { self.old.applied < 2 ^ 31 - 1 }
+        requires event { event.now ≡ event_of.Clock moment }
+        ensures reply { IfOk result
+            (IsStep (self.old.applied + 1) event.now (system_of self.old) (system_of self.new)) }
+        ensures applied { IfOk result (λ _. self.new.applied ≡ self.old.applied + 1) }
+        ensures memory { OnErr result (IsUnchanged self.old self.new) }
+        ensures possible { OnErr result (IsPossible (plan (self.old.applied + 1) event.now (world_of self.old.world))) }
+    {
+        let place = self.applied + 1;
+        let from = self.world.now();
+        let effect = self.world.apply(place, event)?;
+        self.applied = place;
+        if let Err(why) = effect.verdict {
+            return Ok(Reply::Impossible(why));
+        }
+        let to = self.world.now();
+        tick_all(&mut self.live, from, to);
+        Ok(Reply::Done)
+    }
+
+    /// A record that opens no kqueue, calls none and does not move the clock.
     fn happen(&mut self, event: &Event) -> Result<Reply, Memory>
         requires applied { self.old.applied < 2 ^ 31 - 1 }
         requires plain { IsPlain event.now }
@@ -122,6 +149,7 @@ impl System {
             (IsStep (self.old.applied + 1) event.now (system_of self.old) (system_of self.new)) }
         ensures applied { IfOk result (λ _. self.new.applied ≡ self.old.applied + 1) }
         ensures memory { OnErr result (IsUnchanged self.old self.new) }
+        ensures possible { OnErr result (IsPossible (plan (self.old.applied + 1) event.now (world_of self.old.world))) }
     {
         let place = self.applied + 1;
         let effect = self.world.apply(place, event)?;
@@ -140,7 +168,8 @@ impl System {
 
     /// Whether the process is live and the number is not open.
     fn can_open(&self, pid: u32, number: u32) -> bool
-        ensures { (p : Plan) → plan_kqueue pid number (world_of self.now.world) ≡ Possible p → result ≡ true }
+        ensures opens { (p : Plan) → plan_kqueue pid number (world_of self.now.world) ≡ Possible p → result ≡ true }
+        ensures possible { result ≡ true → IsPossible (plan_kqueue pid number (world_of self.now.world)) }
     {
         self.world.is_live(pid) && self.world.descriptor(pid, number).is_none()
     }
@@ -153,6 +182,7 @@ impl System {
             (IsStep (self.old.applied + 1) event.now (system_of self.old) (system_of self.new)) }
         ensures applied { IfOk result (λ _. self.new.applied ≡ self.old.applied + 1) }
         ensures memory { OnErr result (IsUnchanged self.old self.new) }
+        ensures possible { OnErr result (IsPossible (plan (self.old.applied + 1) event.now (world_of self.old.world))) }
     {
         let place = self.applied + 1;
         let opens = self.can_open(pid, number);
@@ -179,6 +209,8 @@ impl System {
             (event_of.Kevent pid number changes.now room) (system_of self.old) (system_of self.new)) }
         ensures applied { IfOk result (λ _. self.new.applied ≡ self.old.applied + 1) }
         ensures memory { OnErr result (IsUnchanged self.old self.new) }
+        ensures possible { OnErr result (IsPossible (plan (self.old.applied + 1)
+            (event_of.Kevent pid number changes.now room) (world_of self.old.world))) }
     {
         let place = self.applied + 1;
         let effect = self.world.kevent(pid, number, changes, room);

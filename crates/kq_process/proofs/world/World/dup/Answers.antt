@@ -2,9 +2,10 @@ use Rattle.std.proofs.Common.{◌≡◌, ◌==◌, true, false, Option, Some, No
 use Rattle.std.proofs.lemmas.Bool.Decides.{nat_tests}
 use Rattle.kq_model.specs.World.{Planned, Possible, named_by}
 use Rattle.kq_model.specs.DescriptorPlans.{plan_dup}
-use Rattle.kq_process.specs.Effects.{IsEffectOf, world_after}
+use Rattle.kq_process.specs.Effects.{IsEffectOf, IsPossible, world_after}
 use Rattle.kq_process.specs.Processes.{table_of}
 use Rattle.kq_process.specs.World.{world_of, sharing}
+use Rattle.kq_process.proofs.Planned.{held_anyway}
 use Rattle.kq_process.proofs.Shared.{dup_same, dup_other, idle_world}
 use Rattle.kq_process.proofs.Sound.{named-there}
 use Rattle.kq_process.proofs.world.World.dup.Goals as goal
@@ -55,6 +56,7 @@ returns-in-None c =
       effect = subst Given (sym is) c.share.ensures.effect;
       world = λ place. subst (After place) (sym is) (c.share.ensures.world place);
       memory = c.share.ensures.memory;
+      possible = held_anyway (IsPossible (plan_dup c.args.pid c.args.fd c.args.to w)) c.share.result (subst IsPossible (sym is) tt);
     }
 
 pub returns-in-Some : goal.returns-in-Some
@@ -71,4 +73,5 @@ returns-in-Some c =
       effect = subst Given (sym is) c.replace.ensures.effect;
       world = λ place. subst (After place) (sym is) (c.replace.ensures.world place);
       memory = c.replace.ensures.memory;
+      possible = held_anyway (IsPossible (plan_dup c.args.pid c.args.fd c.args.to w)) c.replace.result (subst IsPossible (sym is) tt);
     }

@@ -2,6 +2,7 @@ use Rattle.std.proofs.Common.{◌+◌}
 use Rattle.std.proofs.lemmas.Result.{IfOk-weaker}
 use Rattle.kq_system.specs.SystemState.{system_of}
 use Rattle.kq_system.proofs.ClosedLemmas.{closes_all}
+use Rattle.kq_system.proofs.StepLemmas.{answered}
 use Rattle.kq_system.proofs.system.System.apply.Goals as goal
 
 pub returns-clause-closed : goal.returns-clause-closed
@@ -9,3 +10,8 @@ returns-clause-closed c =
     IfOk-weaker c.step.result _ _ (λ r steps.
     closes_all (c.args.self.now.applied + 1) c.args.event.now (system_of c.args.self.now) (system_of c.step.new.self) r
     steps) c.step.ensures.reply
+
+pub returns-clause-impossible : goal.returns-clause-impossible
+returns-clause-impossible c =
+    answered c.step.result (c.args.self.now.applied + 1) c.args.event.now (system_of c.args.self.now)
+    c.step.ensures.possible

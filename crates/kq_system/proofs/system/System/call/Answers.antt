@@ -10,11 +10,13 @@ use Rattle.kq_model.specs.Plans.{plan}
 use Rattle.kq_model.specs.Tallied.{Live, System, World}
 use Rattle.kq_model.specs.World.{Call, Plan, Possible, named_by}
 use Rattle.kq_model.proofs.LiveKqueues.{named_among-live}
+use Rattle.kq_process.specs.Effects.{IsPossible}
 use Rattle.kq_process.specs.World.{world_of}
+use Rattle.kq_process.proofs.Planned.{held_anyway}
 use Rattle.kq_system.specs.SystemState.{AreOfVersion, IsLawful, IsLive, IsStep, SystemState, call_plan, live_of, state_of, system_of}
 use Rattle.kq_system.proofs.CallLemmas.{live_by_place}
 use Rattle.kq_system.proofs.HappenLemmas.{stayed_same}
-use Rattle.kq_system.proofs.StepLemmas.{IsOn, call_planned, counted_later, kevent_plan, lawful_after, lawful_same, possible_call}
+use Rattle.kq_system.proofs.StepLemmas.{IsOn, call_planned, call_possible, counted_later, kevent_plan, lawful_after, lawful_same, possible_call}
 use Rattle.kq_system.proofs.SystemLemmas.{HasDone, call_of, called, called_views, done, impossible, quiet_call, refused, stays_live, version_of}
 use Rattle.kq_system.proofs.system.System.call.Goals as goal
 
@@ -104,3 +106,13 @@ returns-clause-reply c =
     subst (λ (now : SystemState). IsStep (now.applied + 1) e (system_of now)
     (record (system_of s) { live = map live_of c.call_on.new.live.entries }) c.in_ok-reply.reply) c.self.view_is
     (called place e call (system_of s) (map live_of c.call_on.new.live.entries) c.in_ok-reply.reply planned does)
+
+pub returns-in_err-reply-clause-possible : goal.returns-in_err-reply-clause-possible
+returns-in_err-reply-clause-possible c =
+    let old = c.self.inside in
+    let e : Event = Kevent c.args.pid c.args.number c.args.changes.now c.args.room in
+    let ok : IsOk c.kevent-effect.result.verdict = subst IsOk (sym c.in_default.is) refl in
+    let Possible_at : SystemState → Type 0 = λ s. IsPossible (plan (s.applied + 1) e (world_of s.world)) in
+    held_anyway (Possible_at c.args.self.now) c.from_residual.result (subst Possible_at c.self.view_is
+    (call_possible (old.applied + 1) c.args.pid c.args.number c.args.room c.args.changes.now (world_of old.world)
+    c.kevent-effect.result c.kevent-effect.ensures.effect ok))

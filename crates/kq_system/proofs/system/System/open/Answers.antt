@@ -7,12 +7,13 @@ use Rattle.kq_model.specs.Plans.{plan}
 use Rattle.kq_model.specs.System.{born}
 use Rattle.kq_model.specs.Tallied.{Live, System, World}
 use Rattle.kq_model.specs.World.{Plan, Planned, Possible}
-use Rattle.kq_process.specs.Effects.{world_after}
+use Rattle.kq_process.specs.Effects.{IsPossible, world_after}
 use Rattle.kq_process.specs.World.{world_of}
+use Rattle.kq_process.proofs.Planned.{held_anyway}
 use Rattle.kq_system.specs.SystemState.{AreOfVersion, AreUpTo, IsLawful, IsStep, NumberedKqueue, SystemState, live_of, state_of, system_of}
 use Rattle.kq_system.proofs.CallLemmas.{not_born, up_to_more}
 use Rattle.kq_system.proofs.HappenLemmas.{stayed_same}
-use Rattle.kq_system.proofs.StepLemmas.{Opens, kqueue_plan, lawful_after, possible_kqueue, refused_step}
+use Rattle.kq_system.proofs.StepLemmas.{Opens, kqueue_plan, kqueue_possible, lawful_after, possible_kqueue, refused_step}
 use Rattle.kq_system.proofs.SystemLemmas.{HasDone, done, opened, refused, stays_live}
 use Rattle.kq_system.proofs.system.System.open.Goals as goal
 
@@ -61,7 +62,7 @@ bear-requires-clause-room c =
     let p = d.plan_is in
     let here = ap (λ (x : Event). plan place x w) c.requires.event ∙ kqueue_plan place c.args.pid c.args.number w in
     let planned : plan_kqueue c.args.pid c.args.number w ≡ Possible p = sym here ∙ d.is in
-    c.in_ok-reserve_one.ensures.room (c.can_open-opens.ensures p
+    c.in_ok-reserve_one.ensures.room (c.can_open-opens.ensures.opens p
     (subst (λ (now : SystemState). plan_kqueue c.args.pid c.args.number (world_of now.world) ≡ Possible p)
     c.self.view_is planned))
 
@@ -128,3 +129,10 @@ returns-clause-reply c =
       world = world_of c.apply.new.self;
       live = map live_of c.bear.new.live.entries;
     }) reply.Done) c.self.view_is steps
+
+pub returns-in_err-reserve_one-clause-possible : goal.returns-in_err-reserve_one-clause-possible
+returns-in_err-reserve_one-clause-possible c =
+    let now = c.args.self.now in
+    held_anyway (IsPossible (plan (now.applied + 1) c.args.event.now (world_of now.world))) c.from_residual.result
+    (kqueue_possible (now.applied + 1) c.args.pid c.args.number c.args.event.now (world_of now.world) c.requires.event
+    (c.can_open-opens.ensures.possible c.in_err-reserve_one.ensures.memory))
