@@ -1,8 +1,8 @@
-ghost use Rattle.std.specs.Prelude.{◌≡◌, ◌<◌, ◌≤◌, ◌+◌, ◌∷◌, Some, [], min, nat_le, if◌then◌else◌};
+ghost use Rattle.std.specs.Prelude.{◌≡◌, ℕ, ◌<◌, ◌≤◌, ◌+◌, ◌∷◌, Some, [], min, nat_le, if◌then◌else◌};
 ghost use Rattle.kq_model.specs.Clock.{clocked};
 ghost use Rattle.kq_model.specs.Hearing.{listed};
 ghost use Rattle.kq_model.specs.Knote.{find_knote};
-ghost use Rattle.kq_model.specs.Kqueue.{Kqueue};
+ghost use Rattle.kq_model.specs.Kqueue.{IsSound, Kqueue};
 ghost use Rattle.kq_model.specs.Recast as recast;
 ghost use Rattle.kq_model.specs.Ticks.{last_moment};
 ghost use Rattle.kq_model.specs.Views as world;
@@ -42,6 +42,11 @@ impl Kq {
         // and the queue keeps what it has.
         ensures laws { IsClocked from to self.old.kq self.new.kq }
 
+        // Any moment between may be stopped at: so the expirations of many steps add up.
+        ensures steps { (between : ℕ) → from ≤ between → between ≤ to
+            → self.new.kq ≡ clocked (Some (record { from = between; to = to }))
+            (clocked (Some (record { from = from; to = between })) self.old.kq) }
+
         // The same in the words of the definitions, which keep all that was heard.
         ensures model { (m : Kqueue listed) → self.old.kq ≡ recast.tallied m
             → self.new.kq ≡ recast.tallied (clocked (Some (record { from = from; to = to })) m) }
@@ -74,6 +79,7 @@ impl Kq {
 
     /// All timers ring that expire, in the order of their first expirations.
     fn ring_all(&mut self, from: u64, to: u64)
+        requires sound { IsSound self.old.kq }
         requires ordered { from ≤ to }
         requires within { to ≤ last_moment }
         ensures kq { self.new.kq ≡ clocked (Some (record { from = from; to = to })) self.old.kq }

@@ -1,6 +1,4 @@
-use Rattle.std.proofs.Common.{refl, sym, ap, ◌∙◌, subst, arith}
-use Rattle.kq_model.specs.Kqueue.{IsSound, HaveOwnKeys}
-use Rattle.kq_kevent.specs.Owned.{OwnedKqueue}
+use Rattle.std.proofs.Common.{refl, sym, ap, ◌∙◌, arith}
 use Rattle.kq_kevent.specs.Ringing.{rung_each}
 use Rattle.kq_kevent.proofs.ClockLaws.{ringing-none, rung-next-at, all-clocked}
 use Rattle.kq_kevent.proofs.kq.Kq.ring_all.Goals as goal
@@ -27,7 +25,7 @@ loop-moment-preserved c =
     let to = c.args.to in
     let moment = c.loop-moment.moment in
     let next = c.next_moment-moment-in-loop-moment in
-    let own = subst (λ (v : OwnedKqueue). HaveOwnKeys v.kq.knotes) c.self.view_is c.self.invariant.sound.own_keys in
+    let own = c.requires.sound.own_keys in
     record {
       kq = rung-next-at from to kq own moment next.result c.loop-moment.self.kq c.ring_at.new.self.kq c.loop-moment.invariant.later next.ensures.later
           c.loop-moment.invariant.kq c.ring_at.ensures.kq next.ensures.none;
@@ -42,6 +40,5 @@ loop-moment-preserved c =
 pub returns-clause-kq : goal.returns-clause-kq
 returns-clause-kq c =
     let kq = c.args.self.now.kq in
-    let sound = subst (λ (v : OwnedKqueue). IsSound v.kq) c.self.view_is c.self.invariant.sound in
     c.loop-moment.invariant.kq
-    ∙ all-clocked c.args.from c.args.to kq sound c.requires.ordered c.requires.within c.loop-moment.moment c.loop-moment-test.false c.loop-moment.invariant.bounded
+    ∙ all-clocked c.args.from c.args.to kq c.requires.sound c.requires.ordered c.requires.within c.loop-moment.moment c.loop-moment-test.false c.loop-moment.invariant.bounded
