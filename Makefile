@@ -30,6 +30,7 @@ bench: all
 	cd crates/trace_check && rt run < stdin
 	bench/run $(KQSIM) $(VALUE_COUNT) $(TRACE_CHECK)
 	bench/kevents $(KQSIM)
+	bench/timers $(KQSIM)
 
 install: all
 	install -D -m 755 $(KQSIM) $(DESTDIR)$(PREFIX)/bin/kqsim
