@@ -121,7 +121,10 @@ fn process_refusal<V: Views>(is_new: bool, change: &Change, views: &V) -> Option
 fn names_no_period(change: &Change) -> bool
     ensures { result ≡ is_none (period_of change.now.datum change.now.fflags) }
 {
-    Period::new(change.datum, change.fflags).is_err()
+    match Period::new(change.datum, change.fflags) {
+        Ok(_) => false,
+        Err(_) => true,
+    }
 }
 
 /// With which error a filter refuses an ADD of the process `owner`.

@@ -2,7 +2,7 @@
 use Rattle.std.proofs.Common.{◌≡◌, ℕ, zero, suc, ◌+◌, ◌-◌, ◌<◌, ◌≤◌, min, Bool, true, false, cond, ◌&&◌, Option, None, Some, Result, Ok, Err, refl, sym, ap, ap₂, ◌∙◌, add-zero, arith}
 use Rattle.std.specs.Int.Bits.{or_zero_r}
 use Rattle.std.specs.Int.RustNames.{bit_or}
-use Rattle.std.specs.Option.{ok_or}
+use Rattle.std.specs.Option.{ok_or, is_none}
 use Rattle.kq_model.specs.declared.errno.Errno.{Errno}
 use Rattle.kq_model.specs.ChangedKnote.{period_in}
 use Rattle.kq_model.specs.Clock.{expires_at, timers, expired, ticking}
@@ -86,3 +86,11 @@ pub period-unnamed : (o : Option ℕ) (e x : Errno) → Err x ≡ ok_or o e → 
 unfolding period_in
 period-unnamed None e x is = refl
 period-unnamed (Some n) e x is = absurd (cc)
+
+pub period-some : (o : Option ℕ) (e : Errno) (p : ℕ) → Ok p ≡ ok_or o e → false ≡ is_none o
+period-some None e p is = absurd (cc)
+period-some (Some n) e p is = refl
+
+pub period-none : (o : Option ℕ) (e x : Errno) → Err x ≡ ok_or o e → true ≡ is_none o
+period-none None e x is = refl
+period-none (Some n) e x is = absurd (cc)
