@@ -141,6 +141,16 @@ def signals(path, kevents, records):
         by_turns(file, ['{"op":"sig","pid":1,"sig":%d}\n' % it for it in heard], records - calls_setup(kevents))
 
 
+def timers(path, count, records, period, longer, step):
+    """Writes a trace in which the clock goes on by `step` ns a record; so many timers have periods from `period` ns on,
+    each `longer` ns longer than the last."""
+    changes = ['{"ident":%d,"filter":"TIMER","flags":["ADD"],"fflags":8,"data":%d}' % (it, period + it * longer) for it in range(count)]
+    with open(path, "w", encoding="ascii") as file:
+        file.write('{"kqsim":1}\n{"op":"proc","pid":1}\n{"op":"kqueue","pid":1,"fd":9}\n' + "".join(in_calls(changes)))
+        for number in range(1, records - calls_setup(count) + 1):
+            file.write('{"op":"clock","ns":%d}\n' % (number * step))
+
+
 def calls_setup(kevents):
     """How many records register so many kevents, with those of the process and its kqueue."""
     return 2 - (-kevents // CHANGES)

@@ -14,3 +14,7 @@ pub mod CloseLaws
 pub mod TellLaws
 pub mod NotifyLaws
 pub mod NotifiedLaws
+pub mod RingLaws
+pub mod ClockLaws
+pub mod RingWalk
+pub mod ClockedLaws

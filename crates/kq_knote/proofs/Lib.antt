@@ -4,3 +4,5 @@ pub mod IndexLaws
 pub mod TargetLaws
 pub mod WalkLaws
 pub mod GatherLaws
+pub mod TimerLaws
+pub mod QuietLaws

@@ -28,7 +28,7 @@ unfolding row_after
 after-later key x ks apart = ap (λ b. cond b (slice_get ks 0) (after key ks)) apart
 
 -- next after a knote in the middle comes the one behind it
-after-middle : (past : List Knote) (k : Knote) (ks : List Knote) → find_knote k.key past ≡ None → after k.key (past ++ k ∷ ks) ≡ slice_get ks 0
+pub after-middle : (past : List Knote) (k : Knote) (ks : List Knote) → find_knote k.key past ≡ None → after k.key (past ++ k ∷ ks) ≡ slice_get ks 0
 after-middle [] k ks absent = after-here k ks
 after-middle (x ∷ past) k ks absent =
     after-later k.key x (past ++ k ∷ ks) (find_knote-head k.key x past absent)

@@ -1,2 +1,3 @@
 pub mod Reserved
 pub mod Index
+pub mod Quiet

@@ -7,6 +7,7 @@ mod hinted;
 mod knote;
 mod knotes;
 mod tally;
+mod timers;
 
 pub use knote::Knote;
 pub use knotes::Knotes;

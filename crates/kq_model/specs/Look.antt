@@ -24,6 +24,7 @@ is_simulated Write = true
 is_simulated Vnode = true
 is_simulated Proc = true
 is_simulated Signal = true
+is_simulated Timer = true
 is_simulated User = true
 is_simulated _ = false
 

@@ -2,7 +2,6 @@
 use Rattle.std.proofs.Common.{◌≡◌, ◌∙◌, ◌+◌, ◌≤◌, ◌++◌, ◌||◌, ◌&&◌, ℕ, Bool, true, false, not, cond, List, [], ◌∷◌, map, length, nat_lt, nat_eq, Option, None, Some, Result, Ok, Err, IsOk, OnErr, is_some, refl, sym, ap, ap₂, subst, append-nil, arith}
 use Rattle.std.proofs.lemmas.List.Elements.{All-weaker}
 use Rattle.std.specs.Map.{keys_of}
-use Rattle.std.specs.Prelude.{All}
 use Rattle.kq_model.specs.declared.change.Change.{Change}
 use Rattle.kq_model.specs.declared.event.Event.{Event}
 use Rattle.kq_model.specs.declared.event.Event.TheVariants as event
@@ -30,7 +29,7 @@ use Rattle.kq_process.specs.declared.effect.Effect.{Effect}
 use Rattle.kq_process.specs.declared.world.World as code
 use Rattle.kq_process.specs.Effects.{IsEffectOf, IsPossible, pairs_in, world_after}
 use Rattle.kq_process.specs.World.{world_of}
-use Rattle.kq_system.specs.SystemState.{AreOfVersion, AreUpTo, HasNoTimer, HaveStayed, IsImpossible, IsLawful, IsPlain, IsStep, NumberedKqueue, call_plan, happened_to_all, live_of}
+use Rattle.kq_system.specs.SystemState.{AreOfVersion, AreUpTo, HaveStayed, IsImpossible, IsLawful, IsPlain, IsStep, NumberedKqueue, call_plan, happened_to_all, live_of}
 use Rattle.kq_system.proofs.CallLemmas.{up_to_more}
 use Rattle.kq_system.proofs.SystemLemmas.{HasDone, done, impossible, told}
 
@@ -49,15 +48,13 @@ pub lawful_after : (version applied : ℕ) (w w' : code.World) (es es' : List (�
     → IsLawful version applied w es → HaveStayed es es'
     → AreAllLive (record { version = version; world = world_of w'; live = map live_of es' })
     → AllWatchTheirNumbers (record { version = version; world = world_of w'; live = map live_of es' })
-    → All HasNoTimer (map live_of es')
     → IsCountedWorld (applied + 1 + 1) (world_of w') → IsLawful version (applied + 1) w' es'
-lawful_after version applied w w' es es' old stayed live watched timerless counted = record {
+lawful_after version applied w w' es es' old stayed live watched counted = record {
   version_one = old.version_one;
   of_version = stayed.of_version version old.of_version;
   born = stayed.up_to (applied + 1) (up_to_more applied (applied + 1) (keys_of es) (omega arith) old.born);
   all_live = live;
   watched = watched;
-  timerless = timerless;
   counted = counted;
 }
 
@@ -74,7 +71,6 @@ lawful_unchanged version applied w w' es es' old same entries =
       watched =
           subst (λ (v : World). AllWatchTheirNumbers (record { version = version; world = v; live = map live_of es }))
           (sym same) old.watched;
-      timerless = old.timerless;
       counted = subst (λ (v : World). IsCountedWorld (applied + 1) v) (sym same) old.counted;
     })
 
@@ -91,7 +87,6 @@ lawful_same version applied w es es' old stayed same = record {
   watched = subst (λ (ls : List Live). AllWatchTheirNumbers
       (record { version = version; world = world_of w; live = ls }))
       (sym same) old.watched;
-  timerless = subst (λ (ls : List Live). All HasNoTimer ls) (sym same) old.timerless;
   counted = old.counted;
 }
 

@@ -1,18 +1,16 @@
 -- The system of the code as contracts see it, and how its tables stand for the model's lists.
-use Rattle.std.specs.Prelude.{◌≡◌, ◌==◌, ◌+◌, ◌≤◌, ℕ, Bool, true, false, not, List, [], ◌∷◌, map, filter, Option, Some, None, All}
+use Rattle.std.specs.Prelude.{◌≡◌, ◌==◌, ◌+◌, ◌≤◌, ℕ, Bool, true, false, not, List, [], ◌∷◌, map, filter, Option, Some, None}
 use Rattle.std.specs.List.{list_any}
 use Rattle.std.specs.Map.{keys_of}
 use Rattle.kq_kevent.specs.Owned.{OwnedKqueue}
 use Rattle.kq_model.specs.declared.event.Event.{Event}
 use Rattle.kq_model.specs.declared.event.Event.TheVariants as event
-use Rattle.kq_model.specs.declared.filter.Filter.{Filter}
-use Rattle.kq_model.specs.declared.object.Target.{Target}
 use Rattle.kq_model.specs.declared.reply.Reply.{Reply}
 use Rattle.kq_model.specs.declared.why.Why.{Why}
+use Rattle.kq_model.specs.Clock.{Span, clocked}
 use Rattle.kq_model.specs.Close.{Pair, closed, has_pair}
 use Rattle.kq_model.specs.CountedWorld.{IsCountedWorld}
 use Rattle.kq_model.specs.Hints.{notified}
-use Rattle.kq_model.specs.Knote.{is_timer}
 use Rattle.kq_model.specs.LiveKqueues.{AreAllLive}
 use Rattle.kq_model.specs.Moment.{Moment}
 use Rattle.kq_model.specs.Plans.{plan}
@@ -75,13 +73,6 @@ IsStep place event old new reply =
 abbrev pub IsImpossible : ℕ → Event → System → Type 0
 IsImpossible place event old = (why : Why) × (plan place event (seen_world old.world) ≡ Impossible why)
 
-abbrev pub NoTimer : Filter → ℕ → Option Target → Type 0
-NoTimer filter ident target = is_timer filter ≡ false
-
--- no knote of the kqueue is a TIMER
-abbrev pub HasNoTimer : Live → Type 0
-HasNoTimer l = HaveSubjects NoTimer l.kq.knotes
-
 -- the plan of a call, and of nothing else
 abbrev pub call_plan : Call → Plan
 call_plan c = record idle { call = Some c }
@@ -100,11 +91,6 @@ pub record IsPlain (event : Event) : Type 0 where
   pub born : (place : ℕ) (w : World) (p : Plan) → plan place event w ≡ Possible p → p.born ≡ None
   pub clock : (place : ℕ) (w : World) (p : Plan) → plan place event w ≡ Possible p → p.clock ≡ None
 
--- the record moves the clock
-abbrev pub IsClock : Event → Type 0
-IsClock (event.Clock ns) = Unit {0}
-IsClock _ = ⊥
-
 -- ---- what a record does to the kqueues
 
 -- a moment without closes, hints and clock
@@ -116,6 +102,10 @@ pub record IsQuiet (m : Moment) : Type 0 where
 -- a kqueue that goes on and is not called: closes, then hints
 abbrev pub happened_to : List Pair → List Posted → Views → Live → Live
 happened_to pairs hints views l = record l { kq = notified views hints (closed l.owner pairs l.kq) }
+
+-- one whose clock goes on by this span
+abbrev pub ticked : Span → Live → Live
+ticked span l = record l { kq = clocked (Some span) l.kq }
 
 -- one whose own number is closed ends
 abbrev pub goes_on : List Pair → Live → Bool
@@ -150,6 +140,5 @@ pub record IsLawful (version applied : ℕ) (world : code.World) (live : List (�
   pub all_live : AreAllLive (record { version = version; world = world_of world; live = map live_of live })
   -- each READ, WRITE or VNODE knote watches what its number names
   pub watched : AllWatchTheirNumbers (record { version = version; world = world_of world; live = map live_of live })
-  pub timerless : All HasNoTimer (map live_of live)
   -- what descriptors name was made by earlier records, and is counted by them
   pub counted : IsCountedWorld (applied + 1) (world_of world)

@@ -4,8 +4,9 @@ ghost use Rattle.std.specs.Map.{keys_of, lookup};
 ghost use Rattle.kq_model.specs.declared.object.Target.TheVariants.{Own};
 ghost use Rattle.kq_model.specs.Moment.{Moment};
 ghost use Rattle.kq_model.specs.System.{born};
+ghost use Rattle.kq_model.specs.Ticks.{last_moment};
 ghost use Rattle.kq_process.specs.Effects.{pairs_in};
-ghost use Rattle.kq_system.specs.SystemState.{live_of, AreOfVersion, AreUpTo, HaveStayed, IsCalled, IsLive, IsQuiet, NumberedKqueue, happened_to_all};
+ghost use Rattle.kq_system.specs.SystemState.{live_of, AreOfVersion, AreUpTo, HaveStayed, IsCalled, IsLive, IsQuiet, NumberedKqueue, happened_to_all, ticked};
 
 use crate::kqueues::Kqueues;
 use crate::live::Live;
@@ -68,6 +69,19 @@ fn next_round(live: usize, round: u64, hints: &[(Target, Hint)]) -> Option<u64>
         }
     }
     round.checked_add(1)
+}
+
+/// The clock goes on for all kqueues. It takes no memory; a kqueue in which no timer expires until
+/// then costs a look at the moment when the next one does.
+pub fn tick_all(live: &mut Kqueues, from: u64, to: u64)
+    requires ordered { from ≤ to }
+    requires within { to ≤ last_moment }
+    ensures ticked { map live_of live.new.entries
+        ≡ map (ticked (record { from = from; to = to })) (map live_of live.old.entries) }
+    ensures stayed { HaveStayed live.old.entries live.new.entries }
+{
+    live.ready = None;
+    live.live.retain(|_, one| one.tick(from, to));
 }
 
 /// Whether nothing is closed and nobody is told.

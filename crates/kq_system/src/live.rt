@@ -1,6 +1,8 @@
-ghost use Rattle.std.specs.Prelude.{◌≡◌, ◌==◌, ◌&&◌, ◌∷◌, [], not, true};
+ghost use Rattle.std.specs.Prelude.{◌≡◌, ◌≤◌, ◌==◌, ◌&&◌, ◌∷◌, [], Some, not, true};
+ghost use Rattle.kq_model.specs.Clock.{clocked};
 ghost use Rattle.kq_model.specs.Close.{closed, has_pair};
 ghost use Rattle.kq_model.specs.Hints.{notified};
+ghost use Rattle.kq_model.specs.Ticks.{last_moment};
 ghost use Rattle.kq_process.specs.Effects.{pair_of, pairs_in};
 ghost use Rattle.kq_system.specs.Showing.{IsPassed};
 
@@ -74,6 +76,24 @@ impl Live {
         self.shown = round;
         self.ended = !goes_on;
         self.ended
+    }
+}
+
+impl Live {
+    /// The clock goes on from one moment to another, in nanoseconds; the kqueue stays.
+    pub fn tick(&mut self, from: u64, to: u64) -> bool
+        requires ordered { from ≤ to }
+        requires within { to ≤ last_moment }
+        ensures stays { result ≡ true }
+        ensures kq { self.new.kq.kq ≡ clocked (Some (record { from = from; to = to })) self.old.kq.kq }
+        ensures number { self.new.number ≡ self.old.number }
+        ensures owner { self.new.kq.owner ≡ self.old.kq.owner }
+        ensures version { self.new.kq.version ≡ self.old.kq.version }
+        ensures shown { self.new.shown ≡ self.old.shown }
+        ensures ended { self.new.ended ≡ self.old.ended }
+    {
+        self.kq.clock(from, to);
+        true
     }
 }
 

@@ -5,4 +5,5 @@ mod program;
 mod streams;
 mod system;
 mod text;
+mod timers;
 mod world;

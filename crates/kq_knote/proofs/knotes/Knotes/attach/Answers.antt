@@ -9,6 +9,7 @@ use Rattle.kq_model.proofs.KnoteLaws.{HaveOwnKeys-append}
 use Rattle.kq_knote.specs.Index.{watch_of, shares}
 use Rattle.kq_knote.specs.Reserved.{Reserved}
 use Rattle.kq_knote.proofs.IndexLaws.{Watching, find-watch, find-shared_none, shared-push, alone-push}
+use Rattle.kq_knote.proofs.QuietLaws.{quiet-attached}
 use Rattle.kq_knote.proofs.RowLaws.{find_row-knotes}
 use Rattle.kq_table.specs.Rows.{find_row}
 use Rattle.kq_knote.proofs.knotes.Knotes.attach.Goals as goal
@@ -39,6 +40,9 @@ invariant_of-self c =
       own_keys = subst HaveOwnKeys (sym c.attach.ensures.rows) (HaveOwnKeys-append ks c.args.knote c.self.invariant.own_keys absent);
       watches = λ whole. c.self.invariant.watches whole ∙ alone-push ks c.args.knote alone
           ∙ ap (λ rest. map watch_of (filter shares rest)) (sym c.attach.ensures.rows);
+      begun = c.self.invariant.begun;
+      quiet = quiet-attached c.self.inside.since c.self.inside.soonest c.first_after.result c.min.result ks c.attach.new.self.rows c.args.knote
+          c.self.invariant.quiet c.first_after.ensures c.min.ensures c.attach.ensures.rows;
     }
 
 pub invariant_of-self-then-room-gt0 : goal.invariant_of-self-then-room-gt0
@@ -54,6 +58,9 @@ invariant_of-self-then-room-gt0 c =
           ∙ ap (λ (ws : List Watching). ws ++ watch_of c.args.knote ∷ []) (c.self.invariant.watches whole)
           ∙ shared-push ks c.args.knote shared
           ∙ ap (λ rest. map watch_of (filter shares rest)) (sym c.attach.ensures.rows);
+      begun = c.self.invariant.begun;
+      quiet = quiet-attached c.self.inside.since c.self.inside.soonest c.first_after.result c.min.result ks c.attach.new.self.rows c.args.knote
+          c.self.invariant.quiet c.first_after.ensures c.min.ensures c.attach.ensures.rows;
     }
 
 pub invariant_of-self-else-self : goal.invariant_of-self-else-self
@@ -64,4 +71,10 @@ invariant_of-self-else-self c =
     record {
       own_keys = subst HaveOwnKeys (sym c.attach.ensures.rows) (HaveOwnKeys-append ks c.args.knote c.self.invariant.own_keys absent);
       watches = λ whole. absurd (true≢false (sym whole));
+      begun = c.self.invariant.begun;
+      quiet = quiet-attached c.self.inside.since c.self.inside.soonest c.first_after.result c.min.result ks c.attach.new.self.rows c.args.knote
+          c.self.invariant.quiet c.first_after.ensures c.min.ensures c.attach.ensures.rows;
     }
+
+pub first_after-requires : goal.first_after-requires
+first_after-requires c = c.self.invariant.begun

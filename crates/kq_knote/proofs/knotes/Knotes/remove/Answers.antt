@@ -6,9 +6,11 @@ use Rattle.kq_model.specs.Kqueue.{HaveOwnKeys}
 use Rattle.kq_model.specs.Tallied.{Knote}
 use Rattle.kq_model.proofs.KnoteLaws.{HaveOwnKeys-without}
 use Rattle.kq_knote.specs.Index.{watch_of, shares}
+use Rattle.kq_knote.specs.Quiet.{AreQuiet}
 use Rattle.kq_knote.specs.Reserved.{Reserved}
 use Rattle.kq_knote.proofs.CountLaws.{limit-without_knote}
 use Rattle.kq_knote.proofs.IndexLaws.{Watching, without-watch}
+use Rattle.kq_knote.proofs.QuietLaws.{quiet-without}
 use Rattle.kq_knote.proofs.RowLaws.{find_row-knotes}
 use Rattle.kq_table.specs.Rows.{without_row}
 use Rattle.kq_table.proofs.FoundLaws.{filter-swap}
@@ -25,6 +27,9 @@ invariant_of-self c =
           ∙ without-watch key_equal.eq-value.it (λ a b. search rules) c.args.key (filter shares ks)
           ∙ ap (map watch_of) (filter-swap (λ (k : Knote). not (key_eq c.args.key k.key)) shares ks)
           ∙ ap (λ rest. map watch_of (filter shares rest)) (sym rows);
+      begun = c.self.invariant.begun;
+      quiet = subst (AreQuiet c.self.inside.since c.self.inside.soonest) (sym rows)
+          (quiet-without c.self.inside.since c.self.inside.soonest c.args.key ks c.self.invariant.quiet);
     }
 
 pub returns-clause-removed : goal.returns-clause-removed

@@ -15,7 +15,6 @@ use Rattle.kq_process.specs.World.{world_of}
 use Rattle.kq_process.proofs.Planned.{held_anyway}
 use Rattle.kq_system.specs.SystemState.{AreOfVersion, IsLawful, IsLive, IsStep, SystemState, call_plan, live_of, state_of, system_of}
 use Rattle.kq_system.proofs.CallLemmas.{live_by_place}
-use Rattle.kq_system.proofs.ClockLemmas.{stays_timerless}
 use Rattle.kq_system.proofs.HappenLemmas.{stayed_same}
 use Rattle.kq_system.proofs.StepLemmas.{IsOn, call_planned, call_possible, counted_later, kevent_plan, lawful_after, lawful_same, possible_call}
 use Rattle.kq_system.proofs.SystemLemmas.{HasDone, call_of, called, called_views, done, impossible, quiet_call, refused, stays_live, stays_watched, version_of}
@@ -25,7 +24,7 @@ pub invariant_of-self : goal.invariant_of-self
 invariant_of-self c =
     let old = c.self.inside in
     lawful_after old.version old.applied old.world old.world old.live.entries old.live.entries c.self.invariant
-    (stayed_same old.live.entries) c.self.invariant.all_live c.self.invariant.watched c.self.invariant.timerless
+    (stayed_same old.live.entries) c.self.invariant.all_live c.self.invariant.watched
     (counted_later (old.applied + 1) (world_of old.world) c.self.invariant.counted)
 
 pub returns-in-Err-clause-reply : goal.returns-in-Err-clause-reply
@@ -88,7 +87,6 @@ invariant_of-self-2 c =
     (stays_live place e (system_of s) _ c.in_ok-reply.reply steps c.self.invariant.all_live)
     (stays_watched place (place + 1) e (system_of s) _ c.in_ok-reply.reply steps
     (counted_later place w c.self.invariant.counted) c.self.invariant.watched)
-    (stays_timerless place e (system_of s) _ c.in_ok-reply.reply steps c.self.invariant.timerless)
     (counted_later place w c.self.invariant.counted)
 
 pub returns-clause-reply : goal.returns-clause-reply

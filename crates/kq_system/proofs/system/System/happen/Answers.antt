@@ -8,7 +8,6 @@ use Rattle.kq_model.specs.World.{Planned, views_of}
 use Rattle.kq_process.specs.Effects.{pairs_in}
 use Rattle.kq_process.specs.World.{world_of}
 use Rattle.kq_system.specs.SystemState.{IsStep, SystemState, happened_to_all, live_of, state_of, system_of}
-use Rattle.kq_system.proofs.ClockLemmas.{stays_timerless}
 use Rattle.kq_system.proofs.HappenLemmas.{stayed_same}
 use Rattle.kq_system.proofs.StepLemmas.{happened_step, lawful_after, lawful_unchanged, refused_step}
 use Rattle.kq_system.proofs.SystemLemmas.{refused, stays_live, stays_watched}
@@ -34,7 +33,6 @@ invariant_of-self-in-Err c =
     (stays_live place e (system_of s) _ (reply.Impossible c.in-Err.why) steps c.self.invariant.all_live)
     (stays_watched place (place + 1) e (system_of s) _ (reply.Impossible c.in-Err.why) steps c.in_ok-effect.ensures.next
     c.self.invariant.watched)
-    (stays_timerless place e (system_of s) _ (reply.Impossible c.in-Err.why) steps c.self.invariant.timerless)
     c.in_ok-effect.ensures.next
 
 pub returns-in-Err-clause-reply : goal.returns-in-Err-clause-reply
@@ -67,7 +65,6 @@ invariant_of-self-2 c =
     (stays_live place e (system_of s) _ reply.Done steps c.self.invariant.all_live)
     (stays_watched place (place + 1) e (system_of s) _ reply.Done steps c.in_ok-effect.ensures.next
     c.self.invariant.watched)
-    (stays_timerless place e (system_of s) _ reply.Done steps c.self.invariant.timerless)
     c.in_ok-effect.ensures.next
 
 pub returns-clause-reply : goal.returns-clause-reply

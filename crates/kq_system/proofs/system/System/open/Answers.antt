@@ -12,7 +12,6 @@ use Rattle.kq_process.specs.World.{world_of}
 use Rattle.kq_process.proofs.Planned.{held_anyway}
 use Rattle.kq_system.specs.SystemState.{AreOfVersion, AreUpTo, IsLawful, IsStep, NumberedKqueue, SystemState, live_of, state_of, system_of}
 use Rattle.kq_system.proofs.CallLemmas.{not_born, up_to_more}
-use Rattle.kq_system.proofs.ClockLemmas.{stays_timerless}
 use Rattle.kq_system.proofs.HappenLemmas.{stayed_same}
 use Rattle.kq_system.proofs.StepLemmas.{Opens, kqueue_plan, kqueue_possible, lawful_after, lawful_unchanged, possible_kqueue, refused_step}
 use Rattle.kq_system.proofs.SystemLemmas.{HasDone, done, opened, refused, stays_live, stays_watched}
@@ -40,7 +39,6 @@ invariant_of-self-in-Err c =
     (stays_live place e (system_of s) _ (reply.Impossible c.in-Err.why) steps c.self.invariant.all_live)
     (stays_watched place (place + 1) e (system_of s) _ (reply.Impossible c.in-Err.why) steps c.in_ok-effect.ensures.next
     c.self.invariant.watched)
-    (stays_timerless place e (system_of s) _ (reply.Impossible c.in-Err.why) steps c.self.invariant.timerless)
     c.in_ok-effect.ensures.next)
 
 pub returns-in-Err-clause-reply : goal.returns-in-Err-clause-reply
@@ -116,7 +114,6 @@ invariant_of-self-2 c =
       all_live = stays_live place e (system_of s) _ reply.Done steps c.self.invariant.all_live;
       watched = stays_watched place (place + 1) e (system_of s) _ reply.Done steps c.in_ok-effect.ensures.next
           c.self.invariant.watched;
-      timerless = stays_timerless place e (system_of s) _ reply.Done steps c.self.invariant.timerless;
       counted = c.in_ok-effect.ensures.next;
     }
 
