@@ -1,4 +1,4 @@
--- What the clock does to all kqueues: each goes on by the same span.
+-- What a clock record does: each kqueue's clock goes on by the same span, and nothing else happens.
 use Rattle.std.proofs.Common.{◌≡◌, ◌∙◌, ◌==◌, ◌++◌, ◌≤◌, ℕ, ℤ, pos, negsuc, FitsSigned, w64, Bool, true, false, cond, not, List, [], ◌∷◌, map, filter, Option, None, Some, IsOk, ltb, refl, sym, ap, ap₂, subst, append-nil, arith}
 use Rattle.std.proofs.lemmas.Bool.{cond_both, ltb-false}
 use Rattle.std.proofs.lemmas.Int.{ints}
@@ -24,52 +24,6 @@ use Rattle.kq_system.specs.SystemState.{AreOfVersion, AreUpTo, HaveStayed, IsSte
 use Rattle.kq_system.proofs.CallLemmas.{same_live}
 use Rattle.kq_system.proofs.QuietLemmas.{all_kept, closed_none, notified_none}
 use Rattle.kq_system.proofs.SystemLemmas.{by_plan, done}
-
--- ---- each kqueue of the table
-
--- what one call says of a kqueue: it stays, and its clock went on
-pub record Says {F : Type 0} (span : Span) (f : F) (v : NumberedKqueue) (b : Bool) (w : NumberedKqueue) (g : F) : Type 0 where
-  pub stays : b ≡ true
-  pub number : w.number ≡ v.number
-  pub owner : w.kq.owner ≡ v.kq.owner
-  pub version : w.kq.version ≡ v.kq.version
-  pub kq : w.kq.kq ≡ clocked (Some span) v.kq.kq
-  pub same : g ≡ f
-
-module _ {F : Type 0} (T : F → ℕ → NumberedKqueue → Bool → NumberedKqueue → F → Type 0) (span : Span) (f : F)
-    (says : (k : ℕ) (v : NumberedKqueue) (b : Bool) (w : NumberedKqueue) (g : F) → T f k v b w g → Says span f v b w g) where
-  stay : (e : ℕ × NumberedKqueue) (w : NumberedKqueue) (b : Bool) (rest kept : List (ℕ × NumberedKqueue)) → b ≡ true
-      → kept ≡ cond b ((e.0, w) ∷ rest) rest → kept ≡ (e.0, w) ∷ rest
-  stay e w b rest kept on is = is ∙ ap (λ b. cond b ((e.0, w) ∷ rest) rest) on
-
-  pub all_ticked : (es kept : List (ℕ × NumberedKqueue)) → RetainsPairs T f es kept → map live_of kept ≡ map (ticked span) (map live_of es)
-  all_ticked [] kept h = ap (map live_of) h
-  all_ticked (e ∷ es) kept h =
-      let s = says e.0 e.1 h.0 h.1 h.2 h.4 in
-      ap (map live_of) (stay e h.1 h.0 h.3 kept s.stays h.6)
-      ∙ ap₂ (λ (l : Live) (r : List Live). l ∷ r)
-      (same_live e.0 h.1.kq.owner e.1.kq.owner h.1.number e.1.number h.1.kq.kq (clocked (Some span) e.1.kq.kq) s.owner s.number s.kq)
-      (all_ticked es h.3 (subst (λ g. RetainsPairs T g es h.3) s.same h.5))
-
-  of_version : (version : ℕ) (es kept : List (ℕ × NumberedKqueue)) → RetainsPairs T f es kept → AreOfVersion version es → AreOfVersion version kept
-  of_version version [] kept h all = subst (AreOfVersion version) (sym h) tt
-  of_version version (e ∷ es) kept h all =
-      let s = says e.0 e.1 h.0 h.1 h.2 h.4 in
-      subst (AreOfVersion version) (sym (stay e h.1 h.0 h.3 kept s.stays h.6))
-      (s.version ∙ all.0, of_version version es h.3 (subst (λ g. RetainsPairs T g es h.3) s.same h.5) all.1)
-
-  up_to : (most : ℕ) (es kept : List (ℕ × NumberedKqueue)) → RetainsPairs T f es kept → AreUpTo most (keys_of es) → AreUpTo most (keys_of kept)
-  up_to most [] kept h all = subst (λ (l : List (ℕ × NumberedKqueue)). AreUpTo most (keys_of l)) (sym h) tt
-  up_to most (e ∷ es) kept h all =
-      let s = says e.0 e.1 h.0 h.1 h.2 h.4 in
-      subst (λ (l : List (ℕ × NumberedKqueue)). AreUpTo most (keys_of l)) (sym (stay e h.1 h.0 h.3 kept s.stays h.6))
-      (all.0, up_to most es h.3 (subst (λ g. RetainsPairs T g es h.3) s.same h.5) all.1)
-
-  pub ticked_stayed : (es kept : List (ℕ × NumberedKqueue)) → RetainsPairs T f es kept → HaveStayed es kept
-  ticked_stayed es kept h = record {
-    of_version = λ version all. of_version version es kept h all;
-    up_to = λ most all. up_to most es kept h all;
-  }
 
 -- ---- a clock record does nothing else
 

@@ -8,6 +8,8 @@ pub mod StepLemmas
 pub mod ClockLemmas
 pub mod ClosedLemmas
 pub mod ShowLemmas
+pub mod PassedLemmas
+pub mod TickLemmas
 pub mod ConcernedLemmas
 pub mod FoundLemmas
 pub mod RenewLemmas

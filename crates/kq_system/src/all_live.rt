@@ -12,6 +12,7 @@ use crate::kqueues::Kqueues;
 use crate::live::Live;
 use crate::renewing::renew;
 use crate::showing::{drop_ended, show_concerned};
+use crate::ticking::ring_each;
 use crate::watching::watch_all;
 use indexmap::IndexMap;
 use kq_filters::Views;
@@ -71,8 +72,8 @@ fn next_round(live: usize, round: u64, hints: &[(Target, Hint)]) -> Option<u64>
     round.checked_add(1)
 }
 
-/// The clock goes on for all kqueues. It takes no memory; a kqueue in which no timer expires until
-/// then costs a look at the moment when the next one does.
+/// The clock goes on for all kqueues. It takes no memory; it costs the timers that expire, and a look at
+/// each kqueue that may have timers.
 pub fn tick_all(live: &mut Kqueues, from: u64, to: u64)
     requires ordered { from ≤ to }
     requires within { to ≤ last_moment }
@@ -81,7 +82,13 @@ pub fn tick_all(live: &mut Kqueues, from: u64, to: u64)
     ensures stayed { HaveStayed live.old.entries live.new.entries }
 {
     live.ready = None;
-    live.live.retain(|_, one| one.tick(from, to));
+    let Some(round) = next_round(live.live.len(), live.round, &[]) else {
+        live.live.retain(|_, one| one.tick(from, to));
+        return;
+    };
+    let timed = live.watching.at(Target::Own);
+    ring_each(&mut live.live, timed, round, from, to);
+    live.round = round;
 }
 
 /// Whether nothing is closed and nobody is told.

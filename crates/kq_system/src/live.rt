@@ -4,7 +4,7 @@ ghost use Rattle.kq_model.specs.Close.{closed, has_pair};
 ghost use Rattle.kq_model.specs.Hints.{notified};
 ghost use Rattle.kq_model.specs.Ticks.{last_moment};
 ghost use Rattle.kq_process.specs.Effects.{pair_of, pairs_in};
-ghost use Rattle.kq_system.specs.Showing.{IsPassed};
+ghost use Rattle.kq_system.specs.Showing.{IsPassed, IsRung, IsTold};
 
 use kq_filters::Views;
 use kq_kevent::Kq;
@@ -65,7 +65,7 @@ impl Live {
         hints: &[(Target, Hint)],
         views: &V,
     ) -> bool
-        ensures passed { IsPassed round (pairs_in pairs.now) hints.now (V.sees views.now) self.old self.new }
+        ensures passed { IsPassed round (IsTold (pairs_in pairs.now) hints.now (V.sees views.now)) self.old self.new }
         ensures seen { self.new.shown ≡ round }
         ensures ended { result ≡ self.new.ended }
     {
@@ -94,6 +94,21 @@ impl Live {
     {
         self.kq.clock(from, to);
         true
+    }
+
+    /// The same, where it was not told of the clock in this round.
+    pub fn ring(&mut self, round: u64, from: u64, to: u64)
+        requires ordered { from ≤ to }
+        requires within { to ≤ last_moment }
+        ensures passed { IsPassed round (IsRung (record { from = from; to = to })) self.old self.new }
+        ensures seen { self.new.shown ≡ round }
+        ensures ended { self.new.ended ≡ self.old.ended }
+    {
+        if self.shown == round {
+            return;
+        }
+        self.kq.clock(from, to);
+        self.shown = round;
     }
 }
 
