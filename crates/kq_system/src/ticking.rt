@@ -20,13 +20,7 @@ fn ring_one(live: &mut IndexMap<u64, Live>, place: u64, round: u64, from: u64, t
 }
 
 /// The clock goes on for those of some places.
-pub fn ring_each(
-    live: &mut IndexMap<u64, Live>,
-    places: &[u64],
-    round: u64,
-    from: u64,
-    to: u64,
-)
+pub fn ring_each(live: &mut IndexMap<u64, Live>, places: &[u64], round: u64, from: u64, to: u64)
     requires ordered { from ≤ to }
     requires within { to ≤ last_moment }
     ensures { AreShown round (IsRung (record { from = from; to = to })) (λ p. has_place p places.now) false

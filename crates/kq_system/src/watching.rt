@@ -22,7 +22,11 @@ fn is_timer(filter: Filter) -> bool
 }
 
 /// Puts a kqueue under a target that others may watch too; of what is its own there is nothing to find.
-fn watch_shared(watching: &mut Index<Target>, place: u64, target: Option<Target>) -> Result<(), Memory>
+fn watch_shared(
+    watching: &mut Index<Target>,
+    place: u64,
+    target: Option<Target>,
+) -> Result<(), Memory>
     ensures grows { Grows target_equal.eq-value.it watching.old.table watching.new.table }
     ensures listed { OnOk result ((t : Target) → target ≡ Some t → (t ≡ Own → ⊥)
         → has_place place (places_of watching.new.table t) ≡ true) }
