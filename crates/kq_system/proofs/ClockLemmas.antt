@@ -1,9 +1,7 @@
 -- What a clock record does: each kqueue's clock goes on by the same span, and nothing else happens.
-use Rattle.std.proofs.Common.{◌≡◌, ◌∙◌, ◌==◌, ◌++◌, ◌≤◌, ℕ, ℤ, pos, negsuc, FitsSigned, w64, Bool, true, false, cond, not, List, [], ◌∷◌, map, filter, Option, None, Some, IsOk, ltb, refl, sym, ap, ap₂, subst, append-nil, arith}
+use Rattle.std.proofs.Common.{◌≡◌, ◌∙◌, ◌++◌, ◌≤◌, ℕ, ℤ, pos, negsuc, FitsSigned, w64, false, cond, not, List, [], ◌∷◌, map, Option, None, Some, IsOk, ltb, refl, sym, ap, ap₂, subst, append-nil, arith}
 use Rattle.std.proofs.lemmas.Bool.{cond_both, ltb-false}
 use Rattle.std.proofs.lemmas.Int.{ints}
-use Rattle.std.specs.Map.{keys_of}
-use Rattle.std.specs.Map.Calls.{RetainsPairs}
 use Rattle.kq_model.specs.declared.event.Event.{Event}
 use Rattle.kq_model.specs.declared.event.Event.TheVariants as event
 use Rattle.kq_model.specs.declared.reply.Reply.TheVariants as reply
@@ -20,8 +18,7 @@ use Rattle.kq_model.specs.Ticks.{last_moment}
 use Rattle.kq_model.specs.World.{Call, Plan, Planned, Impossible, Possible, carried_out, idle}
 use Rattle.kq_process.specs.declared.effect.Effect.{Effect}
 use Rattle.kq_process.specs.Effects.{IsEffectOf, world_after}
-use Rattle.kq_system.specs.SystemState.{AreOfVersion, AreUpTo, HaveStayed, IsStep, NumberedKqueue, live_of, ticked}
-use Rattle.kq_system.proofs.CallLemmas.{same_live}
+use Rattle.kq_system.specs.SystemState.{IsStep, ticked}
 use Rattle.kq_system.proofs.QuietLemmas.{all_kept, closed_none, notified_none}
 use Rattle.kq_system.proofs.SystemLemmas.{by_plan, done}
 

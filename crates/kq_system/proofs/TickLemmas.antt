@@ -106,7 +106,7 @@ pub rung_subjects : (span : Span) (P : Filter → ℕ → Option Target → Type
 rung_subjects span P v w rung stays has =
     subst (λ (kq : Kqueue). HaveSubjects P kq.knotes) (sym rung.kq) (clocked-subjects tallying P (Some span) v.kq.kq has)
 
-IsNoTimer : Knote → Type 0
+abbrev IsNoTimer : Knote → Type 0
 IsNoTimer k = is_timer k.key.filter ≡ false
 
 no_names : Names
@@ -162,7 +162,8 @@ module _ (round : ℕ) (span : Span) where
         (λ _ is. absurd (unseen (shown.seen place w is here)))
         (λ _ _. refl) refl
 
-    left : (place : ℕ) (w : NumberedKqueue) → lookup (nat_eq place) ns ≡ Some w → IsLeft w
+    left : (place : ℕ) (w : NumberedKqueue) → lookup (nat_eq place) ns ≡ Some w → (w.shown ≡ round → ⊥)
+        → clocked (Some span) w.kq.kq ≡ w.kq.kq
     left place w here unseen =
         let before = was round (IsRung span) place es ns w shown.passed here in
         let v = before.it in

@@ -1,5 +1,5 @@
 -- The system of the code as contracts see it, and how its tables stand for the model's lists.
-use Rattle.std.specs.Prelude.{◌≡◌, ◌==◌, ◌+◌, ◌≤◌, ℕ, Bool, true, false, not, List, [], ◌∷◌, map, filter, Option, Some, None}
+use Rattle.std.specs.Prelude.{◌≡◌, ◌==◌, ◌+◌, ◌≤◌, ℕ, Bool, true, not, List, [], ◌∷◌, map, filter, Option, Some, None}
 use Rattle.std.specs.List.{list_any}
 use Rattle.std.specs.Map.{keys_of}
 use Rattle.kq_kevent.specs.Owned.{OwnedKqueue}
@@ -14,7 +14,6 @@ use Rattle.kq_model.specs.Hints.{notified}
 use Rattle.kq_model.specs.LiveKqueues.{AreAllLive}
 use Rattle.kq_model.specs.Moment.{Moment}
 use Rattle.kq_model.specs.Plans.{plan}
-use Rattle.kq_model.specs.Subjects.{HaveSubjects}
 use Rattle.kq_model.specs.System as system
 use Rattle.kq_model.specs.Tallied.{Live, System, World}
 use Rattle.kq_model.specs.Targets.{Posted}
