@@ -130,8 +130,8 @@ module _ (t : Ticking) (from : ℕ) (positive : 0 < t.period) where
 
 -- what has no place in 64 bits is past the last moment
 pub too_far : (moment : ℕ) → (moment < 2 ^ 64 → ⊥) → last_moment < moment
-too_far moment no = by_place (cases_lt moment (2 ^ 64))
+too_far moment never = by_place (cases_lt moment (2 ^ 64))
   where
     by_place : (moment < 2 ^ 64) ⊎ (2 ^ 64 ≤ moment) → last_moment < moment
-    by_place (inl h) = absurd (no h)
+    by_place (inl h) = absurd (never h)
     by_place (inr h) = omega (arith, h)
