@@ -153,12 +153,12 @@ module _ (round : ℕ) (span : Span) where
 
   module _ {S T : Type 0} (owned : HashMap ℕ (List ℕ) S) (watching : HashMap Target (List ℕ) T) (last : ℕ)
       (later : last < round) (es ns : Entries) (spare spare' : ℕ) (prepared : Option (ℕ × ℕ))
-      (found : AreFound es spare prepared owned watching last) (places : List ℕ) (are : places ≡ places_of watching Own)
-      (shown : AreShown round (IsRung span) (λ p. has_place p places) false es ns) where
+      (found : AreFound es spare prepared owned watching last)
+      (shown : AreShown round (IsRung span) (λ p. has_place p (places_of watching Own)) false es ns) where
     left_out : (place : ℕ) (w : NumberedKqueue) → lookup (nat_eq place) ns ≡ Some w → (w.shown ≡ round → ⊥)
-        → has_place place places ≡ false
+        → has_place place (places_of watching Own) ≡ false
     left_out place w here unseen =
-        by_test (λ b. has_place place places ≡ b → b ≡ false) (has_place place places)
+        by_test (λ b. has_place place (places_of watching Own) ≡ b → b ≡ false) (has_place place (places_of watching Own))
         (λ _ is. absurd (unseen (shown.seen place w is here)))
         (λ _ _. refl) refl
 
@@ -170,8 +170,7 @@ module _ (round : ℕ) (span : Span) where
         let listed = Each-found (λ k u. HaveSubjects (IsListed k watching) u.kq.kq.knotes) place es v found.by_target
         before.found in
         subst (λ (u : NumberedKqueue). clocked (Some span) u.kq.kq ≡ u.kq.kq) (sym (before.passed.unseen unseen))
-        (unrung span watching place v.kq.kq listed
-        (subst (λ (ps : List ℕ). has_place place ps ≡ false) are (left_out place w here unseen)))
+        (unrung span watching place v.kq.kq listed (left_out place w here unseen))
 
     pub clock_concerned : IsDistinct nat_eq (keys_of es) → map live_of ns ≡ map (ticked span) (map live_of es)
     clock_concerned distinct =

@@ -12,7 +12,7 @@ use crate::kqueues::Kqueues;
 use crate::live::Live;
 use crate::renewing::renew;
 use crate::showing::{drop_ended, show_concerned};
-use crate::ticking::ring_each;
+use crate::ticking::ring_timed;
 use crate::watching::watch_all;
 use indexmap::IndexMap;
 use kq_filters::Views;
@@ -86,8 +86,7 @@ pub fn tick_all(live: &mut Kqueues, from: u64, to: u64)
         live.live.retain(|_, one| one.tick(from, to));
         return;
     };
-    let timed = live.watching.at(Target::Own);
-    ring_each(&mut live.live, timed, round, from, to);
+    ring_timed(&mut live.live, &live.watching, round, from, to);
     live.round = round;
 }
 

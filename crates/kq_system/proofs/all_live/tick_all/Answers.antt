@@ -59,23 +59,20 @@ returns-clause-ticked c =
     let old = c.live.inside in
     let span : Span = record { from = c.args.from; to = c.args.to } in
     clock_concerned c.in-Some.round span old.owned.table old.watching.table old.round c.in-Some.ensures.later
-    old.live.entries c.ring_each.new.live.entries (spare old.live) (spare c.ring_each.new.live) old.ready c.live.invariant
-    c.at-timed.result.now c.at-timed.ensures c.ring_each.ensures c.len.ensures.unique
+    old.live.entries c.ring_timed.new.live.entries (spare old.live) (spare c.ring_timed.new.live) old.ready c.live.invariant c.ring_timed.ensures c.len.ensures.unique
     ∙ ap (λ (v : LiveKqueues). map (ticked span) (map live_of v.entries)) c.live.view_is
 
 pub returns-clause-stayed : goal.returns-clause-stayed
 returns-clause-stayed c =
     let old = c.live.inside in
     let span : Span = record { from = c.args.from; to = c.args.to } in
-    subst (λ (v : LiveKqueues). HaveStayed v.entries c.ring_each.new.live.entries) c.live.view_is
+    subst (λ (v : LiveKqueues). HaveStayed v.entries c.ring_timed.new.live.entries) c.live.view_is
     (clock_stayed c.in-Some.round span old.owned.table old.watching.table old.round c.in-Some.ensures.later
-    old.live.entries c.ring_each.new.live.entries (spare old.live) (spare c.ring_each.new.live) old.ready c.live.invariant
-    c.at-timed.result.now c.at-timed.ensures c.ring_each.ensures)
+    old.live.entries c.ring_timed.new.live.entries (spare old.live) (spare c.ring_timed.new.live) old.ready c.live.invariant c.ring_timed.ensures)
 
 pub invariant_of-live-2 : goal.invariant_of-live-2
 invariant_of-live-2 c =
     let old = c.live.inside in
     let span : Span = record { from = c.args.from; to = c.args.to } in
     clock_found c.in-Some.round span old.owned.table old.watching.table old.round c.in-Some.ensures.later
-    old.live.entries c.ring_each.new.live.entries (spare old.live) (spare c.ring_each.new.live) old.ready c.live.invariant
-    c.at-timed.result.now c.at-timed.ensures c.ring_each.ensures
+    old.live.entries c.ring_timed.new.live.entries (spare old.live) (spare c.ring_timed.new.live) old.ready c.live.invariant c.ring_timed.ensures
