@@ -8,6 +8,7 @@ pub mod StepLemmas
 pub mod ClockLemmas
 pub mod ClosedLemmas
 pub mod ShowLemmas
+pub mod PlaceLemmas
 pub mod ConcernedLemmas
 pub mod FoundLemmas
 pub mod RenewLemmas
