@@ -1,5 +1,6 @@
 -- The report, written while the system is folded over the records that are read.
-use Rattle.std.proofs.Common.{◌≡◌, ◌∙◌, ◌+◌, ◌++◌, ℕ, List, [], ◌∷◌, refl, sym, ap, subst, append_assoc, append-nil, arith, length, length-append}
+use Rattle.std.proofs.Common.{◌≡◌, ◌∙◌, ◌+◌, ◌++◌, ℕ, List, [], ◌∷◌, Result, Ok, Err, refl, sym, ap, subst, append_assoc, append-nil, arith, length, length-append}
+use Rattle.std.specs.Result.{IfErr, IsErrAnd}
 use Rattle.kq_model.specs.declared.event.Event.{Event}
 use Rattle.kq_model.specs.declared.reply.Reply.{Reply}
 use Rattle.kq_model.specs.Reading.{Good, reading}
@@ -11,6 +12,7 @@ use Rattle.kq_merge.proofs.WrittenRows.{with_rows, with_row_of, report-is}
 use Rattle.kq_system.specs.SystemState.{IsStep}
 use Rattle.kq_system.proofs.RowLemmas.{rows-begin}
 use Rattle.kq_trace.specs.declared.fault.TraceError.{TraceError}
+use Rattle.kq_trace.specs.declared.fault.TraceError.TheVariants.{Memory}
 use Rattle.kq_trace.specs.Faults.{IsFault}
 use Rattle.kq_trace.specs.Unread.{Unread, IsReadOff, IsFaultAhead}
 use Rattle.kq_trace.proofs.TraceLines.{behind_events, none_yet, one_further, all_read, faulty}
@@ -78,3 +80,9 @@ folded-all bytes before r s n records w text so_far none counted is =
 pub folded-fault : (bytes : List ℕ) (before : List Event) (r : Unread) (s : System) (n : ℕ) (w : Written) (error : TraceError)
     → IsFolded bytes before r s n w → IsFaultAhead r.meaning error → IsFault bytes error
 folded-fault bytes before r s n w error so_far is = faulty bytes r.meaning before error so_far.read is
+
+-- where memory is short
+pub folded-memory : {T : Type 0} (bytes : List ℕ) (r : Result T TraceError) → IsErrAnd r (λ error. error ≡ Memory)
+    → IfErr r (IsFault bytes)
+folded-memory bytes (Ok text) short = tt
+folded-memory bytes (Err error) short = subst (IsFault bytes) (sym short) tt

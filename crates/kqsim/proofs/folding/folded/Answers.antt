@@ -3,7 +3,7 @@ use Rattle.std.proofs.Common.{◌≡◌, [], ◌∷◌, ◌++◌}
 use Rattle.kq_model.specs.Reading.{Good}
 use Rattle.kq_system.specs.SystemState.{system_of}
 use Rattle.kq_trace.specs.Unread.{IsReadOff}
-use Rattle.kqsim.proofs.FoldLemmas.{folded-all, folded-more, folded-none}
+use Rattle.kqsim.proofs.FoldLemmas.{folded-all, folded-memory, folded-more, folded-none}
 use Rattle.kqsim.proofs.folding.folded.Goals as goal
 
 pub records-init : goal.records-init
@@ -42,3 +42,11 @@ returns-clause-report c =
     let none : c.records.reader.meaning ≡ Good c.records.reader.version [] = rw c.in_default.is at c.in_ok-event.ensures.next in
     folded-all c.args.bytes.now so_far.0 c.records.reader (system_of c.records.system) c.records.system.applied c.applied-2.result c.records.text
     c.in_ok-end.field-0.items so_far.1 none c.applied-2.ensures c.in_ok-end.ensures
+
+pub returns-in_err-reply-clause-fault : goal.returns-in_err-reply-clause-fault
+returns-in_err-reply-clause-fault c =
+    folded-memory c.args.bytes.now c.from_residual-in_err-reply.result c.from_residual-in_err-reply.ensures.1
+
+pub returns-in_err-text-clause-fault : goal.returns-in_err-text-clause-fault
+returns-in_err-text-clause-fault c =
+    folded-memory c.args.bytes.now c.from_residual-in_err-text.result c.from_residual-in_err-text.ensures.1
