@@ -1,5 +1,5 @@
 -- The report, written while the system is folded over the records that are read.
-use Rattle.std.proofs.Common.{◌≡◌, ◌∙◌, ◌+◌, ◌++◌, ℕ, List, [], ◌∷◌, Result, Ok, Err, refl, sym, ap, subst, append_assoc, append-nil, arith, length, length-append}
+use Rattle.std.proofs.Common.{◌≡◌, ◌∙◌, ◌+◌, ◌++◌, ℕ, List, [], ◌∷◌, refl, sym, ap, subst, append_assoc, append-nil, arith, length, length-append, Result, Ok, Err}
 use Rattle.std.specs.Result.{IfErr, IsErrAnd}
 use Rattle.kq_model.specs.declared.event.Event.{Event}
 use Rattle.kq_model.specs.declared.reply.Reply.{Reply}
@@ -81,8 +81,9 @@ pub folded-fault : (bytes : List ℕ) (before : List Event) (r : Unread) (s : Sy
     → IsFolded bytes before r s n w → IsFaultAhead r.meaning error → IsFault bytes error
 folded-fault bytes before r s n w error so_far is = faulty bytes r.meaning before error so_far.read is
 
--- where memory is short
-pub folded-memory : {T : Type 0} (bytes : List ℕ) (r : Result T TraceError) → IsErrAnd r (λ error. error ≡ Memory)
-    → IfErr r (IsFault bytes)
-folded-memory bytes (Ok text) short = tt
-folded-memory bytes (Err error) short = subst (IsFault bytes) (sym short) tt
+-- ---- memory was refused
+
+pub memory-fault : {A : Type 0} (bytes : List ℕ) (r : Result A TraceError) (P : TraceError → Type 0) → IsErrAnd r P
+    → ((e : TraceError) → P e → e ≡ Memory) → IfErr r (IsFault bytes)
+memory-fault bytes (Ok x) P is only = tt
+memory-fault bytes (Err e) P is only = subst (IsFault bytes) (sym (only e is)) tt

@@ -3,7 +3,7 @@ use Rattle.std.proofs.Common.{◌≡◌, [], ◌∷◌, ◌++◌}
 use Rattle.kq_model.specs.Reading.{Good}
 use Rattle.kq_system.specs.SystemState.{system_of}
 use Rattle.kq_trace.specs.Unread.{IsReadOff}
-use Rattle.kqsim.proofs.FoldLemmas.{folded-all, folded-memory, folded-more, folded-none}
+use Rattle.kqsim.proofs.FoldLemmas.{folded-all, folded-more, folded-none, memory-fault}
 use Rattle.kqsim.proofs.folding.folded.Goals as goal
 
 pub records-init : goal.records-init
@@ -45,8 +45,8 @@ returns-clause-report c =
 
 pub returns-in_err-reply-clause-fault : goal.returns-in_err-reply-clause-fault
 returns-in_err-reply-clause-fault c =
-    folded-memory c.args.bytes.now c.from_residual-in_err-reply.result c.from_residual-in_err-reply.ensures.1
+    memory-fault c.args.bytes.now c.from_residual-in_err-reply.result _ c.from_residual-in_err-reply.ensures.1 (λ e is. is)
 
 pub returns-in_err-text-clause-fault : goal.returns-in_err-text-clause-fault
 returns-in_err-text-clause-fault c =
-    folded-memory c.args.bytes.now c.from_residual-in_err-text.result c.from_residual-in_err-text.ensures.1
+    memory-fault c.args.bytes.now c.from_residual-in_err-text.result _ c.from_residual-in_err-text.ensures.1 (λ e is. is)
