@@ -10,6 +10,7 @@ pub mod ClosedLemmas
 pub mod ShowLemmas
 pub mod PassedLemmas
 pub mod TickLemmas
+pub mod PlaceLemmas
 pub mod ConcernedLemmas
 pub mod FoundLemmas
 pub mod RenewLemmas

@@ -1,3 +1,4 @@
+mod hints;
 mod library;
 mod merging;
 mod objects;
