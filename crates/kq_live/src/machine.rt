@@ -103,7 +103,10 @@ impl Served for LiveMachine {
             | Event::Open { pid, .. }
             | Event::Seek { pid, .. }
             | Event::Kevent { pid, .. } => u64::from(*pid),
-            Event::File { .. } | Event::Truncate { .. } | Event::Note { .. } | Event::Clock { .. } => 0,
+            Event::File { .. }
+            | Event::Truncate { .. }
+            | Event::Note { .. }
+            | Event::Clock { .. } => 0,
         }
     }
 
