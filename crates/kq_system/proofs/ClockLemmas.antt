@@ -1,5 +1,5 @@
 -- What a clock record does: each kqueue's clock goes on by the same span, and nothing else happens.
-use Rattle.std.proofs.Common.{◌≡◌, ◌∙◌, ◌++◌, ◌≤◌, ℕ, ℤ, pos, negsuc, FitsSigned, w64, false, cond, not, List, [], ◌∷◌, map, Option, None, Some, IsOk, ltb, refl, sym, ap, ap₂, subst, append-nil, arith}
+use Rattle.std.proofs.Common.{◌≡◌, ◌∙◌, ◌++◌, ◌≤◌, ℕ, ℤ, pos, negsuc, FitsSigned, w64, false, not, List, [], ◌∷◌, map, Option, None, Some, IsOk, ltb, refl, sym, ap, ap₂, subst, append-nil, arith}
 use Rattle.std.proofs.lemmas.Bool.{cond_both, ltb-false}
 use Rattle.std.proofs.lemmas.Int.{ints}
 use Rattle.kq_model.specs.declared.event.Event.{Event}
