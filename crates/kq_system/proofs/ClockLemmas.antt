@@ -1,5 +1,5 @@
 -- What a clock record does: each kqueue's clock goes on by the same span, and nothing else happens.
-use Rattle.std.proofs.Common.{◌≡◌, ◌∙◌, ◌++◌, ◌≤◌, ℕ, ℤ, pos, negsuc, FitsSigned, w64, false, cond, not, List, [], ◌∷◌, map, Option, None, Some, IsOk, ltb, refl, sym, ap, ap₂, subst, append-nil, arith}
+use Rattle.std.proofs.Common.{◌≡◌, ◌∙◌, ◌++◌, ◌≤◌, ℕ, ℤ, pos, negsuc, FitsSigned, w64, false, not, List, [], ◌∷◌, map, Option, None, Some, IsOk, ltb, refl, sym, ap, ap₂, subst, append-nil, arith}
 use Rattle.std.proofs.lemmas.Bool.{cond_both, ltb-false}
 use Rattle.std.proofs.lemmas.Int.{ints}
 use Rattle.kq_model.specs.declared.event.Event.{Event}
@@ -15,7 +15,7 @@ use Rattle.kq_model.specs.ProcessPlans.{plan_clock, plan_clock_at}
 use Rattle.kq_model.specs.System.{born, lived, reply_to, step_by, stepped}
 use Rattle.kq_model.specs.Tallied.{Kqueue, Live, System, World}
 use Rattle.kq_model.specs.Ticks.{last_moment}
-use Rattle.kq_model.specs.World.{Call, Plan, Planned, Impossible, Possible, carried_out, idle}
+use Rattle.kq_model.specs.World.{Call, Plan, Planned, Impossible, Possible, carried_out, clock_after, idle}
 use Rattle.kq_process.specs.declared.effect.Effect.{Effect}
 use Rattle.kq_process.specs.Effects.{IsEffectOf, world_after}
 use Rattle.kq_system.specs.SystemState.{IsStep, ticked}
@@ -25,7 +25,7 @@ use Rattle.kq_system.proofs.SystemLemmas.{by_plan, done}
 -- ---- a clock record does nothing else
 
 -- nothing is closed, told or called, and nothing is made
-record MovesClock (span : Span) (p : Plan) : Type 0 where
+pub record MovesClock (span : Span) (p : Plan) : Type 0 where
   pub closed : p.closed ≡ []
   pub hints : p.hints ≡ []
   pub call : p.call ≡ None
@@ -45,7 +45,7 @@ IfGoes ns w (Impossible why) = Unit {0}
 IfGoes ns w (Possible p) = Goes ns w p
 
 clock_goes : (moment : ℕ) (w : World) → IfGoes (pos moment) w (plan_clock moment w)
-unfolding plan_clock carried_out
+unfolding plan_clock carried_out clock_after
 clock_goes moment w =
     cond_both (ltb moment w.now) (Impossible ClockBack)
     (Possible (record idle { clock = Some (record { from = w.now; to = moment }) })) (IfGoes (pos moment) w)

@@ -1,5 +1,5 @@
 -- To show a record to the kqueues that it concerns is to show it to all.
-use Rattle.std.proofs.Common.{◌≡◌, ◌∙◌, ◌==◌, ◌||◌, ◌&&◌, ◌<◌, ◌≤◌, ◌++◌, ℕ, Bool, true, false, not, cond, List, [], ◌∷◌, map, filter, nat_eq, Option, None, Some, refl, sym, ap, ap₂, subst, arith}
+use Rattle.std.proofs.Common.{◌≡◌, ◌∙◌, ◌==◌, ◌||◌, ◌&&◌, ◌<◌, ◌++◌, ℕ, Bool, true, false, not, cond, List, [], ◌∷◌, map, filter, nat_eq, Option, None, Some, refl, sym, ap, ap₂, subst, arith}
 use Rattle.std.proofs.lemmas.Bool.{eqb-true}
 use Rattle.std.proofs.lemmas.Bool.Decides.{nat_tests}
 use Rattle.std.proofs.lemmas.List.Elements.{All-head, All-tail}
@@ -29,7 +29,7 @@ use Rattle.kq_system.specs.Showing.{AreFound, ArePassed, AreShown, Each, IsListe
 use Rattle.kq_system.specs.SystemState.{NumberedKqueue, goes_on, happened_to, happened_to_all, live_of}
 use Rattle.kq_system.proofs.QuietLemmas.{all_kept}
 use Rattle.kq_system.proofs.PassedLemmas.{AreStanding, not_yet, placed, same_keys, stands}
-use Rattle.kq_system.proofs.ShowLemmas.{Each-from, Each-found, Entries, Was, by_test, was}
+use Rattle.kq_system.proofs.ShowLemmas.{Each-from, Each-found, Entries, by_test, was}
 
 no_case : {X : Type 0} (b : Bool) → b ≡ true → b ≡ false → X
 no_case b is away = absurd (cc)

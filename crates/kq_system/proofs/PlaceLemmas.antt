@@ -1,5 +1,5 @@
 -- Places in a list, and one that is put between them.
-use Rattle.std.proofs.Common.{◌≡◌, ◌∙◌, ◌||◌, ◌<◌, ◌++◌, ℕ, zero, suc, Bool, true, false, cond, List, [], ◌∷◌, take, drop, get_or, length, nat_eq, nat_lt, slice_index_or, Less, Equal, Greater, refl, arith}
+use Rattle.std.proofs.Common.{◌≡◌, ◌||◌, ◌<◌, ◌++◌, ℕ, zero, suc, Bool, true, false, cond, List, [], ◌∷◌, take, drop, get_or, length, nat_eq, nat_lt, slice_index_or, Less, Equal, Greater, refl, arith}
 use Rattle.std.proofs.lemmas.Bool.Decides.{nat_tests}
 use Rattle.std.specs.List.{insert, list_any}
 use Rattle.std.specs.Ordering.{nat_cmp}

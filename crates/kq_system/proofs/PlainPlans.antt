@@ -1,5 +1,5 @@
 -- Every record but three calls no kqueue, makes none and leaves the clock as it is.
-use Rattle.std.proofs.Common.{◌≡◌, ◌∙◌, ℕ, ℤ, Bool, cond, not, eqb, List, [], ◌∷◌, Option, Some, None, Ok, Err, refl, sym, subst}
+use Rattle.std.proofs.Common.{◌≡◌, ℕ, ℤ, Bool, cond, not, eqb, List, [], ◌∷◌, Option, Some, None, Ok, Err, refl, subst}
 use Rattle.std.proofs.lemmas.Bool.{cond_both}
 use Rattle.std.specs.Option.{is_some}
 use Rattle.kq_model.specs.declared.act.Act.{Act}
@@ -13,7 +13,7 @@ use Rattle.kq_model.specs.declared.why.Why.{Why}
 use Rattle.kq_model.specs.Descriptors.{Descriptor}
 use Rattle.kq_model.specs.DescriptorPlans.{on_named, on_descriptor, plan_close, duplicated, plan_dup}
 use Rattle.kq_model.specs.ObjectPlan as object
-use Rattle.kq_model.specs.ObjectRecordPlans.{with_objects, plan_act, plan_at, unless_open, if_live, pipe_ends, plan_socket, plan_accept, plan_open, plan_pipe}
+use Rattle.kq_model.specs.ObjectRecordPlans.{with_objects, plan_act, plan_at, unless_open, if_live, plan_socket, plan_accept, plan_open, plan_pipe}
 use Rattle.kq_model.specs.Objects.{counted}
 use Rattle.kq_model.specs.Planning as object_planning
 use Rattle.kq_model.specs.Plans.{plan}

@@ -23,7 +23,7 @@ use Rattle.kq_system.specs.Showing.{AreFound, ArePassed, AreShown, Each, IsListe
 use Rattle.kq_system.specs.SystemState.{AreOfVersion, AreUpTo, HaveStayed, NumberedKqueue, live_of, ticked}
 use Rattle.kq_system.proofs.CallLemmas.{same_live}
 use Rattle.kq_system.proofs.PassedLemmas.{all_standing, found_after, not_yet, placed, same_keys, shown_stayed, stands}
-use Rattle.kq_system.proofs.ShowLemmas.{Each-from, Each-found, Entries, Was, by_test, was}
+use Rattle.kq_system.proofs.ShowLemmas.{Each-from, Each-found, Entries, by_test, was}
 
 -- ---- where all were told
 

@@ -1,7 +1,7 @@
 -- A record is shown to the kqueues that it concerns: those of the processes in which it closes numbers, those that
 -- may watch what it has hints for, and where it moves the clock those that may have timers. Each sees it once, since it
 -- keeps the round in which it was shown one.
-use Rattle.std.specs.Prelude.{◌≡◌, ◌<◌, ◌≤◌, ℕ, Bool, true, false, not, List, [], ◌∷◌, Option, Some, nat_eq}
+use Rattle.std.specs.Prelude.{◌≡◌, ◌<◌, ◌≤◌, ℕ, Bool, true, false, List, [], ◌∷◌, Option, Some, nat_eq}
 use Rattle.std.specs.List.{list_any}
 use Rattle.std.specs.Map.{lookup}
 use Rattle.std.specs.HashMap.{HashMap}

@@ -1,4 +1,4 @@
-use Rattle.std.proofs.Common.{◌≡◌, ◌∙◌, None, map, rules, ap, sym, subst}
+use Rattle.std.proofs.Common.{◌∙◌, None, map, rules, ap, sym, subst}
 use Rattle.std.specs.HashMap.{spare}
 use Rattle.kq_process.specs.Effects.{pairs_in}
 use Rattle.kq_system.specs.Showing.{AreFound, IsTold, LiveKqueues}

@@ -1,5 +1,4 @@
-use Rattle.std.proofs.Common.{◌≡◌, ◌+◌, ◌||◌, ℕ, Bool, List, true, take, get_or, nat_eq, refl, sym, subst, add-one}
-use Rattle.std.specs.List.{list_any}
+use Rattle.std.proofs.Common.{◌≡◌, ◌+◌, ◌||◌, ℕ, List, true, take, nat_eq, refl, sym, subst, add-one}
 use Rattle.kq_process.specs.Effects.{pairs_in}
 use Rattle.kq_system.specs.Places.{has_place, places_at}
 use Rattle.kq_system.specs.Showing.{IsTold, asks_owned}

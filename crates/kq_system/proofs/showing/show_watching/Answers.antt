@@ -1,5 +1,4 @@
-use Rattle.std.proofs.Common.{◌≡◌, ◌+◌, ◌||◌, ℕ, Bool, List, true, take, get_or, nat_eq, refl, sym, subst, add-one}
-use Rattle.std.specs.List.{list_any}
+use Rattle.std.proofs.Common.{◌≡◌, ◌+◌, ◌||◌, ℕ, List, true, take, refl, sym, subst, add-one}
 use Rattle.kq_model.specs.contracts.object.TargetPartialEq.TheImpl as target_equal
 use Rattle.kq_model.specs.declared.object.Hint.TheVariants.{Readable}
 use Rattle.kq_model.specs.declared.object.Target.TheVariants.{Socket}

@@ -1,14 +1,12 @@
-use Rattle.std.proofs.Common.{◌≡◌, ◌+◌, ◌≤◌, ℕ, IsOk, map, refl, sym, ap, ◌∙◌, subst}
+use Rattle.std.proofs.Common.{◌≡◌, ◌+◌, ◌≤◌, IsOk, map, refl, sym, ap, ◌∙◌, subst}
 use Rattle.kq_model.specs.declared.event.Event.{Event}
 use Rattle.kq_model.specs.declared.event.Event.TheVariants as event
 use Rattle.kq_model.specs.declared.reply.Reply.TheVariants as reply
 use Rattle.kq_model.specs.Plans.{plan}
-use Rattle.kq_model.specs.Tallied.{World}
-use Rattle.kq_process.specs.declared.effect.Effect.{Effect}
 use Rattle.kq_process.specs.Effects.{IsEffectOf, world_after}
 use Rattle.kq_process.specs.World.{world_of}
 use Rattle.kq_system.specs.SystemState.{IsStep, SystemState, live_of, state_of, system_of, ticked}
-use Rattle.kq_system.proofs.ClockLemmas.{HasGone, has_gone}
+use Rattle.kq_system.proofs.ClockLemmas.{has_gone}
 use Rattle.kq_system.proofs.HappenLemmas.{stayed_same}
 use Rattle.kq_system.proofs.StepLemmas.{lawful_after, lawful_unchanged, refused_step}
 use Rattle.kq_system.proofs.SystemLemmas.{refused, stays_live, stays_watched}
