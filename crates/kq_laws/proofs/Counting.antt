@@ -48,3 +48,8 @@ pub ticks-unstarted : (k : Knote) (since now : ℕ) → 0 < k.period → since �
 ticks-unstarted k since now positive ordered early =
     counted-none (expires_at k) since (now - since)
     (λ m within. expires-after_start k m positive (omega arith))
+
+-- from a moment to itself there is none
+pub ticks-none_yet : (test : ℕ → Bool) (now : ℕ) → ticks_between test now now ≡ 0
+unfolding counted
+ticks-none_yet test now = let none : now - now ≡ 0 = omega arith in ap (counted test now) none
