@@ -1,7 +1,6 @@
 -- No timer expires in a span of the clock: also after a knote came, was replaced or went, and in each span within it.
-use Rattle.std.proofs.Common.{◌≡◌, ℕ, ◌+◌, ◌<◌, ◌≤◌, min, Bool, true, false, cond, not, List, [], ◌∷◌, ◌++◌, ◌⊎◌, inl, inr, refl, sym, ap, ◌∙◌, subst, arith}
+use Rattle.std.proofs.Common.{◌≡◌, ℕ, ◌<◌, ◌≤◌, min, not, List, [], ◌∷◌, ◌++◌, ◌⊎◌, inl, inr, sym, ◌∙◌, subst, arith}
 use Rattle.std.proofs.lemmas.Bool.{cases_lt, cond_both, true≢false}
-use Rattle.std.specs.List.{AllByRecursion}
 use Rattle.kq_model.specs.declared.key.Key.{Key}
 use Rattle.kq_model.specs.Clock.{expires_at}
 use Rattle.kq_model.specs.Knote.{key_eq, with_knote, without_knote}

@@ -1,15 +1,14 @@
 -- A knote as a timer: knotes of other filters never expire, and some expirations at once are as many one by one.
-use Rattle.std.proofs.Common.{◌≡◌, ℕ, zero, suc, ◌+◌, ◌-◌, ◌<◌, ◌≤◌, min, Bool, true, false, cond, ◌&&◌, Option, None, Some, Result, Ok, Err, refl, sym, ap, ap₂, ◌∙◌, add-zero, arith}
+use Rattle.std.proofs.Common.{◌≡◌, ℕ, zero, suc, ◌+◌, ◌-◌, ◌<◌, ◌≤◌, min, Bool, true, false, cond, ◌&&◌, Option, None, Some, Ok, Err, refl, sym, ap, ap₂, ◌∙◌, arith}
 use Rattle.std.specs.Int.Bits.{or_zero_r}
-use Rattle.std.specs.Int.RustNames.{bit_or}
 use Rattle.std.specs.Option.{ok_or, is_none}
 use Rattle.kq_model.specs.declared.errno.Errno.{Errno}
 use Rattle.kq_model.specs.ChangedKnote.{period_in}
 use Rattle.kq_model.specs.Clock.{expires_at, timers, expired, ticking}
-use Rattle.kq_model.specs.Hearing.{Tally, tallying, most_counted, notes_of, Expired}
+use Rattle.kq_model.specs.Hearing.{Tally, tallying, most_counted, notes_of}
 use Rattle.kq_model.specs.Knote.{is_timer}
 use Rattle.kq_model.specs.Tallied.{Knote}
-use Rattle.kq_model.specs.Ticks.{Ticking, last_moment, expires, counted, ticks_between, next_tick}
+use Rattle.kq_model.specs.Ticks.{last_moment, expires, counted, ticks_between, next_tick}
 use Rattle.kq_model.specs.TimerWalk.{rung_times}
 use Rattle.kq_model.proofs.TicksFirst.{next_tick-none}
 

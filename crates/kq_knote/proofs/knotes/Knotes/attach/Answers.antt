@@ -41,8 +41,8 @@ invariant_of-self c =
       watches = λ whole. c.self.invariant.watches whole ∙ alone-push ks c.args.knote alone
           ∙ ap (λ rest. map watch_of (filter shares rest)) (sym c.attach.ensures.rows);
       begun = c.self.invariant.begun;
-      quiet = quiet-attached c.self.inside.since c.self.inside.soonest c.first_after.result c.min.result ks c.attach.new.self.rows c.args.knote
-          c.self.invariant.quiet c.first_after.ensures c.min.ensures c.attach.ensures.rows;
+      quiet = quiet-attached c.self.inside.since c.self.inside.soonest c.first_after.result c.min-self-inside.result ks c.attach.new.self.rows c.args.knote
+          c.self.invariant.quiet c.first_after.ensures c.min-self-inside.ensures c.attach.ensures.rows;
     }
 
 pub invariant_of-self-then-room-gt0 : goal.invariant_of-self-then-room-gt0
@@ -59,8 +59,8 @@ invariant_of-self-then-room-gt0 c =
           ∙ shared-push ks c.args.knote shared
           ∙ ap (λ rest. map watch_of (filter shares rest)) (sym c.attach.ensures.rows);
       begun = c.self.invariant.begun;
-      quiet = quiet-attached c.self.inside.since c.self.inside.soonest c.first_after.result c.min.result ks c.attach.new.self.rows c.args.knote
-          c.self.invariant.quiet c.first_after.ensures c.min.ensures c.attach.ensures.rows;
+      quiet = quiet-attached c.self.inside.since c.self.inside.soonest c.first_after.result c.min-self-inside.result ks c.attach.new.self.rows c.args.knote
+          c.self.invariant.quiet c.first_after.ensures c.min-self-inside.ensures c.attach.ensures.rows;
     }
 
 pub invariant_of-self-else-self : goal.invariant_of-self-else-self
@@ -72,8 +72,8 @@ invariant_of-self-else-self c =
       own_keys = subst HaveOwnKeys (sym c.attach.ensures.rows) (HaveOwnKeys-append ks c.args.knote c.self.invariant.own_keys absent);
       watches = λ whole. absurd (true≢false (sym whole));
       begun = c.self.invariant.begun;
-      quiet = quiet-attached c.self.inside.since c.self.inside.soonest c.first_after.result c.min.result ks c.attach.new.self.rows c.args.knote
-          c.self.invariant.quiet c.first_after.ensures c.min.ensures c.attach.ensures.rows;
+      quiet = quiet-attached c.self.inside.since c.self.inside.soonest c.first_after.result c.min-self-inside.result ks c.attach.new.self.rows c.args.knote
+          c.self.invariant.quiet c.first_after.ensures c.min-self-inside.ensures c.attach.ensures.rows;
     }
 
 pub first_after-requires : goal.first_after-requires

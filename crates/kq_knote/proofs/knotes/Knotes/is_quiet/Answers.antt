@@ -1,4 +1,4 @@
-use Rattle.std.proofs.Common.{◌<◌, ◌≤◌, subst, arith}
+use Rattle.std.proofs.Common.{subst, arith}
 use Rattle.kq_knote.specs.Quiet.{AreLater}
 use Rattle.kq_knote.specs.Reserved.{Reserved}
 use Rattle.kq_knote.proofs.QuietLaws.{later-all}

@@ -1,7 +1,6 @@
 use Rattle.std.proofs.Common.{◌≡◌, map, filter, rules, sym, ap, ◌∙◌, subst}
 use Rattle.kq_model.specs.Knote.{with_knote}
 use Rattle.kq_model.specs.Kqueue.{HaveOwnKeys}
-use Rattle.kq_model.specs.Tallied.{Knote}
 use Rattle.kq_model.proofs.KnoteLaws.{HaveOwnKeys-with}
 use Rattle.kq_knote.specs.Index.{watch_of, shares, KeepsTarget}
 use Rattle.kq_knote.specs.Reserved.{Reserved}
@@ -19,8 +18,8 @@ invariant_of-self c =
       watches = λ whole. c.self.invariant.watches whole ∙ sym (with-watch c.args.knote ks c.self.invariant.own_keys keeps)
           ∙ ap (λ rest. map watch_of (filter shares rest)) (sym rows);
       begun = c.self.invariant.begun;
-      quiet = quiet-modified c.self.inside.since c.self.inside.soonest c.first_after.result c.min.result ks c.modify.new.self.rows c.args.knote
-          c.self.invariant.quiet c.first_after.ensures c.min.ensures rows;
+      quiet = quiet-modified c.self.inside.since c.self.inside.soonest c.first_after.result c.min-self-inside.result ks c.modify.new.self.rows c.args.knote
+          c.self.invariant.quiet c.first_after.ensures c.min-self-inside.ensures rows;
     }
 
 pub first_after-requires : goal.first_after-requires

@@ -1,5 +1,4 @@
-use Rattle.std.proofs.Common.{◌≡◌, ◌+◌, ◌≤◌, ℕ, List, length, map, filter, not, Option, None, Some, rules, refl, sym, ap, ◌∙◌, subst, arith}
-use Rattle.std.specs.Option.{option_map, MatchOption}
+use Rattle.std.proofs.Common.{◌≡◌, ◌+◌, List, length, map, filter, not, rules, sym, ap, ◌∙◌, subst, arith}
 use Rattle.kq_model.specs.contracts.key.KeyPartialEq.TheImpl as key_equal
 use Rattle.kq_model.specs.Knote.{key_eq, find_knote, without_knote}
 use Rattle.kq_model.specs.Kqueue.{HaveOwnKeys}
