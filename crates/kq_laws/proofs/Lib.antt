@@ -4,3 +4,4 @@ pub mod Told
 pub mod ToldByChange
 pub mod ToldByCall
 pub mod ToldOverLife
+pub mod Awake

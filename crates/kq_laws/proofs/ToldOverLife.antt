@@ -148,8 +148,8 @@ answer-counts ident since now room views kq after (Impossible why) within all is
 pub tells_expirations : (ident : ℕ) (caller : Caller) (room : ℕ) (changes : List Change) (kq after : Kqueue) (reply : Reply)
     → IsAnswer caller.views room (kqueue_after_changes caller room changes kq) after reply
     → TellsExpirations ident caller room changes kq reply
-tells_expirations ident caller room changes kq after reply answer birth view steps begins kept reached clock =
-    let start = born birth view in
+tells_expirations ident caller room changes kq after reply answer birth views steps begins kept reached clock =
+    let start = born birth views in
     let since = last_returned (timer ident) steps start birth in
     let is = life-told ident steps start birth kept
     (record { past = omega arith; within = begins; told = All-nil (IsTold ident birth birth) }) in

@@ -1,9 +1,7 @@
 -- The life of one kqueue: what happens to it, one thing after the other, from the moment it was made. Beside the
 -- kqueue stand the clock and what was last seen of the world.
-use Rattle.std.specs.Prelude.{◌≡◌, ℕ, ◌≤◌, List, [], ◌∷◌, Option, Some}
+use Rattle.std.specs.Prelude.{◌≡◌, ℕ, ◌≤◌, List, [], ◌∷◌, Some}
 use Rattle.kq_model.specs.declared.change.Change.{Change}
-use Rattle.kq_model.specs.declared.object.Target.{Target}
-use Rattle.kq_model.specs.declared.object.View.{View}
 use Rattle.kq_model.specs.Call.{call}
 use Rattle.kq_model.specs.Caller.{Caller}
 use Rattle.kq_model.specs.Clock.{clocked}
@@ -30,15 +28,15 @@ pub record Life : Type 0 where
   -- the clock, in ns
   pub now : ℕ
   -- the world, as the last record left it
-  pub view : Target → Option View
+  pub views : Views
 
 -- made at a moment, in a world
-abbrev pub born : ℕ → (Target → Option View) → Life
-born now view = record { kq = empty_kqueue; now = now; view = view }
+abbrev pub born : ℕ → Views → Life
+born now views = record { kq = empty_kqueue; now = now; views = views }
 
 abbrev pub stepped : Step → Life → Life
 stepped (Closes owner pairs) l = record l { kq = closed owner pairs l.kq }
-stepped (Hints posted views) l = record l { kq = notified views posted l.kq; view = views.view }
+stepped (Hints posted views) l = record l { kq = notified views posted l.kq; views = views }
 stepped (Passes moment) l = record l { kq = clocked (Some (record { from = l.now; to = moment })) l.kq; now = moment }
 stepped (Calls caller changes room) l = record l { kq = (call caller room changes l.kq).kq }
 

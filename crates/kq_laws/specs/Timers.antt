@@ -1,13 +1,11 @@
 -- What a timer tells over the life of its kqueue (kqueue(2), EVFILT_TIMER): the data of its event is the number of its
 -- expirations since it was last returned or started.
-use Rattle.std.specs.Prelude.{◌≡◌, ℕ, pos, ◌≤◌, Bool, true, false, not, ◌&&◌, List, [], ◌∷◌, if◌then◌else◌, Option, Some}
+use Rattle.std.specs.Prelude.{◌≡◌, ℕ, pos, ◌≤◌, Bool, true, false, not, ◌&&◌, List, [], ◌∷◌, if◌then◌else◌, Some}
 use Rattle.std.specs.List.{list_any}
 use Rattle.kq_model.specs.declared.change.Change.{Change}
 use Rattle.kq_model.specs.declared.filter.Filter.TheVariants.{Timer}
 use Rattle.kq_model.specs.declared.kevent.Kevent.{Kevent}
 use Rattle.kq_model.specs.declared.key.Key.{Key}
-use Rattle.kq_model.specs.declared.object.Target.{Target}
-use Rattle.kq_model.specs.declared.object.View.{View}
 use Rattle.kq_model.specs.declared.reply.Reply.{Reply}
 use Rattle.kq_model.specs.declared.reply.Reply.TheVariants.{Done, Events, Failed, Impossible}
 use Rattle.kq_model.specs.Bits.{asks, error}
@@ -18,6 +16,7 @@ use Rattle.kq_model.specs.Clock.{expires_at}
 use Rattle.kq_model.specs.Knote.{key_eq, find_knote}
 use Rattle.kq_model.specs.Tallied.{Knote, Kqueue}
 use Rattle.kq_model.specs.Ticks.{last_moment, ticks_between}
+use Rattle.kq_model.specs.Views.{Views}
 use Rattle.kq_laws.specs.Life.{Life, Step, Closes, Hints, Passes, Calls, born, stepped, lived, KeepTime}
 
 -- the timer of this number
@@ -67,8 +66,8 @@ CountsAll ident knotes from to (Impossible why) = Unit {0}
 -- at the present clock tells of the timer how often it expired since it was last returned.
 abbrev pub TellsExpirations : ℕ → Caller → ℕ → List Change → Kqueue → Reply → Type 0
 TellsExpirations ident caller room changes kq reply =
-    (birth : ℕ) (view : Target → Option View) (steps : List Step)
-    → birth ≤ last_moment → KeepTime steps (born birth view) → (lived steps (born birth view)).kq ≡ kq
-    → caller.views.now ≡ (lived steps (born birth view)).now
+    (birth : ℕ) (views : Views) (steps : List Step)
+    → birth ≤ last_moment → KeepTime steps (born birth views) → (lived steps (born birth views)).kq ≡ kq
+    → caller.views.now ≡ (lived steps (born birth views)).now
     → CountsAll ident (kqueue_after_changes caller room changes kq).knotes
-    (last_returned (timer ident) steps (born birth view) birth) caller.views.now reply
+    (last_returned (timer ident) steps (born birth views) birth) caller.views.now reply
