@@ -21,7 +21,7 @@ use Rattle.kq_model.specs.Close.{Pair, is_closed, closed}
 use Rattle.kq_model.specs.Hearing.{tallying}
 use Rattle.kq_model.specs.Hints.{hints_for, heard_by, hears_exit, unless_silent, noticed, if_there, knotes_noticing, notified}
 use Rattle.kq_model.specs.Knote.{find_knote, with_knote}
-use Rattle.kq_model.specs.Look.{Seen, look_by, look}
+use Rattle.kq_model.specs.Look.{Seen, mark_of, look_user, look_by, look}
 use Rattle.kq_model.specs.Registration.{Refuse, Remove, Make, Modify, decision, carried_out, register}
 use Rattle.kq_model.specs.Retrieval.{stays, reset, rested, knotes_after, turned_at_look, turned_at, turned, delivered, after_turn, retrieve, retrieval}
 use Rattle.kq_model.specs.Tallied.{Decision, Knote, Kqueue, Processed, Retrieved}
@@ -39,7 +39,7 @@ IsAwake views k = stays k ≡ true → k.enabled ≡ true → is_due views k ≡
 -- ---- a look does not see whether the knote is active
 
 look_by-active : (f : Filter) (view : Option View) (k : Knote) (b : Bool) → look_by f view (record k { active = b }) ≡ look_by f view k
-unfolding look_by
+unfolding look_by mark_of look_user
 look_by-active Read view k b = refl
 look_by-active Write view k b = refl
 look_by-active Vnode view k b = refl
@@ -143,6 +143,11 @@ noticing-awake before views posted (k ∷ ks) all announced =
     (All-head (IsAnnounced before posted views) k ks announced)))
     (noticing-awake before views posted ks (All-tail (IsAwake before) k ks all)
     (All-tail (IsAnnounced before posted views) k ks announced))
+
+notified-awake : (before views : Views) (posted : List Posted) (kq : Kqueue) → All (IsAwake before) kq.knotes
+    → All (IsAnnounced before posted views) kq.knotes → All (IsAwake views) (notified views posted kq).knotes
+unfolding notified
+notified-awake before views posted kq all announced = noticing-awake before views posted kq.knotes all announced
 
 -- ---- the clock, and closes
 
@@ -294,11 +299,7 @@ AreAwake l = All (IsAwake l.views) l.kq.knotes
 
 step-awake : (s : Step) (l : Life) → IsToldOfWorld s l → AreAwake l → AreAwake (stepped s l)
 step-awake (Closes owner pairs) l told all = closed-awake l.views owner pairs l.kq all
-step-awake (Hints posted views) l told all = notice
-  where
-    notice : All (IsAwake views) (notified views posted l.kq).knotes
-    unfolding notified
-    notice = noticing-awake l.views views posted l.kq.knotes all told
+step-awake (Hints posted views) l told all = notified-awake l.views views posted l.kq all told
 step-awake (Passes moment) l told all = clocked-awake l.views (record { from = l.now; to = moment }) l.kq all
 step-awake (Calls caller changes room) l told all =
     awake-view caller.views l.views (call caller room changes l.kq).kq.knotes told

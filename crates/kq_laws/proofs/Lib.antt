@@ -5,3 +5,6 @@ pub mod ToldByChange
 pub mod ToldByCall
 pub mod ToldOverLife
 pub mod Awake
+pub mod Returned
+pub mod Settled
+pub mod LifeRows

@@ -2,5 +2,7 @@
 #![tactic(auto)]
 
 mod calling;
+mod polling;
 
 pub use calling::call;
+pub use polling::poll;
