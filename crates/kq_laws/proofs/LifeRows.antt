@@ -1,5 +1,5 @@
 -- A life by example: a timer of 10 ns and the reading end of a pipe, with a clock that goes on and bytes that come.
-use Rattle.std.proofs.Common.{◌≡◌, ◌×◌, ℕ, pos, true, List, [], ◌∷◌, ◌++◌, Some, refl}
+use Rattle.std.proofs.Common.{◌≡◌, ℕ, pos, true, List, [], ◌∷◌, ◌++◌, Some, refl}
 use Rattle.kq_model.specs.declared.change.Change.{Change}
 use Rattle.kq_model.specs.declared.filter.Filter.{Filter}
 use Rattle.kq_model.specs.declared.filter.Filter.TheVariants as by

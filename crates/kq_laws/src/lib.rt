@@ -3,6 +3,8 @@
 
 mod calling;
 mod polling;
+#[cfg(test)]
+mod tests;
 
 pub use calling::call;
 pub use polling::poll;
