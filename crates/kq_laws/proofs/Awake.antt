@@ -1,5 +1,5 @@
 -- A level-triggered knote whose condition holds is active: one operation after the other, and over the whole life.
-use Rattle.std.proofs.Common.{◌≡◌, ℕ, zero, suc, ◌+◌, ◌-◌, Bool, true, false, cond, ltb, not, ◌&&◌, ◌||◌, length, List, [], ◌∷◌, ◌++◌, map, Option, Some, None, refl, sym, ap, ◌∙◌, subst}
+use Rattle.std.proofs.Common.{◌≡◌, ℕ, zero, suc, ◌+◌, ◌-◌, Bool, true, false, cond, ltb, not, ◌||◌, length, List, [], ◌∷◌, ◌++◌, map, Option, Some, None, refl, sym, ap, ◌∙◌}
 use Rattle.std.proofs.lemmas.Bool.{cond_both, true≢false}
 use Rattle.std.proofs.lemmas.List.Elements.{All-nil, All-cons, All-head, All-tail, All-append, All-filter, All-weaker}
 use Rattle.std.specs.List.{All}
@@ -20,7 +20,7 @@ use Rattle.kq_model.specs.Clock.{Span, timers, expires_at, expired, waiting_of, 
 use Rattle.kq_model.specs.Close.{Pair, is_closed, closed}
 use Rattle.kq_model.specs.Hearing.{tallying}
 use Rattle.kq_model.specs.Hints.{hints_for, heard_by, hears_exit, unless_silent, noticed, if_there, knotes_noticing, notified}
-use Rattle.kq_model.specs.Knote.{find_knote, with_knote}
+use Rattle.kq_model.specs.Knote.{find_knote}
 use Rattle.kq_model.specs.Look.{Seen, mark_of, look_user, look_by, look}
 use Rattle.kq_model.specs.Registration.{Refuse, Remove, Make, Modify, decision, carried_out, register}
 use Rattle.kq_model.specs.Retrieval.{stays, reset, rested, knotes_after, turned_at_look, turned_at, turned, delivered, after_turn, retrieve, retrieval}
@@ -31,7 +31,7 @@ use Rattle.kq_model.specs.Views.{Views}
 use Rattle.kq_model.proofs.KnoteLaws.{by_test}
 use Rattle.kq_laws.specs.Life.{Life, Step, Closes, Hints, Passes, Calls, stepped, lived}
 use Rattle.kq_laws.specs.Wakes.{is_due, IsAnnounced, IsToldOfWorld, AreToldOfWorld}
-use Rattle.kq_laws.proofs.Lists.{with_knote-all, without_knote-all, found-is}
+use Rattle.kq_laws.proofs.Lists.{with_knote-all, without_knote-all}
 
 pub IsAwake : Views → Knote → Type 0
 IsAwake views k = stays k ≡ true → k.enabled ≡ true → is_due views k ≡ true → k.active ≡ true

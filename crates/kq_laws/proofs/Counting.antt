@@ -1,11 +1,11 @@
 -- How often a timer expires, from one moment to the next.
-use Rattle.std.proofs.Common.{◌≡◌, ℕ, zero, suc, ◌+◌, ◌-◌, ◌*◌, ◌<◌, ◌≤◌, Bool, true, false, cond, ◌&&◌, refl, ap, ◌∙◌, arith}
-use Rattle.std.proofs.lemmas.Bool.{and_left, and_right}
+use Rattle.std.proofs.Common.{◌≡◌, ℕ, zero, suc, ◌+◌, ◌-◌, ◌<◌, ◌≤◌, Bool, true, false, cond, refl, ap, ◌∙◌, arith}
+use Rattle.std.proofs.lemmas.Bool.{and_right}
 use Rattle.std.proofs.Math.Nat.{le-mul_of_pos_right}
 use Rattle.kq_model.specs.Clock.{expires_at, ticking}
 use Rattle.kq_model.specs.Knote.{is_timer}
 use Rattle.kq_model.specs.Tallied.{Knote}
-use Rattle.kq_model.specs.Ticks.{is_tick, expires, counted, ticks_between}
+use Rattle.kq_model.specs.Ticks.{is_tick, counted, ticks_between}
 use Rattle.kq_model.proofs.Ticks.{is_tick-false}
 
 at_most_one : (n most : ℕ) (b : Bool) → n ≤ most → n + cond b 1 0 ≤ suc most
@@ -40,7 +40,7 @@ ticks-most test since now = omega (arith, counted-most test since (now - since))
 pub expires-after_start : (k : Knote) (m : ℕ) → 0 < k.period → m ≤ k.start → expires_at k m ≡ false
 expires-after_start k m positive early =
     let none : is_tick (ticking k) m ≡ false =
-        is_tick-false (ticking k) m (λ j e. absurd (omega (arith, le-mul_of_pos_right (suc j) positive))) in
+    is_tick-false (ticking k) m (λ j e. absurd (omega (arith, le-mul_of_pos_right (suc j) positive))) in
     rw none (and_right (is_timer k.key.filter) _ refl)
 
 pub ticks-unstarted : (k : Knote) (since now : ℕ) → 0 < k.period → since ≤ now → now ≤ k.start

@@ -1,5 +1,5 @@
 -- What holds of all knotes of a list, after the operations on it.
-use Rattle.std.proofs.Common.{◌≡◌, true, false, cond, not, List, [], ◌∷◌, Option, Some, None, refl, subst}
+use Rattle.std.proofs.Common.{◌≡◌, false, cond, not, List, [], ◌∷◌, Option, Some, None, refl, subst}
 use Rattle.std.proofs.lemmas.Bool.{cond_both}
 use Rattle.std.proofs.lemmas.List.Elements.{All-nil, All-cons, All-head, All-tail, All-filter}
 use Rattle.std.specs.List.{All}

@@ -1,6 +1,6 @@
 -- What waits in the queue and is due is returned, where there is room for it and for what waits in front.
-use Rattle.std.proofs.Common.{◌≡◌, ℕ, zero, suc, ◌<◌, Bool, true, false, cond, not, ◌&&◌, ◌||◌, ltb, length, List, [], ◌∷◌, ◌++◌, Option, Some, None, inl, inr, refl, sym, ap, ◌∙◌, subst, arith}
-use Rattle.std.proofs.lemmas.Bool.{cond_both, true≢false, or_left, or_right, and_from}
+use Rattle.std.proofs.Common.{◌≡◌, ℕ, zero, suc, ◌<◌, Bool, true, false, cond, ◌&&◌, ◌||◌, List, [], ◌∷◌, Option, Some, None, inl, inr, refl, sym, ap, ◌∙◌, subst, arith}
+use Rattle.std.proofs.lemmas.Bool.{cond_both, true≢false, or_left, or_right}
 use Rattle.std.specs.List.{All}
 use Rattle.std.specs.Option.{is_some}
 use Rattle.kq_model.specs.declared.change.Change.{Change}
@@ -11,22 +11,22 @@ use Rattle.kq_model.specs.declared.reply.Reply.TheVariants.{Events}
 use Rattle.kq_model.specs.Call.{is_answered, after, process, returned, by_entries, by_answer, concluded, call}
 use Rattle.kq_model.specs.CallLaws.{AreQuiet, kqueue_after_changes}
 use Rattle.kq_model.specs.Caller.{Caller}
-use Rattle.kq_model.specs.Knote.{key_eq, has_key, find_knote, with_knote, without_knote}
+use Rattle.kq_model.specs.Knote.{key_eq, has_key, find_knote}
 use Rattle.kq_model.specs.Kqueue.{AreOnce, is_waiting, IsSound}
 use Rattle.kq_model.specs.Look.{Seen, look}
 use Rattle.kq_model.specs.Registration.{register}
-use Rattle.kq_model.specs.Retrieval.{event_of, stays, rested, knotes_after, with_idle, with_delivered, turned_at_look, turned_at, turned, delivered, after_turn, retrieve, retrieval}
+use Rattle.kq_model.specs.Retrieval.{event_of, rested, knotes_after, with_idle, with_delivered, turned_at_look, turned_at, turned, delivered, after_turn, retrieve, retrieval}
 use Rattle.kq_model.specs.Tallied.{Called, Knote, Kqueue, Processed, Retrieved, Turned}
 use Rattle.kq_model.specs.Views.{Views}
-use Rattle.kq_model.proofs.KeyLaws.{same_key, key_eq-refl, key_eq-sym}
+use Rattle.kq_model.proofs.KeyLaws.{same_key, key_eq-refl}
 use Rattle.kq_model.proofs.KnoteLaws.{by_test, find_knote-key, find_knote-with_other, find_knote-without_other}
 use Rattle.kq_kevent.proofs.AnswerLaws.{IsSound-process}
 use Rattle.kq_kevent.proofs.SoundLaws.{waiting-some}
 use Rattle.kq_kevent.proofs.TurnLaws.{turned-idle, turned-delivered}
 use Rattle.kq_kevent.proofs.TurnSound.{rested-key}
 use Rattle.kq_laws.specs.Life.{born, lived}
-use Rattle.kq_laws.specs.Wakes.{is_due, due_at, ahead, IsAmong, IsReturned, ReturnsDue, LosesNoWakeUp}
-use Rattle.kq_laws.proofs.Awake.{IsAwake, AreAwake, awake-is, awake-view, life-awake, process-awake}
+use Rattle.kq_laws.specs.Wakes.{due_at, ahead, IsAmong, LosesNoWakeUp}
+use Rattle.kq_laws.proofs.Awake.{IsAwake, awake-is, awake-view, life-awake, process-awake}
 use Rattle.kq_laws.proofs.Lists.{found-is}
 use Rattle.std.proofs.lemmas.List.Elements.{All-nil}
 
@@ -205,13 +205,13 @@ pub loses_no_wake_up : (caller : Caller) (room : ℕ) (changes : List Change) (k
     → reply ≡ (call caller room changes kq).reply → LosesNoWakeUp caller room changes kq reply
 loses_no_wake_up caller room changes kq reply sound is birth views steps told reached same quiet =
     λ key k seen found level enabled holds left.
-        let awake : IsAwake caller.views k = found-is (IsAwake caller.views) key next.knotes k all_next found in
-        let active = awake-is caller.views k awake level enabled (ap is_some holds) in (
-          (retrieval caller.views room next).events,
-          is ∙ quiet-reply caller room changes kq quiet,
-          retrieval-finds caller.views room next key k seen sound_next.once found holds
-              (waits caller.views next key k sound_next found active enabled) left,
-        )
+    let awake : IsAwake caller.views k = found-is (IsAwake caller.views) key next.knotes k all_next found in
+    let active = awake-is caller.views k awake level enabled (ap is_some holds) in (
+      (retrieval caller.views room next).events,
+      is ∙ quiet-reply caller room changes kq quiet,
+      retrieval-finds caller.views room next key k seen sound_next.once found holds
+          (waits caller.views next key k sound_next found active enabled) left,
+    )
   where
     next : Kqueue
     next = kqueue_after_changes caller room changes kq

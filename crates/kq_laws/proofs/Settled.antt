@@ -5,7 +5,7 @@ use Rattle.kq_model.specs.declared.key.Key.{Key}
 use Rattle.kq_model.specs.Call.{call}
 use Rattle.kq_model.specs.CallLaws.{kqueue_after_changes}
 use Rattle.kq_model.specs.Caller.{Caller}
-use Rattle.kq_model.specs.Hints.{hints_for, noticed, if_there, knotes_noticing, queue_noticing, queue_after_all, notified}
+use Rattle.kq_model.specs.Hints.{noticed, if_there, knotes_noticing, queue_noticing, queue_after_all, notified}
 use Rattle.kq_model.specs.Tallied.{Knote, Kqueue}
 use Rattle.kq_model.specs.Views.{Views}
 

@@ -1,6 +1,6 @@
 -- What a timer was told so far is its expirations since it was last returned: one operation after the other.
-use Rattle.std.proofs.Common.{◌≡◌, ℕ, zero, suc, ◌+◌, ◌-◌, ◌<◌, ◌≤◌, Bool, true, false, cond, not, ◌||◌, List, [], ◌∷◌, map, min, Option, Some, None, refl, sym, ap, ◌∙◌, subst, arith}
-use Rattle.std.proofs.lemmas.Bool.{cond_both, true≢false}
+use Rattle.std.proofs.Common.{◌≡◌, ℕ, zero, suc, ◌+◌, ◌-◌, ◌≤◌, Bool, true, false, cond, not, List, [], ◌∷◌, map, Option, Some, None, refl, sym, ap, ◌∙◌, subst, arith}
+use Rattle.std.proofs.lemmas.Bool.{true≢false}
 use Rattle.std.proofs.lemmas.List.Elements.{All-nil, All-cons, All-head, All-tail, All-append, All-filter}
 use Rattle.std.specs.List.{All, filter}
 use Rattle.kq_model.specs.declared.filter.Filter.{Filter}
@@ -12,7 +12,7 @@ use Rattle.kq_model.specs.Clock.{expires_at, expired, timers, waiting_of, clock_
 use Rattle.kq_model.specs.Close.{Pair, is_closed, closed}
 use Rattle.kq_model.specs.Hearing.{tallying}
 use Rattle.kq_model.specs.Hints.{takes, hints_for, noticed, if_there, knotes_noticing, notified}
-use Rattle.kq_model.specs.Knote.{key_eq, find_knote}
+use Rattle.kq_model.specs.Knote.{key_eq}
 use Rattle.kq_model.specs.Tallied.{Knote, Kqueue}
 use Rattle.kq_model.specs.Targets.{Posted, is_target}
 use Rattle.kq_model.specs.Ticks.{last_moment, ticks_between}

@@ -1,7 +1,6 @@
 -- A call returns a timer, which then was told nothing, or leaves it what it was told.
-use Rattle.std.proofs.Common.{◌≡◌, ℕ, zero, suc, ◌≤◌, Bool, true, false, cond, ltb, not, ◌||◌, ◌&&◌, length, List, [], ◌∷◌, ◌++◌, Option, Some, None, refl, sym, ap, ◌∙◌, subst, arith}
+use Rattle.std.proofs.Common.{◌≡◌, ℕ, zero, suc, ◌≤◌, Bool, true, false, cond, ltb, not, ◌||◌, ◌&&◌, length, List, [], ◌∷◌, ◌++◌, Option, Some, None, refl, sym, ap, ◌∙◌, subst}
 use Rattle.std.proofs.lemmas.Bool.{cond_both, true≢false}
-use Rattle.std.proofs.lemmas.List.Elements.{All-nil, All-cons, All-head, All-tail}
 use Rattle.std.specs.List.{All, list_any}
 use Rattle.kq_model.specs.declared.change.Change.{Change}
 use Rattle.kq_model.specs.declared.errno.Errno.{Errno}
@@ -9,17 +8,15 @@ use Rattle.kq_model.specs.declared.event_flags.EvFlags.{EvFlags}
 use Rattle.kq_model.specs.declared.kevent.Kevent.{Kevent}
 use Rattle.kq_model.specs.declared.key.Key.{Key}
 use Rattle.kq_model.specs.declared.reply.Reply.{Reply}
-use Rattle.kq_model.specs.declared.reply.Reply.TheVariants.{Events}
 use Rattle.kq_model.specs.Bits.{asks, flag_if, oneshot, clear, dispatch, eof, error}
 use Rattle.kq_model.specs.Call.{entry_of, is_answered, ended, after, process, returned, by_entries, by_answer, concluded, call}
 use Rattle.kq_model.specs.Caller.{Caller}
 use Rattle.kq_model.specs.Hearing.{tallying}
-use Rattle.kq_model.specs.Knote.{key_eq, find_knote, with_knote, without_knote}
+use Rattle.kq_model.specs.Knote.{key_eq, find_knote, with_knote}
 use Rattle.kq_model.specs.Look.{Seen, look}
 use Rattle.kq_model.specs.Registration.{register}
-use Rattle.kq_model.specs.Retrieval.{event_flags, event_of, reset, rested, knotes_after, with_idle, with_delivered, turned_at_look, turned_at, turned, delivered, after_turn, retrieve, retrieval}
-use Rattle.kq_model.specs.Tallied.{Called, Knote, Kqueue, Processed, Registered, Retrieved, Turned}
-use Rattle.kq_model.specs.Ticks.{ticks_between}
+use Rattle.kq_model.specs.Retrieval.{event_flags, event_of, reset, rested, knotes_after, turned_at_look, turned_at, turned, delivered, after_turn, retrieve, retrieval}
+use Rattle.kq_model.specs.Tallied.{Called, Knote, Kqueue, Processed, Retrieved, Turned}
 use Rattle.kq_model.specs.Views.{Views}
 use Rattle.kq_model.proofs.KeyLaws.{same_key}
 use Rattle.kq_model.proofs.KeyLists.{and_false}
@@ -137,7 +134,7 @@ module _ (ident now : ℕ) where
   delivered-timer since k ks same told all =
       let at : timer ident ≡ k.key = same_key (timer ident) k.key same in
       let others : (x : Knote) → key_eq k.key x.key ≡ false → Is since x → Is now x =
-          λ x other _. apart now x (ap (λ (o : Key). key_eq o x.key) at ∙ other) in
+      λ x other _. apart now x (ap (λ (o : Key). key_eq o x.key) at ∙ other) in
       let clears = (told same).clear in
       cond_both k.oneshot _ _ (All (Is now))
       (λ _. without_knote-others (Is since) (Is now) k.key ks others all)

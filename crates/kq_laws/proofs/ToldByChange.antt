@@ -1,8 +1,8 @@
 -- A change keeps what a timer was told, or starts it anew with nothing told.
-use Rattle.std.proofs.Common.{◌≡◌, ℕ, zero, suc, ◌+◌, ◌*◌, ◌<◌, ◌≤◌, Bool, true, false, cond, eqb, leb, not, ◌||◌, List, [], ◌∷◌, ◌++◌, max, ℤ, pos, negsuc, Option, Some, None, refl, sym, ap, ◌∙◌, subst, arith}
-use Rattle.std.proofs.lemmas.Bool.{cond_both, true≢false, eqb-true}
+use Rattle.std.proofs.Common.{◌≡◌, ℕ, ◌*◌, ◌<◌, ◌≤◌, Bool, true, false, eqb, leb, ◌||◌, [], ◌∷◌, max, ℤ, pos, negsuc, Option, Some, None, refl, sym, ap, ◌∙◌, subst, arith}
+use Rattle.std.proofs.lemmas.Bool.{cond_both, true≢false}
 use Rattle.std.proofs.lemmas.List.Elements.{All-nil, All-cons, All-append}
-use Rattle.std.proofs.lemmas.Option.{none-some, same_Some}
+use Rattle.std.proofs.lemmas.Option.{none-some}
 use Rattle.std.proofs.Math.Nat.{le-mul_of_pos_right}
 use Rattle.std.specs.List.{All}
 use Rattle.std.specs.Option.{is_none, option_and_then}
@@ -14,7 +14,6 @@ use Rattle.kq_model.specs.declared.key.Key.{Key}
 use Rattle.kq_model.specs.Bits.{asks, add, delete, clear}
 use Rattle.kq_model.specs.Caller.{Caller}
 use Rattle.kq_model.specs.ChangedKnote.{key_of, period_in, always_clears, fresh, started, begun, replaced, restarted, changed, switched, activated, attended, made, modified}
-use Rattle.kq_model.specs.Clock.{expires_at}
 use Rattle.kq_model.specs.Hearing.{tallying}
 use Rattle.kq_model.specs.Knote.{key_eq, find_knote}
 use Rattle.kq_model.specs.Look.{Seen, look}
@@ -24,12 +23,12 @@ use Rattle.kq_model.specs.Tallied.{Decision, Knote, Kqueue}
 use Rattle.kq_model.specs.Ticks.{period_of, unit_of, units, last_moment}
 use Rattle.kq_model.specs.Views.{Views}
 use Rattle.kq_model.proofs.KeyLaws.{same_key}
-use Rattle.kq_model.proofs.KnoteLaws.{by_test, find_knote-key}
+use Rattle.kq_model.proofs.KnoteLaws.{find_knote-key}
 use Rattle.kq_model.proofs.RegistrationLaws.{made-key, modified-key}
 use Rattle.kq_laws.specs.Timers.{timer}
 use Rattle.kq_laws.proofs.Counting.{ticks-unstarted}
 use Rattle.kq_laws.proofs.Lists.{with_knote-all, without_knote-all, found-is}
-use Rattle.kq_laws.proofs.Told.{Told, IsTold, AreTold}
+use Rattle.kq_laws.proofs.Told.{Told, IsTold}
 
 -- ---- a period is at least 1
 

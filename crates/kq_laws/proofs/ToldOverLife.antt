@@ -1,5 +1,5 @@
 -- Over the whole life of a kqueue a timer is told its expirations, and its events tell them.
-use Rattle.std.proofs.Common.{◌≡◌, ℕ, ◌≤◌, Bool, true, false, cond, eqb, not, ◌&&◌, ◌⊎◌, inl, inr, List, [], ◌∷◌, min, pos, Option, Some, None, refl, sym, ap, ◌∙◌, subst, arith}
+use Rattle.std.proofs.Common.{◌≡◌, ℕ, ◌≤◌, Bool, true, false, cond, eqb, not, inl, inr, List, [], ◌∷◌, min, pos, Some, None, refl, sym, ap, ◌∙◌, subst, arith}
 use Rattle.std.proofs.lemmas.Bool.{true≢false, and_parts}
 use Rattle.std.proofs.lemmas.List.Elements.{All-nil}
 use Rattle.std.proofs.lemmas.Option.{none-some, same_Some}
@@ -26,7 +26,7 @@ use Rattle.kq_model.specs.Views.{Views}
 use Rattle.kq_model.proofs.KeyLaws.{same_key, key_eq-refl}
 use Rattle.kq_model.proofs.KnoteLaws.{by_test, find_knote-key}
 use Rattle.kq_laws.specs.Life.{Life, Step, Closes, Hints, Passes, Calls, born, stepped, lived, KeepsTime, KeepTime}
-use Rattle.kq_laws.specs.Timers.{timer, is_event_of, returns, returned_in, last_returned, expirations, Counts, CountsAll, TellsExpirations}
+use Rattle.kq_laws.specs.Timers.{timer, returns, returned_in, last_returned, expirations, Counts, CountsAll, TellsExpirations}
 use Rattle.kq_laws.proofs.Counting.{ticks-most}
 use Rattle.kq_laws.proofs.Lists.{found-is}
 use Rattle.kq_laws.proofs.Told.{Told, IsTold, AreTold, closed-told, notified-told, clocked-told}
@@ -112,8 +112,8 @@ module _ (ident since now : ℕ) (views : Views) (ks : List Knote) (within : now
       let found : find_knote (timer ident) ks ≡ Some due.knote = ap (λ (o : Key). find_knote o ks) at ∙ due.found in
       let of : timer ident ≡ due.knote.key = find_knote-key (timer ident) ks due.knote found in
       let told : Told since now due.knote =
-          found-is (IsTold ident since now) (timer ident) ks due.knote all found
-          (ap (key_eq (timer ident)) (sym of) ∙ key_eq-refl (timer ident)) in (
+      found-is (IsTold ident since now) (timer ident) ks due.knote all found
+      (ap (key_eq (timer ident)) (sym of) ∙ key_eq-refl (timer ident)) in (
         due.knote,
         found,
         ap (λ (x : Kevent). x.datum) due.is ∙ event-datum due.knote due.seen
@@ -155,7 +155,7 @@ tells_expirations ident caller room changes kq after reply answer birth views st
     (record { past = omega arith; within = begins; told = All-nil (IsTold ident birth birth) }) in
     let past : since ≤ caller.views.now = omega (arith, is.past, clock) in
     let told : AreTold ident since caller.views.now kq.knotes =
-        subst (λ (now : ℕ). AreTold ident since now kq.knotes) (sym clock)
-        (subst (λ (q : Kqueue). AreTold ident since (lived steps start).now q.knotes) reached is.told) in
+    subst (λ (now : ℕ). AreTold ident since now kq.knotes) (sym clock)
+    (subst (λ (q : Kqueue). AreTold ident since (lived steps start).now q.knotes) reached is.told) in
     answer-counts ident since caller.views.now room caller.views (kqueue_after_changes caller room changes kq) after reply
     (omega (arith, is.within, clock)) (process-told ident since caller past room changes [] kq told) answer

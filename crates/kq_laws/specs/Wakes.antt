@@ -1,6 +1,6 @@
 -- That no wake-up is lost (kqueue(2): a filter without EV_CLEAR is level-triggered): where the condition of a knote holds
 -- that is enabled and has neither ONESHOT nor CLEAR nor DISPATCH, a call with room for it returns it.
-use Rattle.std.specs.Prelude.{◌≡◌, ℕ, zero, suc, ◌<◌, Bool, true, false, List, [], ◌∷◌, Option, Some, None, if◌then◌else◌, All, ◌⊎◌}
+use Rattle.std.specs.Prelude.{◌≡◌, ℕ, suc, ◌<◌, Bool, true, false, List, [], ◌∷◌, Option, Some, None, if◌then◌else◌, All, ◌⊎◌}
 use Rattle.std.specs.Option.{is_some}
 use Rattle.kq_model.specs.declared.change.Change.{Change}
 use Rattle.kq_model.specs.declared.kevent.Kevent.{Kevent}

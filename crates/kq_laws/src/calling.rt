@@ -11,7 +11,12 @@ use kq_model::{Change, Memory, Reply};
 
 /// One kevent call, as [`Kq::call`], with what a user may rely on over the whole life of the kqueue, whatever
 /// happened to it since it was made.
-pub fn call<V: Views>(kqueue: &mut Kq, changes: &[Change], room: u32, views: &V) -> Result<Reply, Memory>
+pub fn call<V: Views>(
+    kqueue: &mut Kq,
+    changes: &[Change],
+    room: u32,
+    views: &V,
+) -> Result<Reply, Memory>
     ensures called { IfOk result (λ reply. record { kq = kqueue.new.kq; reply = reply }
         ≡ kevent.call (caller (V.sees views.now) kqueue.old) room changes.now kqueue.old.kq) }
 

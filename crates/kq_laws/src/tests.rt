@@ -70,18 +70,27 @@ fn a_life(rt: HostRuntime) -> Result<(), Fail> {
     let empty = PipeWorld { bytes: 0, now: 0 };
     let changes = [add(7, Filter::Timer, 8, 10), add(3, Filter::Read, 0, 0)];
     let made = call(&mut kqueue, &changes, 0, &empty)?;
-    assert_eq!(rt; data(&rt, &made)?.as_slice(), &[]);
+    assert!(rt; data(&rt, &made)?.is_empty());
     kqueue.clock(0, 35);
     let first = poll(&mut kqueue, 4, &PipeWorld { bytes: 0, now: 35 })?;
-    assert_eq!(rt; data(&rt, &first)?.as_slice(), &[(Filter::Timer, 3)]);
+    assert_eq!(rt;
+        data(&rt, &first)?.as_slice(),
+        &[(Filter::Timer, 3)].as_slice()
+    );
     let filled = PipeWorld { bytes: 5, now: 60 };
     kqueue.notify(&[(Target::Pipe(1), Hint::Readable)], &filled);
     kqueue.clock(35, 60);
     let second = poll(&mut kqueue, 4, &filled)?;
-    assert_eq!(rt; data(&rt, &second)?.as_slice(), &[(Filter::Read, 5), (Filter::Timer, 3)]);
+    assert_eq!(rt;
+        data(&rt, &second)?.as_slice(),
+        &[(Filter::Read, 5), (Filter::Timer, 3)].as_slice()
+    );
     let third = poll(&mut kqueue, 1, &filled)?;
-    assert_eq!(rt; data(&rt, &third)?.as_slice(), &[(Filter::Read, 5)]);
+    assert_eq!(rt;
+        data(&rt, &third)?.as_slice(),
+        &[(Filter::Read, 5)].as_slice()
+    );
     let last = poll(&mut kqueue, 4, &PipeWorld { bytes: 0, now: 60 })?;
-    assert_eq!(rt; data(&rt, &last)?.as_slice(), &[]);
+    assert!(rt; data(&rt, &last)?.is_empty());
     Ok(())
 }
