@@ -75,7 +75,7 @@ fn a_life(rt: HostRuntime) -> Result<(), Fail> {
     let first = poll(&mut kqueue, 4, &PipeWorld { bytes: 0, now: 35 })?;
     assert_eq!(rt;
         data(&rt, &first)?.as_slice(),
-        &[(Filter::Timer, 3)].as_slice()
+        [(Filter::Timer, 3)].as_slice()
     );
     let filled = PipeWorld { bytes: 5, now: 60 };
     kqueue.notify(&[(Target::Pipe(1), Hint::Readable)], &filled);
@@ -83,12 +83,12 @@ fn a_life(rt: HostRuntime) -> Result<(), Fail> {
     let second = poll(&mut kqueue, 4, &filled)?;
     assert_eq!(rt;
         data(&rt, &second)?.as_slice(),
-        &[(Filter::Read, 5), (Filter::Timer, 3)].as_slice()
+        [(Filter::Read, 5), (Filter::Timer, 3)].as_slice()
     );
     let third = poll(&mut kqueue, 1, &filled)?;
     assert_eq!(rt;
         data(&rt, &third)?.as_slice(),
-        &[(Filter::Read, 5)].as_slice()
+        [(Filter::Read, 5)].as_slice()
     );
     let last = poll(&mut kqueue, 4, &PipeWorld { bytes: 0, now: 60 })?;
     assert!(rt; data(&rt, &last)?.is_empty());
