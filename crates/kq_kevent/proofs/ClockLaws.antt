@@ -1,8 +1,7 @@
 -- Timers that ring in the order of their first expirations, ties in order of registration, leave what the clock leaves that goes
 -- from moment to moment.
-use Rattle.std.proofs.Common.{◌≡◌, ℕ, zero, suc, ◌+◌, ◌-◌, ◌<◌, ◌≤◌, Bool, true, false, cond, not, ◌&&◌, eqb, leb, ltb, List, [], ◌∷◌, ◌++◌, map, filter, ◌⊎◌, inl, inr, Some, None, refl, sym, ap, ap₂, ◌∙◌, subst, arith}
-use Rattle.std.proofs.lemmas.Bool.{true≢false, leb-true, le-leb, lt-leb, lt-ltb, le-ltb, ltb-true, ltb-false, and_left, cases_lt, cases_order, eq-eqb, ne_eqb, eqb-true}
-use Rattle.std.proofs.lemmas.Bool.Decides.{nat_tests}
+use Rattle.std.proofs.Common.{◌≡◌, ℕ, zero, suc, ◌+◌, ◌-◌, ◌<◌, ◌≤◌, Bool, true, false, cond, ◌&&◌, eqb, leb, ltb, List, [], ◌∷◌, ◌++◌, map, filter, ◌⊎◌, inl, inr, Some, refl, sym, ap, ap₂, ◌∙◌, subst, arith}
+use Rattle.std.proofs.lemmas.Bool.{le-leb, lt-leb, lt-ltb, le-ltb, ltb-true, ltb-false, cases_lt, eqb-true}
 use Rattle.std.specs.List.{AllByRecursion}
 use Rattle.std.specs.Option.{option_map}
 use Rattle.kq_model.specs.declared.key.Key.{Key}
@@ -11,15 +10,15 @@ use Rattle.kq_model.specs.Hearing.{tallying}
 use Rattle.kq_model.specs.Knote.{key_eq, has_key, find_knote}
 use Rattle.kq_model.specs.Kqueue.{IsSound, HaveOwnKeys, is_waiting}
 use Rattle.kq_model.specs.Tallied.{Knote, Kqueue}
-use Rattle.kq_model.specs.Ticks.{last_moment, next_tick}
-use Rattle.kq_model.specs.TimerWalk.{rung_times, in_order, is_fresh, tickers_at_once, IsFirstPassing}
+use Rattle.kq_model.specs.Ticks.{last_moment}
+use Rattle.kq_model.specs.TimerWalk.{in_order, is_fresh}
 use Rattle.kq_model.proofs.ClockLaw.{clock_from-at_once}
 use Rattle.kq_model.proofs.KeyLaws.{key_eq-sym}
 use Rattle.kq_model.proofs.KnoteLaws.{by_test}
 use Rattle.kq_model.proofs.TicksFirst.{next_tick-is, counted-expired}
 use Rattle.kq_model.proofs.TimerWalkKeys.{key_eq-laws, distinct_keys}
 use Rattle.kq_model.proofs.TimerWalkMember.{IsAmong, all_among, list_any-in_order}
-use Rattle.kq_model.proofs.TimerWalkQueue.{filter-agree, filter-none, All-like, All-both}
+use Rattle.kq_model.proofs.TimerWalkQueue.{filter-agree, All-like}
 use Rattle.kq_model.proofs.TimerWalkSort.{sorted_step}
 use Rattle.kq_knote.specs.Quiet.{AreLater}
 use Rattle.kq_knote.proofs.TimerLaws.{rung-none}

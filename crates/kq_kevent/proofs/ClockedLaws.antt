@@ -1,5 +1,5 @@
 -- What a kqueue whose clock went on promises besides, and what is known of its timers then.
-use Rattle.std.proofs.Common.{◌≡◌, ℕ, zero, suc, ◌+◌, ◌-◌, ◌<◌, ◌≤◌, List, [], ◌∷◌, Some, ◌⊎◌, inl, inr, sym, ap, ◌∙◌, subst, arith}
+use Rattle.std.proofs.Common.{◌≡◌, ℕ, zero, suc, ◌+◌, ◌-◌, ◌≤◌, List, [], ◌∷◌, Some, ◌⊎◌, inl, inr, sym, ap, ◌∙◌, subst, arith}
 use Rattle.kq_model.specs.Clock.{timers, waiting_of, kqueue_of_waiting, clock_from, clocked}
 use Rattle.kq_model.specs.Hearing.{listed, tallying}
 use Rattle.kq_model.specs.Kqueue as kqueues

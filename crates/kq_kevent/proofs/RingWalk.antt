@@ -2,15 +2,12 @@
 use Rattle.std.proofs.Common.{◌≡◌, ℕ, ◌+◌, ◌<◌, ◌≤◌, min, Bool, true, false, cond, eqb, leb, List, [], ◌∷◌, ◌++◌, length, slice_get, ◌⊎◌, inl, inr, Option, Some, None, append_assoc, refl, sym, ap, ◌∙◌, subst, arith}
 use Rattle.std.proofs.lemmas.Bool.{cases_lt, le-leb, lt-leb}
 use Rattle.std.proofs.lemmas.Option.{none-some, same_Some}
-use Rattle.std.specs.List.{AllByRecursion}
 use Rattle.kq_model.specs.Knote.{find_knote, with_knote}
 use Rattle.kq_model.specs.Kqueue.{HaveOwnKeys}
 use Rattle.kq_model.specs.Tallied.{Knote, Kqueue}
-use Rattle.kq_model.proofs.KnoteLaws.{by_test}
 use Rattle.kq_model.proofs.KnoteMiddle.{apart-middle, found-middle, with-middle}
-use Rattle.kq_model.proofs.TimerWalkQueue.{All-like}
 use Rattle.kq_knote.proofs.WalkLaws.{after, after-middle}
-use Rattle.kq_kevent.specs.Ringing.{first_of, ticks_of, rung, with_rung, rung_each, firsts_at, AreOutside}
+use Rattle.kq_kevent.specs.Ringing.{first_of, ticks_of, rung, rung_each, firsts_at, AreOutside}
 use Rattle.kq_kevent.specs.Telling.{StandsFor}
 use Rattle.kq_kevent.proofs.RingLaws.{rung-key, rung_times-target, rung_times-idle}
 

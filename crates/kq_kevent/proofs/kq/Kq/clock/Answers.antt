@@ -1,4 +1,4 @@
-use Rattle.std.proofs.Common.{sym, ap, ◌∙◌, subst}
+use Rattle.std.proofs.Common.{ap, ◌∙◌, subst}
 use Rattle.kq_model.specs.Kqueue.{IsSound}
 use Rattle.kq_knote.specs.Quiet.{AreLater}
 use Rattle.kq_kevent.specs.Owned.{OwnedKqueue, limit}

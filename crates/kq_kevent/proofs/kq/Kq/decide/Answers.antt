@@ -1,4 +1,4 @@
-use Rattle.std.proofs.Common.{◌≡◌, true, false, Option, sym, ap, ◌∙◌}
+use Rattle.std.proofs.Common.{Option, sym, ap, ◌∙◌}
 use Rattle.kq_model.specs.Caller.{Caller}
 use Rattle.kq_model.specs.ChangedKnote.{key_of}
 use Rattle.kq_model.specs.Knote.{find_knote}

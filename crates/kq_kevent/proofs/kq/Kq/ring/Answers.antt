@@ -1,4 +1,4 @@
-use Rattle.std.proofs.Common.{◌≡◌, ap, ◌∙◌}
+use Rattle.std.proofs.Common.{ap, ◌∙◌}
 use Rattle.kq_model.specs.Knote.{with_knote}
 use Rattle.kq_model.specs.Registration.{queue_for}
 use Rattle.kq_model.specs.Tallied.{Knote}

@@ -1,6 +1,6 @@
 use Rattle.std.proofs.Common.{◌≡◌, ◌+◌, ◌-◌, ◌<◌, ◌≤◌}
 use Rattle.kq_kevent.specs.Owned.{limit}
-use Rattle.kq_kevent.specs.Ringing.{rung_each, AreOutside}
+use Rattle.kq_kevent.specs.Ringing.{rung_each}
 use Rattle.kq_kevent.proofs.ClockLaws.{ringing_before}
 use Rattle.kq_kevent.proofs.kq.Kq.ring_all.Given as goal
 

@@ -1,4 +1,4 @@
-use Rattle.std.proofs.Common.{◌≡◌, ℕ, ◌<◌, ◌≤◌, Bool, true, false, cond, List, length, refl, sym, ap, ◌∙◌, subst, arith}
+use Rattle.std.proofs.Common.{◌≡◌, ℕ, ◌<◌, ◌≤◌, Bool, true, false, cond, List, length, refl, sym, ap, ◌∙◌, arith}
 use Rattle.kq_model.specs.declared.key.Key.{Key}
 use Rattle.kq_model.specs.ChangedKnote.{key_of}
 use Rattle.kq_model.specs.Knote.{has_key, without_key}
