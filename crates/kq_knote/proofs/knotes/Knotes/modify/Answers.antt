@@ -27,7 +27,7 @@ invariant_of-self c =
     let ks = c.self.inside.rows.rows in
     let keeps = subst (λ (v : Reserved). KeepsTarget c.args.knote v.knotes) (sym c.self.view_is) c.requires in
     let rows : c.modify.new.self.rows ≡ with_knote c.args.knote ks =
-    with-rows _ ks c.modify.new.self.rows c.modify.ensures.rows ∙ ap (λ (k : Knote). with_knote k ks) c.knote.view_is in
+    with-rows c.args.knote ks c.modify.new.self.rows c.modify.ensures.rows in
     let armed_modified : c.put_changed-self-inside.result ≡ true → AreAlarmed c.self.inside.since c.put_changed-self-inside.new.alarms.entries c.modify.new.self.rows =
     λ whole. alarmed-modified c.self.inside.since c.put_changed-self-inside.new.alarms.entries c.self.inside.alarms.entries ks c.modify.new.self.rows c.args.knote c.first_after-first.result
     (c.self.invariant.armed (c.put_changed-self-inside.ensures.whole whole)) c.put_changed-self-inside.ensures.kept c.first_after-first.ensures
@@ -50,5 +50,5 @@ first_after-first-requires c = c.self.invariant.begun
 pub returns-clause-knotes : goal.returns-clause-knotes
 returns-clause-knotes c =
     let ks = c.self.inside.rows.rows in
-    with-rows _ ks c.modify.new.self.rows c.modify.ensures.rows ∙ ap (λ (k : Knote). with_knote k ks) c.knote.view_is
+    with-rows c.args.knote ks c.modify.new.self.rows c.modify.ensures.rows
     ∙ ap (λ (v : Reserved). with_knote c.args.knote v.knotes) c.self.view_is
