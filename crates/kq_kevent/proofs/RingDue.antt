@@ -42,10 +42,10 @@ each-start from to kq sound ordered within keys are = record {
 module _ (from to : ℕ) (wanted : Kqueue) where
   pub each-goes : (key : Key) (keys : List Key) (kq after : Kqueue) → IsRingingEach from to wanted (key ∷ keys) kq
       → MatchOption (find_knote key kq.knotes) (after ≡ kq) (λ (k : Knote). after ≡ with_rung from to k kq) → IsRingingEach from to wanted keys after
+  unfolding rung_each
   each-goes key keys kq after at rings = go at.ahead at.keys_are at.there at.apart at.rest
     where
       go : (ahead : List Knote) → key ∷ keys ≡ map key_in ahead → AreThere kq.knotes ahead → AreApart ahead → rung_each from to ahead kq ≡ wanted → IsRingingEach from to wanted keys after
-      unfolding rung_each
       go [] are there apart rest = absurd (cc)
       go (k ∷ ahead) are there apart rest =
           let one : key ≡ k.key = cc in
@@ -61,9 +61,9 @@ module _ (from to : ℕ) (wanted : Kqueue) where
           })
 
   pub each-ends : (kq : Kqueue) → IsRingingEach from to wanted [] kq → kq ≡ wanted
+  unfolding rung_each
   each-ends kq at = go at.ahead at.keys_are at.rest
     where
       go : (ahead : List Knote) → [] ≡ map key_in ahead → rung_each from to ahead kq ≡ wanted → kq ≡ wanted
-      unfolding rung_each
       go [] are rest = rest
       go (k ∷ ahead) are rest = absurd (cc)
