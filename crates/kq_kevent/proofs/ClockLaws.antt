@@ -54,7 +54,7 @@ filter-changed p f (x ∷ xs) all =
     (λ _ e. ap (λ b. cond b (f x ∷ filter p (map f xs)) (filter p (map f xs))) (all.0.0 ∙ e) ∙ ap₂ (λ y rest. y ∷ rest) (all.0.1 e) (filter-changed p f xs all.1))
     (λ _ e. ap (λ b. cond b (f x ∷ filter p (map f xs)) (filter p (map f xs))) (all.0.0 ∙ e) ∙ filter-changed p f xs all.1) refl
 
-filter-alike : {X : Type 0} (p q : X → Bool) → ((x : X) → p x ≡ q x) → (xs : List X) → filter p xs ≡ filter q xs
+pub filter-alike : {X : Type 0} (p q : X → Bool) → ((x : X) → p x ≡ q x) → (xs : List X) → filter p xs ≡ filter q xs
 filter-alike p q same xs = λ i. filter (λ x. same x i) xs
 
 -- ---- tests
@@ -75,7 +75,7 @@ leb-suc n m = by_place (cases_lt m n)
     by_place (inl h) = lt-leb n m h ∙ sym (le-ltb n (suc m) (omega (arith, h)))
     by_place (inr h) = le-leb n m h ∙ sym (lt-ltb n (suc m) (omega (arith, h)))
 
-leb-more : (n m : ℕ) → leb n m ≡ ltb n (m + 1)
+pub leb-more : (n m : ℕ) → leb n m ≡ ltb n (m + 1)
 leb-more n m = by_place (cases_lt m n)
   where
     by_place : (m < n) ⊎ (n ≤ m) → leb n m ≡ ltb n (m + 1)
@@ -91,12 +91,12 @@ module _ (from to : ℕ) where
   abbrev pub ringing_before : ℕ → List Knote → List Knote
   ringing_before moment ks = in_order (first_of from) (filter (is_before moment) ks)
 
-  there-before : (moment : ℕ) (ks : List Knote) → HaveOwnKeys ks → AreThere ks (ringing_before moment ks)
+  pub there-before : (moment : ℕ) (ks : List Knote) → HaveOwnKeys ks → AreThere ks (ringing_before moment ks)
   there-before moment ks own =
       All-in_order (first_of from) (λ k. find_knote k.key ks ≡ Some k) (filter (is_before moment) ks)
       (All-filter (λ k. find_knote k.key ks ≡ Some k) (is_before moment) ks (found_all ks own))
 
-  apart-before : (moment : ℕ) (ks : List Knote) → HaveOwnKeys ks → AreApart (ringing_before moment ks)
+  pub apart-before : (moment : ℕ) (ks : List Knote) → HaveOwnKeys ks → AreApart (ringing_before moment ks)
   apart-before moment ks own =
       two-in_order (first_of from) (λ (a : Knote) (b : Knote). key_eq a.key b.key ≡ false) (λ a b e. key_eq-sym b.key a.key ∙ e) (filter (is_before moment) ks)
       (two-filter (λ (a : Knote) (b : Knote). key_eq a.key b.key ≡ false) (is_before moment) ks (apart_all ks own))

@@ -18,3 +18,4 @@ pub mod RingLaws
 pub mod ClockLaws
 pub mod RingWalk
 pub mod ClockedLaws
+pub mod RingDue

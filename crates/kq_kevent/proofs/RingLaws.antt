@@ -148,7 +148,7 @@ module _ (from to : ℕ) where
       (ap (λ key. has_key key keys) (rung-key x ∙ same_key x.key k.key same) ∙ absent))
       (λ _ _. refl) refl
 
-  there-after : (k : Knote) (ks some : List Knote) → AllByRecursion (λ x. key_eq k.key x.key ≡ false) some → AreThere ks some → AreThere (with_knote (rung from to k) ks) some
+  pub there-after : (k : Knote) (ks some : List Knote) → AllByRecursion (λ x. key_eq k.key x.key ≡ false) some → AreThere ks some → AreThere (with_knote (rung from to k) ks) some
   there-after k ks some apart there =
       All-both (λ x. key_eq k.key x.key ≡ false) (λ x. find_knote x.key ks ≡ Some x) (λ x. find_knote x.key (with_knote (rung from to k) ks) ≡ Some x)
       (λ x other here. find_knote-with_other x.key (rung from to k) ks (ap (λ key. key_eq key x.key) (rung-key k) ∙ other) ∙ here) some apart there

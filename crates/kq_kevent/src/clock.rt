@@ -1,4 +1,4 @@
-ghost use Rattle.std.specs.Prelude.{◌≡◌, ℕ, ◌<◌, ◌≤◌, ◌+◌, ◌∷◌, Some, [], min, nat_le, if◌then◌else◌};
+ghost use Rattle.std.specs.Prelude.{◌≡◌, ℕ, ◌<◌, ◌≤◌, ◌+◌, ◌∷◌, Some, [], map, min, nat_le, if◌then◌else◌, MatchOption};
 ghost use Rattle.kq_model.specs.Clock.{clocked};
 ghost use Rattle.kq_model.specs.Hearing.{listed};
 ghost use Rattle.kq_model.specs.Knote.{find_knote};
@@ -7,11 +7,13 @@ ghost use Rattle.kq_model.specs.Recast as recast;
 ghost use Rattle.kq_model.specs.Ticks.{last_moment};
 ghost use Rattle.kq_model.specs.Views as world;
 ghost use Rattle.kq_model.specs.WatchedNumbers.{WatchTheirNumbers};
+ghost use Rattle.kq_knote.specs.Expiring.{expiring};
 ghost use Rattle.kq_kevent.specs.Owned.{limit};
 ghost use Rattle.kq_kevent.specs.Ringing.{AreOutside, IsClocked, firsts_at, rung_each, with_rung};
 
 use crate::Kq;
 use kq_knote::Knote;
+use kq_model::Key;
 
 /// The last moment of the clock.
 const LAST_MOMENT: u64 = i64::MAX as u64;
@@ -63,8 +65,61 @@ impl Kq {
         if self.knotes.is_quiet(from, to) {
             return;
         }
-        self.ring_all(from, to);
-        self.foresee(to);
+        self.ring_due(from, to);
+    }
+
+    /// All timers ring that expire, in the order of their first expirations: those that the alarms tell, or
+    /// else by walks over all knotes.
+    fn ring_due(&mut self, from: u64, to: u64)
+        requires ordered { from ≤ to }
+        requires within { to ≤ last_moment }
+        ensures kq { self.new.kq ≡ clocked (Some (record { from = from; to = to })) self.old.kq }
+        ensures owner { self.new.owner ≡ self.old.owner }
+        ensures version { self.new.version ≡ self.old.version }
+        ensures room { self.new.room ≡ self.old.room }
+        ensures limit { limit self.new ≡ limit self.old }
+    {
+        let Some(due) = self.knotes.take_expiring(from, to) else {
+            self.ring_all(from, to);
+            self.foresee(to);
+            return;
+        };
+        self.ring_each(due.as_slice(), from, to);
+        self.knotes.give_back_expiring(due);
+    }
+
+    /// The timers ring of which these are the keys, one after the other: all that expire.
+    fn ring_each(&mut self, keys: &[Key], from: u64, to: u64)
+        requires keys { keys.now ≡ map (λ k. k.key) (expiring from to self.old.kq.knotes) }
+        requires sound { IsSound self.old.kq }
+        requires ordered { from ≤ to }
+        requires within { to ≤ last_moment }
+        ensures kq { self.new.kq ≡ clocked (Some (record { from = from; to = to })) self.old.kq }
+        ensures owner { self.new.owner ≡ self.old.owner }
+        ensures version { self.new.version ≡ self.old.version }
+        ensures room { self.new.room ≡ self.old.room }
+        ensures limit { limit self.new ≡ limit self.old }
+    {
+        for key in keys {
+            self.ring_key(*key, from, to);
+        }
+    }
+
+    /// The knote of a key rings, where there is one.
+    fn ring_key(&mut self, key: Key, from: u64, to: u64)
+        requires ordered { from ≤ to }
+        requires within { to ≤ last_moment }
+        ensures kq { MatchOption (find_knote key self.old.kq.knotes) (self.new.kq ≡ self.old.kq)
+            (λ knote. self.new.kq ≡ with_rung from to knote self.old.kq) }
+        ensures owner { self.new.owner ≡ self.old.owner }
+        ensures version { self.new.version ≡ self.old.version }
+        ensures room { self.new.room ≡ self.old.room }
+        ensures limit { limit self.new ≡ limit self.old }
+    {
+        let Some(knote) = self.knotes.find(key) else {
+            return;
+        };
+        self.ring(knote, from, to);
     }
 
     /// Notes when the next timer expires after the moment `since`, so that until then the clock need
@@ -77,7 +132,7 @@ impl Kq {
         self.knotes.note_quiet(since, soonest);
     }
 
-    /// All timers ring that expire, in the order of their first expirations.
+    /// The same by walks over all knotes, two for each moment at which one expires first.
     fn ring_all(&mut self, from: u64, to: u64)
         requires sound { IsSound self.old.kq }
         requires ordered { from ≤ to }

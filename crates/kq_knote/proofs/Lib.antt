@@ -6,3 +6,6 @@ pub mod WalkLaws
 pub mod GatherLaws
 pub mod TimerLaws
 pub mod QuietLaws
+pub mod AlarmLaws
+pub mod DueLaws
+pub mod ArmLaws

@@ -7,7 +7,9 @@ ghost use Rattle.kq_knote.specs.Quiet.{AreLater, AreQuiet};
 ghost use Rattle.kq_table.specs.Rows.{row_after};
 
 use crate::Knote;
+use crate::arming::{put_changed, put_new};
 use crate::hinted::is_shared;
+use kq_alarm::Alarms;
 use kq_model::{Filter, Key, Memory, Target};
 use kq_table::{Table, TargetIndex, Watch};
 use std::alloc::Global;
@@ -28,9 +30,15 @@ pub struct Knotes {
     /// Room for where their knotes stand.
     pub(crate) places: Vec<usize>,
     /// After this moment of the clock,
-    since: u64,
+    pub(crate) since: u64,
     /// and before this one, no timer expires.
-    soonest: u64,
+    pub(crate) soonest: u64,
+    /// When each timer expires first after `since`, and others of before.
+    pub(crate) alarms: Alarms,
+    /// The alarms have had room for each of them.
+    pub(crate) alarmed: bool,
+    /// Room for the keys of timers that expire. What stands in it means nothing.
+    pub(crate) due: Vec<Key>,
 }
 
 impl Model for Knotes {
@@ -42,7 +50,7 @@ impl Model for Knotes {
 
     ghost view = { λ k. record { knotes = k.rows.rows; room = k.rows.room } };
 
-    ghost invariant = { λ k. IsKept k.rows.rows k.whole k.index k.since k.soonest };
+    ghost invariant = { λ k. IsKept k.rows.rows k.whole k.index k.since k.soonest k.alarmed k.alarms };
 }
 
 impl Knotes {
@@ -59,6 +67,9 @@ impl Knotes {
             places: Vec::new(alloc),
             since: 0,
             soonest: 0,
+            alarms: Alarms::new(alloc),
+            alarmed: true,
+            due: Vec::new(alloc),
         }
     }
 
@@ -141,7 +152,9 @@ impl Knotes {
         ensures knotes { self.new.knotes ≡ self.old.knotes ++ knote ∷ [] }
         ensures room { self.new.room + 1 ≡ self.old.room }
     {
-        self.soonest = self.soonest.min(knote.first_after(self.since));
+        let first = knote.first_after(self.since);
+        self.soonest = self.soonest.min(first);
+        self.alarmed = put_new(&mut self.alarms, self.alarmed, knote.key.ident, first);
         self.rows.attach(knote);
         if !is_shared(knote.target) {
             return;
@@ -163,7 +176,16 @@ impl Knotes {
         ensures knotes { self.new.knotes ≡ with_knote knote self.old.knotes }
         ensures room { self.new.room ≡ self.old.room }
     {
-        self.soonest = self.soonest.min(knote.first_after(self.since));
+        let first = knote.first_after(self.since);
+        self.soonest = self.soonest.min(first);
+        self.alarmed = put_changed(
+            &self.rows,
+            self.since,
+            &mut self.alarms,
+            self.alarmed,
+            knote.key,
+            first,
+        );
         self.rows.modify(knote);
     }
 
@@ -222,6 +244,7 @@ impl Knotes {
         requires quiet { AreQuiet since soonest self.old.knotes }
         ensures { self.new ≡ self.old }
     {
+        self.alarmed = false;
         self.since = since;
         self.soonest = soonest;
     }

@@ -1,7 +1,10 @@
 //! The knotes of one kqueue.
 #![tactic(auto)]
 
+mod arming;
 mod changes;
+mod due;
+mod expiring;
 mod gathered;
 mod hinted;
 mod knote;

@@ -1,7 +1,7 @@
-use Rattle.std.proofs.Common.{ap, ◌∙◌, subst}
+use Rattle.std.proofs.Common.{subst}
 use Rattle.kq_model.specs.Kqueue.{IsSound}
 use Rattle.kq_knote.specs.Quiet.{AreLater}
-use Rattle.kq_kevent.specs.Owned.{OwnedKqueue, limit}
+use Rattle.kq_kevent.specs.Owned.{OwnedKqueue}
 use Rattle.kq_kevent.proofs.ClockLaws.{quiet-clocked, clocked-laws}
 use Rattle.kq_kevent.proofs.ClockedLaws.{clocked-model, clocked-named, clocked-steps}
 use Rattle.kq_kevent.proofs.kq.Kq.clock.Goals as goal
@@ -22,41 +22,26 @@ returns-then-is_quiet-clause-model c =
     clocked-model c.args.from c.args.to c.args.self.now.kq c.args.self.now.kq (returns-then-is_quiet-clause-kq c)
 
 pub returns-clause-kq : goal.returns-clause-kq
-returns-clause-kq c = ap (λ (v : OwnedKqueue). v.kq) c.foresee.ensures ∙ c.ring_all.ensures.kq
+returns-clause-kq c = c.ring_due.ensures.kq
 
 pub returns-clause-laws : goal.returns-clause-laws
 returns-clause-laws c =
     let sound = subst (λ (v : OwnedKqueue). IsSound v.kq) c.self.view_is c.self.invariant.sound in
-    clocked-laws c.args.from c.args.to c.args.self.now.kq sound c.requires.ordered c.requires.within c.foresee.new.self.kq (returns-clause-kq c)
+    clocked-laws c.args.from c.args.to c.args.self.now.kq sound c.requires.ordered c.requires.within c.ring_due.new.self.kq (returns-clause-kq c)
 
 pub returns-clause-model : goal.returns-clause-model
-returns-clause-model c = clocked-model c.args.from c.args.to c.args.self.now.kq c.foresee.new.self.kq (returns-clause-kq c)
+returns-clause-model c = clocked-model c.args.from c.args.to c.args.self.now.kq c.ring_due.new.self.kq (returns-clause-kq c)
 
 pub returns-clause-named : goal.returns-clause-named
 returns-clause-named c =
-    λ views all. clocked-named c.args.from c.args.to c.args.self.now.kq c.foresee.new.self.kq (returns-clause-kq c) views c.args.self.now.owner all
-
-pub ring_all-requires-clause-sound : goal.ring_all-requires-clause-sound
-ring_all-requires-clause-sound c = subst (λ (v : OwnedKqueue). IsSound v.kq) c.self.view_is c.self.invariant.sound
+    λ views all. clocked-named c.args.from c.args.to c.args.self.now.kq c.ring_due.new.self.kq (returns-clause-kq c) views c.args.self.now.owner all
 
 pub returns-then-is_quiet-clause-named : goal.returns-then-is_quiet-clause-named
 returns-then-is_quiet-clause-named c = λ views all. all
-
-pub returns-clause-owner : goal.returns-clause-owner
-returns-clause-owner c = ap (λ (v : OwnedKqueue). v.owner) c.foresee.ensures ∙ c.ring_all.ensures.owner
-
-pub returns-clause-version : goal.returns-clause-version
-returns-clause-version c = ap (λ (v : OwnedKqueue). v.version) c.foresee.ensures ∙ c.ring_all.ensures.version
-
-pub returns-clause-room : goal.returns-clause-room
-returns-clause-room c = ap (λ (v : OwnedKqueue). v.room) c.foresee.ensures ∙ c.ring_all.ensures.room
-
-pub returns-clause-limit : goal.returns-clause-limit
-returns-clause-limit c = ap limit c.foresee.ensures ∙ c.ring_all.ensures.limit
 
 pub returns-then-is_quiet-clause-steps : goal.returns-then-is_quiet-clause-steps
 returns-then-is_quiet-clause-steps c =
     clocked-steps c.args.from c.args.to c.args.self.now.kq c.args.self.now.kq (returns-then-is_quiet-clause-kq c)
 
 pub returns-clause-steps : goal.returns-clause-steps
-returns-clause-steps c = clocked-steps c.args.from c.args.to c.args.self.now.kq c.foresee.new.self.kq (returns-clause-kq c)
+returns-clause-steps c = clocked-steps c.args.from c.args.to c.args.self.now.kq c.ring_due.new.self.kq (returns-clause-kq c)
