@@ -1,5 +1,5 @@
 -- Timers that ring one after the other by their keys: all that expire, in the order of their first expirations.
-use Rattle.std.proofs.Common.{◌≡◌, ℕ, ◌+◌, ◌≤◌, Bool, true, false, leb, ltb, List, [], ◌∷◌, map, filter, ◌⊎◌, inl, inr, Some, refl, sym, ap, ◌∙◌, subst, arith}
+use Rattle.std.proofs.Common.{◌≡◌, ℕ, ◌+◌, ◌≤◌, leb, List, [], ◌∷◌, map, Some, sym, ap, ◌∙◌, subst, arith}
 use Rattle.std.proofs.lemmas.Option.{MatchOption-at_some}
 use Rattle.std.specs.Option.{MatchOption}
 use Rattle.kq_model.specs.declared.key.Key.{Key}

@@ -1,7 +1,7 @@
 -- Alarms, and the knotes that they are of.
-use Rattle.std.proofs.Common.{◌≡◌, ℕ, zero, suc, ◌+◌, ◌-◌, ◌<◌, ◌≤◌, Bool, true, false, cond, not, leb, ◌&&◌, ◌||◌, List, [], ◌∷◌, ◌++◌, ◌⊎◌, inl, inr, Option, None, Some, refl, sym, ap, ◌∙◌, subst, arith}
+use Rattle.std.proofs.Common.{◌≡◌, ℕ, zero, suc, ◌+◌, ◌-◌, ◌<◌, ◌≤◌, Bool, true, false, cond, not, leb, List, [], ◌∷◌, ◌++◌, ◌⊎◌, inl, inr, Some, refl, sym, ap, ◌∙◌, subst, arith}
 use Rattle.std.proofs.lemmas.Bool.{cases_lt, leb-true, true≢false, and_parts, cond_both}
-use Rattle.std.proofs.lemmas.List.Elements.{All-contains, All-cons, All-nil, Contains-append_cases, Contains-append_right}
+use Rattle.std.proofs.lemmas.List.Elements.{All-contains, All-cons, All-nil, Contains-append_cases}
 use Rattle.std.proofs.lemmas.List.Sorted.{Contains-permutation}
 use Rattle.std.proofs.lemmas.Option.{none-some, same_Some}
 use Rattle.std.specs.List.{All, AllByRecursion, Contains}
@@ -22,7 +22,7 @@ use Rattle.kq_model.proofs.KeyLaws.{same_key, key_eq-refl}
 use Rattle.kq_model.proofs.KnoteLaws.{by_test, find_knote-none, find_knote-here, find_knote-later}
 use Rattle.kq_model.proofs.TicksFirst.{next_tick-is}
 use Rattle.kq_model.proofs.TimerWalkQueue.{All-like, All-both}
-use Rattle.kq_knote.specs.Expiring.{next_of, IsAlarmed, AreAlarmed, AreWaiting, AreArmed, AreKept}
+use Rattle.kq_knote.specs.Expiring.{next_of, IsAlarmed, AreAlarmed, AreWaiting, AreKept}
 use Rattle.kq_knote.specs.Quiet.{AreQuiet}
 
 -- ---- when a timer expires first

@@ -1,5 +1,5 @@
 -- Alarms that are made anew, and those that timers get next.
-use Rattle.std.proofs.Common.{◌≡◌, ℕ, ◌+◌, ◌≤◌, Bool, true, List, [], ◌∷◌, ◌++◌, length, slice_get, ◌⊎◌, inl, inr, Option, None, Some, append_assoc, refl, sym, ap, ◌∙◌, subst, arith}
+use Rattle.std.proofs.Common.{◌≡◌, ℕ, ◌+◌, ◌≤◌, true, List, [], ◌∷◌, ◌++◌, length, slice_get, ◌⊎◌, inl, inr, Option, None, Some, append_assoc, refl, sym, ap, ◌∙◌, subst, arith}
 use Rattle.std.proofs.lemmas.Bool.{true≢false}
 use Rattle.std.proofs.lemmas.List.{append-nil}
 use Rattle.std.proofs.lemmas.Option.{none-some, same_Some}
@@ -9,7 +9,6 @@ use Rattle.kq_model.specs.Knote.{has_key, find_knote}
 use Rattle.kq_model.specs.Kqueue.{HaveOwnKeys}
 use Rattle.kq_model.specs.Tallied.{Knote}
 use Rattle.kq_model.specs.Ticks.{last_moment}
-use Rattle.kq_model.proofs.KnoteLaws.{find_knote-key}
 use Rattle.kq_model.proofs.KnoteMiddle.{apart-middle}
 use Rattle.kq_knote.specs.Expiring.{next_of, IsAlarmed, AreAlarmed, AreArmed, AreKept}
 use Rattle.kq_knote.proofs.AlarmLaws.{of-each, alarmed-attached}

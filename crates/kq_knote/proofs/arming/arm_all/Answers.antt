@@ -1,4 +1,4 @@
-use Rattle.std.proofs.Common.{◌-◌, ◌+◌, ◌≤◌, Option, length, rules, sym, ap, ◌∙◌, subst, arith}
+use Rattle.std.proofs.Common.{◌-◌, ◌+◌, ◌≤◌, Option, length, rules, ap, ◌∙◌, subst, arith}
 use Rattle.kq_alarm.specs.Armed.{HasAlarm}
 use Rattle.kq_model.specs.Tallied.{Knote}
 use Rattle.kq_model.specs.Ticks.{last_moment}

@@ -1,4 +1,4 @@
-use Rattle.std.proofs.Common.{◌≡◌, ◌+◌, List, Some, take, take_all, get_or, rules, refl, sym, ap, ◌∙◌, subst, arith}
+use Rattle.std.proofs.Common.{◌≡◌, ◌+◌, List, Some, take, take_all, get_or, rules, refl, sym, ◌∙◌, subst, arith}
 use Rattle.std.proofs.lemmas.List.{take_more}
 use Rattle.kq_model.specs.declared.filter.Filter.TheVariants.{Read}
 use Rattle.kq_model.specs.declared.key.Key.{Key}
