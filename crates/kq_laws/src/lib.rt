@@ -3,8 +3,6 @@
 
 mod calling;
 mod polling;
-#[cfg(test)]
-mod tests;
 
 pub use calling::call;
 pub use polling::poll;
