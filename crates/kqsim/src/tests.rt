@@ -1,4 +1,5 @@
 mod library;
+mod living;
 mod merging;
 mod program;
 mod streams;
