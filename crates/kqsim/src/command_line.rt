@@ -74,7 +74,7 @@ fn command_with<'a>(
     name: &'a str,
     number: Arg<'a>,
 ) -> Result<Command<'a>, AllocError>
-    requires { number.entry.global ≡ false }
+    requires { number.global ≡ false }
     ensures shape { IfOk result (λ c. app_of c ≡ command_app name.entry.now (rule_of number.entry)) }
     ensures local { IfOk result (λ c. (fields_of c).has_globals ≡ false) }
 {
