@@ -58,6 +58,22 @@ lawful_after version applied w w' es es' old stayed live watched counted = recor
   counted = counted;
 }
 
+-- where nothing came of a record
+pub lawful_unchanged : (version applied : ℕ) (w w' : code.World) (es es' : List (ℕ × NumberedKqueue))
+    → IsLawful version applied w es → world_of w' ≡ world_of w → es' ≡ es → IsLawful version applied w' es'
+lawful_unchanged version applied w w' es es' old same entries =
+    subst (λ (l : List (ℕ × NumberedKqueue)). IsLawful version applied w' l) (sym entries) (record {
+      version_one = old.version_one;
+      of_version = old.of_version;
+      born = old.born;
+      all_live = subst (λ (v : World). AreAllLive (record { version = version; world = v; live = map live_of es }))
+          (sym same) old.all_live;
+      watched =
+          subst (λ (v : World). AllWatchTheirNumbers (record { version = version; world = v; live = map live_of es }))
+          (sym same) old.watched;
+      counted = subst (λ (v : World). IsCountedWorld (applied + 1) v) (sym same) old.counted;
+    })
+
 -- where nothing came of a call
 pub lawful_same : (version applied : ℕ) (w : code.World) (es es' : List (ℕ × NumberedKqueue))
     → IsLawful version applied w es → HaveStayed es es' → map live_of es' ≡ map live_of es

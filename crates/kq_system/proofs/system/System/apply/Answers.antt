@@ -7,11 +7,11 @@ use Rattle.kq_system.proofs.system.System.apply.Goals as goal
 
 pub returns-clause-closed : goal.returns-clause-closed
 returns-clause-closed c =
-    IfOk-weaker c.step.result _ _ (λ r steps.
-    closes_all (c.args.self.now.applied + 1) c.args.event.now (system_of c.args.self.now) (system_of c.step.new.self) r
-    steps) c.step.ensures.reply
+    IfOk-weaker c.step-reply.result _ _ (λ r steps.
+    closes_all (c.args.self.now.applied + 1) c.args.event.now (system_of c.args.self.now) (system_of c.step-reply.new.self) r
+    steps) c.step-reply.ensures.reply
 
 pub returns-clause-impossible : goal.returns-clause-impossible
 returns-clause-impossible c =
-    answered c.step.result (c.args.self.now.applied + 1) c.args.event.now (system_of c.args.self.now)
-    c.step.ensures.possible
+    answered c.step-reply.result (c.args.self.now.applied + 1) c.args.event.now (system_of c.args.self.now)
+    c.step-reply.ensures.possible

@@ -9,9 +9,15 @@ use Rattle.kq_process.specs.Effects.{pairs_in}
 use Rattle.kq_process.specs.World.{world_of}
 use Rattle.kq_system.specs.SystemState.{IsStep, SystemState, happened_to_all, live_of, state_of, system_of}
 use Rattle.kq_system.proofs.HappenLemmas.{stayed_same}
-use Rattle.kq_system.proofs.StepLemmas.{happened_step, lawful_after, refused_step}
+use Rattle.kq_system.proofs.StepLemmas.{happened_step, lawful_after, lawful_unchanged, refused_step}
 use Rattle.kq_system.proofs.SystemLemmas.{refused, stays_live, stays_watched}
 use Rattle.kq_system.proofs.system.System.happen.Goals as goal
+
+pub invariant_of-self : goal.invariant_of-self
+invariant_of-self c =
+    let old = c.self.inside in
+    lawful_unchanged old.version old.applied old.world c.apply.new.self old.live.entries old.live.entries
+    c.self.invariant c.in_err-effect.ensures.memory refl
 
 pub invariant_of-self-in-Err : goal.invariant_of-self-in-Err
 invariant_of-self-in-Err c =

@@ -13,9 +13,15 @@ use Rattle.kq_process.proofs.Planned.{held_anyway}
 use Rattle.kq_system.specs.SystemState.{AreOfVersion, AreUpTo, IsLawful, IsStep, NumberedKqueue, SystemState, live_of, state_of, system_of}
 use Rattle.kq_system.proofs.CallLemmas.{not_born, up_to_more}
 use Rattle.kq_system.proofs.HappenLemmas.{stayed_same}
-use Rattle.kq_system.proofs.StepLemmas.{Opens, kqueue_plan, kqueue_possible, lawful_after, possible_kqueue, refused_step}
+use Rattle.kq_system.proofs.StepLemmas.{Opens, kqueue_plan, kqueue_possible, lawful_after, lawful_unchanged, possible_kqueue, refused_step}
 use Rattle.kq_system.proofs.SystemLemmas.{HasDone, done, opened, refused, stays_live, stays_watched}
 use Rattle.kq_system.proofs.system.System.open.Goals as goal
+
+pub invariant_of-self-in_err-effect : goal.invariant_of-self-in_err-effect
+invariant_of-self-in_err-effect c =
+    let old = c.self.inside in
+    lawful_unchanged old.version old.applied old.world c.apply.new.self old.live.entries c.reserve_one.new.live.entries
+    c.self.invariant c.in_err-effect.ensures.memory c.in_ok-reserve_one.ensures.entries
 
 pub invariant_of-self-in-Err : goal.invariant_of-self-in-Err
 invariant_of-self-in-Err c =

@@ -42,3 +42,24 @@ returns-clause-closed c =
 
 pub returns-clause-watched : goal.returns-clause-watched
 returns-clause-watched c = always_watched_from_none c.args.trace.now.version c.args.trace.now.events
+
+pub returns-in_err-system-clause-closed : goal.returns-in_err-system-clause-closed
+returns-in_err-system-clause-closed c =
+    always_closes 1 (empty_system {h = listed} {k = objects.listed} c.args.trace.now.version) c.args.trace.now.events
+
+pub returns-in_err-system-clause-watched : goal.returns-in_err-system-clause-watched
+returns-in_err-system-clause-watched c = always_watched_from_none c.args.trace.now.version c.args.trace.now.events
+
+pub returns-in_err-reply-clause-closed : goal.returns-in_err-reply-clause-closed
+returns-in_err-reply-clause-closed c =
+    always_closes 1 (empty_system {h = listed} {k = objects.listed} c.args.trace.now.version) c.args.trace.now.events
+
+pub returns-in_err-reply-clause-watched : goal.returns-in_err-reply-clause-watched
+returns-in_err-reply-clause-watched c = always_watched_from_none c.args.trace.now.version c.args.trace.now.events
+
+pub returns-in_err-put_row-clause-closed : goal.returns-in_err-put_row-clause-closed
+returns-in_err-put_row-clause-closed c =
+    always_closes 1 (empty_system {h = listed} {k = objects.listed} c.args.trace.now.version) c.args.trace.now.events
+
+pub returns-in_err-put_row-clause-watched : goal.returns-in_err-put_row-clause-watched
+returns-in_err-put_row-clause-watched c = always_watched_from_none c.args.trace.now.version c.args.trace.now.events
