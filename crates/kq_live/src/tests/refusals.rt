@@ -1,4 +1,4 @@
-//! What was refused for want of memory is done again: run with each allocation refused in turn, this ends well.
+//! What was refused for want of memory is done again: run with one allocation refused, this is to end well.
 ghost use Rattle.std.specs.Prelude.{◌≡◌};
 
 use super::{TRIGGER, add, next_seat, poll, told};

@@ -35,17 +35,18 @@ fn in_parts<R: Threads + Wait + Sync>(
     if cuts == 0 {
         return hundred(live, seat);
     }
+    let left = cuts - 1;
     let part = live.split(&mut seat);
     let ((first, mut seat), (second, part)) = join(
         rt,
         || -> (u64, LiveSeat)
-            requires { (seat.lock ≡ live.now.lock) }
+            requires { seat.lock ≡ live.now.lock }
             ensures { result.1.lock ≡ live.entry.now.lock }
-        { in_parts(rt, live, seat, cuts - 1) },
+        { in_parts(rt, live, seat, left) },
         || -> (u64, LiveSeat)
             requires { part.lock ≡ live.now.lock }
             ensures { result.1.lock ≡ live.entry.now.lock }
-        { in_parts(rt, live, part, cuts - 1) },
+        { in_parts(rt, live, part, left) },
     );
     live.join(&mut seat, part);
     (first.saturating_add(second), seat)
