@@ -1,4 +1,5 @@
 mod library;
+mod living;
 mod merging;
 mod objects;
 mod program;
