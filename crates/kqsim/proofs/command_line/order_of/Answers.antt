@@ -1,1 +1,0 @@
-use Rattle.kqsim.proofs.command_line.order_of.Goals as goal
