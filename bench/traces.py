@@ -245,3 +245,17 @@ def each_kind(path, records):
             op = kinds[number % len(kinds)]
             members = ",".join(f'"{it}":{spelled(number, it)}' for it in MEMBERS[op])
             file.write(f'{{"op":"{op}",{members}}}\n')
+
+
+def processes(path, count, records):
+    """Writes a trace of so many records of so many processes, by turns: each adds a kevent of its own, triggers it
+    again and again, and polls after every third trigger."""
+    with open(path, "w", encoding="ascii") as file:
+        file.write('{"kqsim":1}\n')
+        pids = range(1, count + 1)
+        for pid in pids:
+            file.write('{"op":"proc","pid":%d}\n{"op":"kqueue","pid":%d,"fd":9}\n' % (pid, pid))
+        for number in range(records - 2 * count):
+            pid, turn = number % count + 1, number // count
+            made = call([], POLL_ROOM) if turn % 4 == 3 else call([change(turn % 8, ["ADD", "CLEAR"], TRIGGER)], 0)
+            file.write(made.replace('"pid":1,', f'"pid":{pid},'))
