@@ -1,2 +1,4 @@
+pub mod Entering
 pub mod FoldLemmas
+pub mod LiveLemmas
 pub mod Played
