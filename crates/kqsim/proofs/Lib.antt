@@ -1,4 +1,2 @@
-pub mod Entering
 pub mod FoldLemmas
-pub mod LiveLemmas
 pub mod Played

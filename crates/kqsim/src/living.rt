@@ -71,6 +71,7 @@ fn book_of<R: AllocGlobal + Threads + Wait + Sync>(
 
 /// The report of a book of the trace that the bytes are, run by so many threads, 1 to 64; any other
 /// number is [`Fault::Usage`], before all else.
+#[tactic(auto, unfolding(kq_model::specs::Report::report_of))]
 pub fn live_report<R: AllocGlobal + Threads + Wait + Sync>(
     rt: &R,
     bytes: &[u8],
