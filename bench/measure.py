@@ -43,8 +43,8 @@ def last_line(path):
 
 
 def marginal(room, kqsim, lines, before, lengths, repeats):
-    """Returns what a record costs behind the first `before` of a trace that is cut at each of these lengths, in seconds,
-    and the run itself.
+    """Returns what a record costs, in seconds, behind the first `before` of a trace that is cut at each of these
+    lengths, and the run itself.
 
     `lines` is called for the lines of the trace. The runs go by turns, and the shortest time of each counts.
     """

@@ -48,6 +48,10 @@ WORDS = {
     "note": ["attrib", "link", "rename", "delete", "revoke"],
 }
 SIGNED = ["size", "offset"]
+# those of a change, in the order of canonical text
+FILTERS = ["READ", "WRITE", "VNODE", "PROC", "SIGNAL", "TIMER", "USER"]
+FILTERS += ["AIO", "LIO", "FS", "PROCDESC", "SENDFILE", "EMPTY"]
+FLAGS = ["ADD", "DELETE", "ENABLE", "DISABLE", "ONESHOT", "CLEAR", "DISPATCH", "RECEIPT", "EOF", "ERROR"]
 
 
 def record(op, *numbers):
@@ -120,7 +124,8 @@ def turnover(kevents):
 
 
 def files(kevents):
-    """One file after the other is written to, and a VNODE kevent with CLEAR watches each; each fourth record is a poll."""
+    """One file after the other is written to, and a VNODE kevent with CLEAR watches each; each fourth record is a
+    poll."""
     yield from OPENING
     numbers = range(10, 10 + kevents)
     for it in numbers:
@@ -186,7 +191,7 @@ def server(connections):
 
 def forks(live):
     """So many processes at a time, each with a kqueue on its end of a pipe from the first and on a socket that all
-    share. In each turn the oldest exits, and the first starts another and writes to it; at times the socket receives."""
+    share. In each turn the oldest exits, and the first starts another and writes to it; the socket receives."""
     kqueue, shared, sockets, writer = 3, 4, 5, 100
     yield from (record("proc", 1), record("kqueue", 1, kqueue), record("socket", 1, shared, 65536, 65536))
     yield from (record("connect", 1, shared), on(1, kqueue, 0, ("ADD", shared)))
