@@ -2,6 +2,7 @@
 use super::program::{REPORT, STORED, replay_of};
 use crate::fault::Fault;
 use crate::input::read_in;
+use crate::order::Order;
 use crate::output::write_out;
 use crate::running::run_order;
 use std::io;
@@ -27,6 +28,23 @@ impl Read for Halting<'_> {
         }
         buf[0] = self.bytes[0];
         self.bytes = &self.bytes[1..];
+        Ok(1)
+    }
+}
+
+/// Gives one byte a read, for ever, and counts the reads.
+#[derive(Drop)]
+struct Endless {
+    reads: u64,
+}
+
+impl Read for Endless {
+    fn read(&mut self, buf: &mut [u8]) -> io::Result<usize> {
+        self.reads = self.reads.wrapping_add(1);
+        if buf.is_empty() {
+            return Ok(0);
+        }
+        buf[0] = b' ';
         Ok(1)
     }
 }
@@ -88,6 +106,13 @@ fn a_limit_bounds_what_is_read(rt: HostRuntime) -> Result<(), Fail> {
     let mut five = giving(b"abcde", 9);
     assert!(rt; matches!(read_in(rt.alloc(), &mut five, 4), Err(Fault::Read)));
     Ok(())
+}
+
+#[test]
+fn a_reader_without_end_is_left(rt: HostRuntime) {
+    let mut endless = Endless { reads: 0 };
+    assert!(rt; matches!(read_in(rt.alloc(), &mut endless, 100), Err(Fault::Read)));
+    assert_eq!(rt; endless.reads, 101);
 }
 
 #[test]
@@ -162,6 +187,50 @@ fn a_wrong_number_is_refused_before_reading(rt: HostRuntime) -> Result<(), Fail>
     let mut err = taking(&rt, 0, None);
     assert_eq!(rt; run_order(&rt, &order, &mut reader, &mut out, &mut err), 2);
     assert_eq!(rt; out.got.len(), 0);
+    Ok(())
+}
+
+#[test]
+fn a_trace_that_cannot_be_read_gives_nothing(rt: HostRuntime) -> Result<(), Fail> {
+    let order = replay_of(&rt, 2, "-")?;
+    let stored = STORED.as_bytes();
+    for reads in [0, 1, stored.len() as u32] {
+        let mut out = taking(&rt, 1000, None);
+        let mut err = taking(&rt, 1000, None);
+        assert_eq!(rt;
+            run_order(&rt, &order, &mut giving(stored, reads), &mut out, &mut err),
+            3
+        );
+        assert_eq!(rt; out.got.len(), 0);
+    }
+    Ok(())
+}
+
+/// Runs the stored run into a writer that takes so many bytes and then fails in this way, and holds what it took
+/// against the report.
+fn assert_cut_off(rt: &HostRuntime, order: &Order, writes: u32, kind: Option<ErrorKind>) {
+    let mut out = taking(rt, writes, kind);
+    let mut err = taking(rt, 1000, None);
+    let status = run_order(
+        rt,
+        order,
+        &mut giving(STORED.as_bytes(), 1000),
+        &mut out,
+        &mut err,
+    );
+    assert_eq!(rt; status, 7);
+    assert_eq!(rt; out.got.len(), writes as usize);
+    assert!(rt; REPORT.as_bytes().starts_with(out.got.as_slice()));
+}
+
+#[test]
+fn a_writer_may_fail_at_each_write(rt: HostRuntime) -> Result<(), Fail> {
+    let order = replay_of(&rt, 1, "-")?;
+    for writes in 0..REPORT.len() as u32 {
+        assert_cut_off(&rt, &order, writes, Some(ErrorKind::Other));
+        assert_cut_off(&rt, &order, writes, Some(ErrorKind::Interrupted));
+        assert_cut_off(&rt, &order, writes, None);
+    }
     Ok(())
 }
 
