@@ -13,7 +13,7 @@ use std::test::Fail;
 #[derive(Drop)]
 struct Halting<'a> {
     bytes: &'a [u8],
-    reads: u32,
+    reads: usize,
     kind: ErrorKind,
 }
 
@@ -53,7 +53,7 @@ impl Read for Endless {
 #[derive(Drop)]
 struct Narrow {
     got: Vec<u8>,
-    writes: u32,
+    writes: usize,
     kind: Option<ErrorKind>,
 }
 
@@ -80,7 +80,7 @@ impl Write for Narrow {
     }
 }
 
-fn taking(rt: &HostRuntime, writes: u32, kind: Option<ErrorKind>) -> Narrow {
+fn taking(rt: &HostRuntime, writes: usize, kind: Option<ErrorKind>) -> Narrow {
     Narrow {
         got: Vec::new(rt.alloc()),
         writes,
@@ -88,7 +88,7 @@ fn taking(rt: &HostRuntime, writes: u32, kind: Option<ErrorKind>) -> Narrow {
     }
 }
 
-fn giving(bytes: &[u8], reads: u32) -> Halting<'_> {
+fn giving(bytes: &[u8], reads: usize) -> Halting<'_> {
     Halting {
         bytes,
         reads,
@@ -190,46 +190,47 @@ fn a_wrong_number_is_refused_before_reading(rt: HostRuntime) -> Result<(), Fail>
     Ok(())
 }
 
+/// Whether the stored run ends with status 3 and nothing is written where the reader fails after so many reads.
+fn is_left_unread(rt: &HostRuntime, order: &Order, reads: usize) -> bool {
+    let mut reader = giving(STORED.as_bytes(), reads);
+    let mut out = taking(rt, 1000, None);
+    let mut err = taking(rt, 1000, None);
+    run_order(rt, order, &mut reader, &mut out, &mut err) == 3 && out.got.is_empty()
+}
+
 #[test]
-fn a_trace_that_cannot_be_read_gives_nothing(rt: HostRuntime) -> Result<(), Fail> {
+fn a_reader_may_fail_at_its_first_second_and_last_read(rt: HostRuntime) -> Result<(), Fail> {
     let order = replay_of(&rt, 2, "-")?;
-    let stored = STORED.as_bytes();
-    for reads in [0, 1, stored.len() as u32] {
-        let mut out = taking(&rt, 1000, None);
-        let mut err = taking(&rt, 1000, None);
-        assert_eq!(rt;
-            run_order(&rt, &order, &mut giving(stored, reads), &mut out, &mut err),
-            3
-        );
-        assert_eq!(rt; out.got.len(), 0);
-    }
+    assert!(rt; is_left_unread(&rt, &order, 0));
+    assert!(rt; is_left_unread(&rt, &order, 1));
+    assert!(rt; is_left_unread(&rt, &order, STORED.len()));
     Ok(())
 }
 
-/// Runs the stored run into a writer that takes so many bytes and then fails in this way, and holds what it took
-/// against the report.
-fn assert_cut_off(rt: &HostRuntime, order: &Order, writes: u32, kind: Option<ErrorKind>) {
+/// Whether the stored run ends with status 7 where the writer takes so many bytes and then fails in this way, and what
+/// it took is the beginning of the report.
+fn is_cut_off(rt: &HostRuntime, order: &Order, writes: usize, kind: Option<ErrorKind>) -> bool {
+    let mut reader = giving(STORED.as_bytes(), 1000);
     let mut out = taking(rt, writes, kind);
     let mut err = taking(rt, 1000, None);
-    let status = run_order(
-        rt,
-        order,
-        &mut giving(STORED.as_bytes(), 1000),
-        &mut out,
-        &mut err,
-    );
-    assert_eq!(rt; status, 7);
-    assert_eq!(rt; out.got.len(), writes as usize);
-    assert!(rt; REPORT.as_bytes().starts_with(out.got.as_slice()));
+    run_order(rt, order, &mut reader, &mut out, &mut err) == 7
+        && out.got.len() == writes
+        && REPORT.as_bytes().starts_with(out.got.as_slice())
 }
 
 #[test]
 fn a_writer_may_fail_at_each_write(rt: HostRuntime) -> Result<(), Fail> {
     let order = replay_of(&rt, 1, "-")?;
-    for writes in 0..REPORT.len() as u32 {
-        assert_cut_off(&rt, &order, writes, Some(ErrorKind::Other));
-        assert_cut_off(&rt, &order, writes, Some(ErrorKind::Interrupted));
-        assert_cut_off(&rt, &order, writes, None);
+    for writes in 0..REPORT.len() {
+        assert!(rt;
+            is_cut_off(&rt, &order, writes, Some(ErrorKind::Other)),
+            "an error at {writes}"
+        );
+        assert!(rt;
+            is_cut_off(&rt, &order, writes, Some(ErrorKind::Interrupted)),
+            "interrupted at {writes}"
+        );
+        assert!(rt; is_cut_off(&rt, &order, writes, None), "full at {writes}");
     }
     Ok(())
 }
