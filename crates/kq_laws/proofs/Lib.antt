@@ -8,3 +8,16 @@ pub mod Awake
 pub mod Returned
 pub mod Settled
 pub mod LifeRows
+pub mod Amounts
+pub mod Shown
+pub mod SocketWakes
+pub mod PipeWakes
+pub mod ObjectWakes
+pub mod FileWakes
+pub mod ActWakes
+pub mod ActFiles
+pub mod Calm
+pub mod CalmPlans
+pub mod HoldWakes
+pub mod WorldWakes
+pub mod Announced
