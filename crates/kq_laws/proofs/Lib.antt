@@ -21,3 +21,5 @@ pub mod CalmPlans
 pub mod HoldWakes
 pub mod WorldWakes
 pub mod Announced
+pub mod Listed
+pub mod Runs
