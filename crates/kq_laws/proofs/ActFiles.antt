@@ -1,5 +1,5 @@
 -- The plan of each record about files, and so that of each record about objects, tells of each condition that it makes hold.
-use Rattle.std.proofs.Common.{◌≡◌, ℕ, ◌+◌, ◌-◌, ◌==◌, nat_lt, ℤ, Bool, true, false, cond, not, ◌&&◌, ◌||◌, eqb-true, List, [], ◌∷◌, ◌++◌, Option, Some, None, Ok, Err, option_map, refl, sym, ap, ◌∙◌, if◌then◌else◌}
+use Rattle.std.proofs.Common.{◌≡◌, ℕ, ◌+◌, ◌-◌, ◌==◌, nat_lt, ℤ, Bool, true, false, not, ◌&&◌, ◌||◌, eqb-true, List, [], ◌∷◌, ◌++◌, Option, Some, None, Ok, Err, option_map, refl, sym, ap, ◌∙◌, if◌then◌else◌}
 use Rattle.std.proofs.lemmas.Bool.{true≢false, cond_both}
 use Rattle.std.proofs.lemmas.Option.{none-some}
 use Rattle.std.specs.List.{list_any}
@@ -19,7 +19,6 @@ use Rattle.kq_model.specs.declared.object.Named.{Named}
 use Rattle.kq_model.specs.declared.object.Named.TheVariants as named
 use Rattle.kq_model.specs.declared.object.Target.{Target}
 use Rattle.kq_model.specs.declared.object.Target.TheVariants.{Socket, Pipe, Open, File, Process, Signal, Own}
-use Rattle.kq_model.specs.declared.side.Side.{Side}
 use Rattle.kq_model.specs.declared.side.Side.TheVariants.{Read, Write}
 use Rattle.kq_model.specs.declared.why.Why.TheVariants.{WrongKind, UsedFile, TooMany}
 use Rattle.kq_model.specs.FilePlans as file_plans
@@ -43,7 +42,7 @@ use Rattle.kq_laws.proofs.ActWakes.{AreCalm, TellsAll, tells-unless, here-tells,
 use Rattle.kq_laws.proofs.FileWakes.{TellsMove, description-tells, description-target, file-tells, is_of_file, listed-told, same-size}
 use Rattle.kq_laws.proofs.ObjectWakes.{Tells, by-touch, touched-one}
 use Rattle.kq_laws.proofs.PipeWakes as pipe_wakes
-use Rattle.kq_laws.proofs.Shown.{is_told, open_shown, shown}
+use Rattle.kq_laws.proofs.Shown.{is_told}
 use Rattle.kq_laws.proofs.SocketWakes as socket_wakes
 
 -- ---- which targets a record of a file and one of a description touch

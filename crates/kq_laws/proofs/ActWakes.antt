@@ -1,56 +1,34 @@
 -- The plan of each record about objects tells of each condition that it makes hold.
-use Rattle.std.proofs.Common.{◌≡◌, ℕ, ◌+◌, ◌-◌, ◌==◌, nat_lt, ℤ, Bool, true, false, cond, not, ◌&&◌, ◌||◌, eqb, eqb-true, List, [], ◌∷◌, ◌++◌, Option, Some, None, Ok, Err, option_map, refl, sym, ap, subst, ◌∙◌, if◌then◌else◌}
-use Rattle.std.proofs.lemmas.Bool.{true≢false, cond_both}
+use Rattle.std.proofs.Common.{◌≡◌, ℕ, ◌==◌, Bool, true, false, cond, not, ◌&&◌, ◌||◌, eqb-true, List, [], ◌∷◌, Option, Some, None, Ok, Err, option_map, refl, sym, ap, ◌∙◌, if◌then◌else◌}
+use Rattle.std.proofs.lemmas.Bool.{true≢false}
 use Rattle.std.proofs.lemmas.Option.{none-some}
 use Rattle.std.specs.Option.{is_some}
-use Rattle.kq_model.specs.declared.act.Act.{Act}
-use Rattle.kq_model.specs.declared.act.Act.TheVariants as act
-use Rattle.kq_model.specs.declared.doing.DescriptionRecord.TheVariants as description
 use Rattle.kq_model.specs.declared.doing.Doing.{Doing}
-use Rattle.kq_model.specs.declared.doing.Doing.TheVariants.{ToSocket, ToPipe, ToDescription, ToFile}
-use Rattle.kq_model.specs.declared.doing.FileRecord.TheVariants as file
+use Rattle.kq_model.specs.declared.doing.Doing.TheVariants.{ToSocket, ToPipe}
 use Rattle.kq_model.specs.declared.doing.PipeRecord.TheVariants as pipe
 use Rattle.kq_model.specs.declared.doing.SocketRecord.TheVariants as socket
-use Rattle.kq_model.specs.declared.mode.Mode.{Mode}
-use Rattle.kq_model.specs.declared.note.Note.{Note}
-use Rattle.kq_model.specs.declared.note.Note.TheVariants as note
 use Rattle.kq_model.specs.declared.object.Named.{Named}
 use Rattle.kq_model.specs.declared.object.Named.TheVariants as named
 use Rattle.kq_model.specs.declared.object.Target.{Target}
 use Rattle.kq_model.specs.declared.object.Target.TheVariants.{Socket, Pipe, Open, File, Process, Signal, Own}
-use Rattle.kq_model.specs.declared.side.Side.{Side}
-use Rattle.kq_model.specs.declared.side.Side.TheVariants.{Read, Write}
 use Rattle.kq_model.specs.declared.why.Why.{Why}
-use Rattle.kq_model.specs.declared.why.Why.TheVariants.{WrongKind, UsedFile, TooMany}
-use Rattle.kq_model.specs.FilePlans as file_plans
-use Rattle.kq_model.specs.Files.{DescriptionState, FileState, description_after, may_read, may_write}
-use Rattle.kq_model.specs.Hints.{takes}
-use Rattle.kq_model.specs.Limits.{most_file_size}
-use Rattle.kq_model.specs.ListedFiles.{AreListed}
-use Rattle.kq_model.specs.NoteBits.{note_read}
-use Rattle.kq_model.specs.ObjectPlan.{ObjectPlan, Planned}
-use Rattle.kq_model.specs.Objects.{Objects, counted, done, all_done, size_of, view_of, IsFree}
+use Rattle.kq_model.specs.declared.why.Why.TheVariants.{TooMany}
+use Rattle.kq_model.specs.ObjectPlan.{Planned}
+use Rattle.kq_model.specs.Objects.{Objects, counted, done, all_done, view_of, IsFree}
 use Rattle.kq_model.specs.PipePlans as pipe_plans
-use Rattle.kq_model.specs.PipeSteps as pipe_steps
 use Rattle.kq_model.specs.PipeSteps.{PipeStep}
 use Rattle.kq_model.specs.Pipes.{PipeState, pipe_view}
-use Rattle.kq_model.specs.Planning.{plan, plan_read, plan_write}
 use Rattle.kq_model.specs.SocketPlans as socket_plans
 use Rattle.kq_model.specs.SocketSteps as steps
 use Rattle.kq_model.specs.SocketSteps.{SocketStep, is_capacity}
 use Rattle.kq_model.specs.Sockets.{SocketState, socket_view}
-use Rattle.kq_model.specs.Targets.{Posted, target_eq}
-use Rattle.kq_model.specs.Touching.{is_on, touches, touched_by}
+use Rattle.kq_model.specs.Targets.{Posted}
+use Rattle.kq_model.specs.Touching.{touches, touched_by}
 use Rattle.kq_model.proofs.KnoteLaws.{by_test}
-use Rattle.kq_model.proofs.ListedObjects.{touches-listed}
-use Rattle.kq_model.proofs.SameTarget.{target_eq-refl}
 use Rattle.kq_model.proofs.UntouchedViews.{untouched-all}
-use Rattle.kq_laws.proofs.Amounts.{apart-before}
-use Rattle.kq_laws.proofs.FileWakes.{TellsMove, description-tells, description-target, file-tells, is_of_file, listed-told, same-size}
 use Rattle.kq_laws.proofs.ObjectWakes.{Tells, by-touch, touched-one, socket-target, socket-tells, pipe-target, pipe-tells}
-use Rattle.kq_laws.proofs.PipeWakes as pipe_wakes
 use Rattle.kq_laws.proofs.PipeWakes.{StepTellsPipe}
-use Rattle.kq_laws.proofs.Shown.{is_told, open_shown, shown}
+use Rattle.kq_laws.proofs.Shown.{shown}
 use Rattle.kq_laws.proofs.SocketWakes as socket_wakes
 use Rattle.kq_laws.proofs.SocketWakes.{IsCalm, StepTells}
 

@@ -1,6 +1,6 @@
 -- Each record hints each condition that it makes hold of a knote which watches what its number names.
-use Rattle.std.proofs.Common.{◌≡◌, ℕ, ◌≤◌, ◌^◌, ℤ, pos, ltb, ◌==◌, Bool, true, false, cond, not, ◌&&◌, ◌||◌, List, [], ◌∷◌, map, filter, Option, Some, None, option_map, refl, sym, ap, subst, ◌∙◌}
-use Rattle.std.proofs.lemmas.Bool.{true≢false, cond_both}
+use Rattle.std.proofs.Common.{◌≡◌, ℕ, ◌^◌, ltb, ◌==◌, Bool, true, false, cond, not, ◌&&◌, ◌||◌, List, [], ◌∷◌, map, filter, Option, Some, None, option_map, refl, sym, ap, subst, ◌∙◌}
+use Rattle.std.proofs.lemmas.Bool.{true≢false}
 use Rattle.std.proofs.lemmas.Option.{none-some, same_Some}
 use Rattle.std.specs.Option.{is_some, option_and_then}
 use Rattle.kq_model.specs.declared.event.Event.{Event}
@@ -11,15 +11,14 @@ use Rattle.kq_model.specs.declared.object.Named.{Named}
 use Rattle.kq_model.specs.declared.object.Named.TheVariants as named
 use Rattle.kq_model.specs.declared.object.Target.{Target}
 use Rattle.kq_model.specs.declared.object.Target.TheVariants as target
-use Rattle.kq_model.specs.declared.object.View.{View}
 use Rattle.kq_model.specs.declared.side.Side.{Side}
 use Rattle.kq_model.specs.declared.side.Side.TheVariants as side_of
 use Rattle.kq_model.specs.CountedWorld.{IsCountedWorld}
-use Rattle.kq_model.specs.Hints.{takes, hints_for}
+use Rattle.kq_model.specs.Hints.{takes}
 use Rattle.kq_model.specs.Holding.{holders_of, times, IsCounted, IsNamed}
 use Rattle.kq_model.specs.Knote.{watches_number}
 use Rattle.kq_model.specs.ListedFiles.{AreListed}
-use Rattle.kq_model.specs.Look.{Seen, mark_of, look_user, look_by, look, process_seen, status_of}
+use Rattle.kq_model.specs.Look.{Seen, mark_of, look_by, look, process_seen}
 use Rattle.kq_model.specs.NamedTargets as targets
 use Rattle.kq_model.specs.Objects.{Objects, counted, description_view, view_of}
 use Rattle.kq_model.specs.Pipes.{pipe_view}
@@ -29,15 +28,13 @@ use Rattle.kq_model.specs.Sockets.{socket_view}
 use Rattle.kq_model.specs.Subjects.{HasSubject}
 use Rattle.kq_model.specs.Tallied.{Knote}
 use Rattle.kq_model.specs.Targets.{Posted, is_target, number_in, named_in, object_of, target_eq, target_of}
-use Rattle.kq_model.specs.Views.{Views}
-use Rattle.kq_model.specs.World.{World, Plan, Planned, Possible, carried_out, named_by, view_in, views_of}
+use Rattle.kq_model.specs.World.{World, Plan, Possible, carried_out, named_by, view_in, views_of}
 use Rattle.kq_model.proofs.KnoteLaws.{by_test}
 use Rattle.kq_model.proofs.NamedWorld.{named-by}
-use Rattle.kq_laws.specs.Wakes.{is_due, IsAnnounced}
+use Rattle.kq_laws.specs.Wakes.{IsAnnounced}
 use Rattle.kq_laws.proofs.ActWakes.{AreCalm}
 use Rattle.kq_laws.proofs.HoldWakes.{found_socket, found_reader, found_writer, found_description}
-use Rattle.kq_laws.proofs.ObjectWakes.{Tells}
-use Rattle.kq_laws.proofs.Shown.{filter_of, is_for, is_told, shown}
+use Rattle.kq_laws.proofs.Shown.{filter_of, is_told, shown}
 use Rattle.kq_laws.proofs.WorldWakes.{TellsPlanned, tells-record}
 
 -- ---- what a number names is there, to be seen

@@ -1,40 +1,18 @@
 -- Connections wait only at sockets that listen: each record about objects keeps that.
-use Rattle.std.proofs.Common.{◌≡◌, ℕ, ◌+◌, ◌-◌, ◌==◌, nat_lt, nat_le, ℤ, pos, ◌+ℤ◌, int_lt, int_le, Bool, true, false, cond, not, ◌&&◌, ◌||◌, eqb-true, List, [], ◌∷◌, ◌++◌, Option, Some, None, Result, Ok, Err, refl, sym, ap, subst, ◌∙◌, if◌then◌else◌}
-use Rattle.std.proofs.lemmas.Bool.{true≢false, or_parts, or_from, cond_both}
-use Rattle.std.proofs.lemmas.List.Folds.{list_any-append}
+use Rattle.std.proofs.Common.{◌≡◌, ℕ, ◌==◌, nat_lt, nat_le, pos, ◌+ℤ◌, int_lt, int_le, Bool, true, false, cond, not, ◌&&◌, ◌||◌, eqb-true, List, [], ◌∷◌, Option, Some, None, Ok, Err, refl, sym, subst, ◌∙◌, if◌then◌else◌}
+use Rattle.std.proofs.lemmas.Bool.{true≢false, or_parts}
 use Rattle.std.proofs.lemmas.Option.{none-some, same_Some}
 use Rattle.std.specs.List.{list_any}
-use Rattle.std.specs.Option.{is_some}
-use Rattle.kq_model.specs.declared.act.Act.{Act}
-use Rattle.kq_model.specs.declared.act.Act.TheVariants as act
 use Rattle.kq_model.specs.declared.doing.Doing.{Doing}
 use Rattle.kq_model.specs.declared.doing.Doing.TheVariants.{ToSocket, ToPipe, ToDescription, ToFile}
 use Rattle.kq_model.specs.declared.doing.SocketRecord.{SocketRecord}
 use Rattle.kq_model.specs.declared.doing.SocketRecord.TheVariants as socket
-use Rattle.kq_model.specs.declared.mode.Mode.{Mode}
-use Rattle.kq_model.specs.declared.note.Note.{Note}
-use Rattle.kq_model.specs.declared.note.Note.TheVariants as note
-use Rattle.kq_model.specs.declared.object.Hint.{Hint}
 use Rattle.kq_model.specs.declared.object.Hint.TheVariants.{Readable, Writable}
-use Rattle.kq_model.specs.declared.object.Named.{Named}
-use Rattle.kq_model.specs.declared.object.Named.TheVariants as named
 use Rattle.kq_model.specs.declared.side.Side.{Side}
-use Rattle.kq_model.specs.declared.side.Side.TheVariants as side
 use Rattle.kq_model.specs.declared.why.Why.{Why}
-use Rattle.kq_model.specs.declared.why.Why.TheVariants.{WrongKind, Absent, UsedFile, TooMany}
-use Rattle.kq_model.specs.FilePlans as file_plans
-use Rattle.kq_model.specs.Files.{DescriptionState, FileState, may_read, may_write}
-use Rattle.kq_model.specs.Holding.{hold_doings, release_doings, release_all, release, leaving, left, is_last}
-use Rattle.kq_model.specs.Limits.{most_file_size}
+use Rattle.kq_model.specs.declared.why.Why.TheVariants.{WrongKind, Absent, TooMany}
 use Rattle.kq_model.specs.ObjectPlan.{Planned}
-use Rattle.kq_model.specs.Objects.{Objects, counted, no_objects, done, all_done, kept, told_of, size_of}
-use Rattle.kq_model.specs.PipePlans as pipe_plans
-use Rattle.kq_model.specs.PipeSteps as pipe_steps
-use Rattle.kq_model.specs.PipeSteps.{PipeStep}
-use Rattle.kq_model.specs.Pipes.{PipeState}
-use Rattle.kq_model.specs.Planning.{plan, plan_read, plan_write}
-use Rattle.kq_model.specs.ProcessPlans.{hold_all}
-use Rattle.kq_model.specs.SocketPlans as socket_plans
+use Rattle.kq_model.specs.Objects.{Objects, counted, no_objects, done, all_done, kept, told_of}
 use Rattle.kq_model.specs.SocketSteps as steps
 use Rattle.kq_model.specs.SocketSteps.{SocketStep, is_capacity, hint_on}
 use Rattle.kq_model.specs.Sockets.{SocketState, socket_after, is_socket_held, is_unconnected, no_socket, socket_space}

@@ -1,5 +1,5 @@
 -- The plan of each record about objects keeps it, and so do descriptors more and less.
-use Rattle.std.proofs.Common.{◌≡◌, ℕ, ◌+◌, ◌-◌, ◌==◌, nat_lt, ℤ, pos, int_le, Bool, true, false, cond, not, ◌&&◌, ◌||◌, List, [], ◌∷◌, ◌++◌, Option, Some, None, Result, Ok, Err, refl, sym, ap, subst, ◌∙◌, if◌then◌else◌}
+use Rattle.std.proofs.Common.{◌≡◌, ℕ, ◌+◌, ◌-◌, ◌==◌, nat_lt, ℤ, pos, int_le, Bool, true, false, not, ◌&&◌, List, [], ◌∷◌, ◌++◌, Option, Some, None, Ok, Err, refl, ◌∙◌, if◌then◌else◌}
 use Rattle.std.proofs.lemmas.Bool.{or_from, cond_both}
 use Rattle.std.proofs.lemmas.List.Folds.{list_any-append}
 use Rattle.std.specs.Option.{is_some}
@@ -7,9 +7,8 @@ use Rattle.kq_model.specs.declared.act.Act.{Act}
 use Rattle.kq_model.specs.declared.act.Act.TheVariants as act
 use Rattle.kq_model.specs.declared.doing.DescriptionRecord.TheVariants as description
 use Rattle.kq_model.specs.declared.doing.Doing.{Doing}
-use Rattle.kq_model.specs.declared.doing.Doing.TheVariants.{ToSocket, ToPipe, ToDescription, ToFile}
+use Rattle.kq_model.specs.declared.doing.Doing.TheVariants.{ToSocket, ToDescription, ToFile}
 use Rattle.kq_model.specs.declared.doing.FileRecord.TheVariants as file
-use Rattle.kq_model.specs.declared.doing.PipeRecord.TheVariants as pipe
 use Rattle.kq_model.specs.declared.doing.SocketRecord.TheVariants as socket
 use Rattle.kq_model.specs.declared.mode.Mode.{Mode}
 use Rattle.kq_model.specs.declared.note.Note.{Note}
@@ -24,7 +23,7 @@ use Rattle.kq_model.specs.Holding.{hold_doings, release_doings, release_all, rel
 use Rattle.kq_model.specs.Limits.{most_file_size}
 use Rattle.kq_model.specs.NoteBits.{note_read}
 use Rattle.kq_model.specs.ObjectPlan.{Planned}
-use Rattle.kq_model.specs.Objects.{Objects, counted, done, all_done, size_of}
+use Rattle.kq_model.specs.Objects.{Objects, counted, all_done, size_of}
 use Rattle.kq_model.specs.PipePlans as pipe_plans
 use Rattle.kq_model.specs.PipeSteps as pipe_steps
 use Rattle.kq_model.specs.PipeSteps.{PipeStep}
@@ -35,8 +34,7 @@ use Rattle.kq_model.specs.SocketPlans as socket_plans
 use Rattle.kq_model.specs.SocketSteps as steps
 use Rattle.kq_model.specs.SocketSteps.{SocketStep, is_capacity}
 use Rattle.kq_model.specs.Sockets.{SocketState}
-use Rattle.kq_laws.proofs.ActWakes.{AreCalm}
-use Rattle.kq_laws.proofs.Calm.{has_arrival, is_arrival, calm-all, CalmAll, StepCalm, calm-unless, accept-calm, arrive-calm, connect-calm, listen-calm, low_water-calm, read-calm, receive-calm, shut-calm, transmit-calm, write-calm}
+use Rattle.kq_laws.proofs.Calm.{has_arrival, is_arrival, calm-all, CalmAll, StepCalm, calm-unless, arrive-calm, connect-calm, listen-calm, low_water-calm, read-calm, receive-calm, shut-calm, transmit-calm, write-calm}
 
 -- ---- sockets
 

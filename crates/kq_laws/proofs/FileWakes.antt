@@ -1,12 +1,12 @@
 -- What is noted of files and open descriptions makes no condition hold but those that its hints tell.
-use Rattle.std.proofs.Common.{◌≡◌, ℕ, ℤ, ◌+◌, ◌-◌, ◌==◌, nat_lt, pos, max, Bool, true, false, cond, ◌&&◌, ◌||◌, eqb, eq-eqb, eqb-true, List, [], ◌∷◌, ◌++◌, map, Option, Some, None, option_map, refl, sym, ap, subst, ◌∙◌}
-use Rattle.std.proofs.lemmas.Bool.{true≢false, or_left, or_right, cond_both}
+use Rattle.std.proofs.Common.{◌≡◌, ℕ, ℤ, ◌==◌, pos, Bool, true, false, cond, ◌&&◌, ◌||◌, eq-eqb, eqb-true, List, [], ◌∷◌, ◌++◌, Option, Some, None, option_map, refl, sym, ap, subst, ◌∙◌}
+use Rattle.std.proofs.lemmas.Bool.{true≢false, or_left, cond_both}
 use Rattle.std.proofs.lemmas.List.Folds.{list_any-append}
 use Rattle.std.specs.List.{list_any}
 use Rattle.kq_model.specs.declared.doing.DescriptionRecord.{DescriptionRecord}
 use Rattle.kq_model.specs.declared.doing.DescriptionRecord.TheVariants as description
 use Rattle.kq_model.specs.declared.doing.Doing.{Doing}
-use Rattle.kq_model.specs.declared.doing.Doing.TheVariants.{ToSocket, ToPipe, ToDescription, ToFile}
+use Rattle.kq_model.specs.declared.doing.Doing.TheVariants.{ToDescription, ToFile}
 use Rattle.kq_model.specs.declared.doing.FileRecord.{FileRecord}
 use Rattle.kq_model.specs.declared.doing.FileRecord.TheVariants as file
 use Rattle.kq_model.specs.declared.object.Target.{Target}
@@ -15,7 +15,7 @@ use Rattle.kq_model.specs.declared.object.View.TheVariants as view
 use Rattle.kq_model.specs.declared.side.Side.{Side}
 use Rattle.kq_model.specs.declared.side.Side.TheVariants.{Read, Write}
 use Rattle.kq_model.specs.FilePlans.{readable_each}
-use Rattle.kq_model.specs.Files.{DescriptionState, FileState, description_after, file_after, file_of, grown, moved, is_description_held, no_description}
+use Rattle.kq_model.specs.Files.{DescriptionState, FileState, description_after, file_after, grown, moved, is_description_held}
 use Rattle.kq_model.specs.Hints.{takes}
 use Rattle.kq_model.specs.Holding.{is_last, leaving, left}
 use Rattle.kq_model.specs.Look.{read_seen, write_seen}

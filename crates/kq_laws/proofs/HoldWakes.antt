@@ -1,14 +1,13 @@
 -- Descriptors more and descriptors less: each condition that they make hold is told.
-use Rattle.std.proofs.Common.{◌≡◌, ℕ, ◌≤◌, ℤ, pos, Bool, true, false, ◌||◌, List, [], ◌∷◌, ◌++◌, Option, Some, None, refl, sym, ap, subst, ◌∙◌, arith, if◌then◌else◌}
-use Rattle.std.proofs.lemmas.Bool.{true≢false, or_parts, or_from}
+use Rattle.std.proofs.Common.{◌≡◌, ℕ, ◌≤◌, pos, Bool, true, false, List, [], ◌∷◌, ◌++◌, Option, Some, None, refl, sym, ap, subst, ◌∙◌, arith, if◌then◌else◌}
+use Rattle.std.proofs.lemmas.Bool.{or_parts}
 use Rattle.std.proofs.lemmas.Int.{ints}
 use Rattle.std.proofs.lemmas.List.Elements.{All-head, All-tail, All-weaker}
 use Rattle.std.proofs.lemmas.List.Folds.{list_any-append}
-use Rattle.std.specs.List.{list_any}
 use Rattle.std.specs.Prelude.{All}
 use Rattle.kq_model.specs.declared.doing.DescriptionRecord.TheVariants as description
 use Rattle.kq_model.specs.declared.doing.Doing.{Doing}
-use Rattle.kq_model.specs.declared.doing.Doing.TheVariants.{ToSocket, ToPipe, ToDescription, ToFile}
+use Rattle.kq_model.specs.declared.doing.Doing.TheVariants.{ToSocket, ToPipe}
 use Rattle.kq_model.specs.declared.doing.PipeRecord.TheVariants as pipe
 use Rattle.kq_model.specs.declared.doing.SocketRecord.TheVariants as socket
 use Rattle.kq_model.specs.declared.object.Hint.{Hint}

@@ -1,8 +1,8 @@
 -- What is noted of sockets and pipes makes no condition hold but those that its hints tell.
-use Rattle.std.proofs.Common.{◌≡◌, ℕ, ℤ, Bool, true, false, cond, ◌||◌, eqb, eq-eqb, eqb-true, List, [], ◌∷◌, Option, Some, None, Ok, Err, option_map, refl, sym, ap, subst, ◌∙◌}
+use Rattle.std.proofs.Common.{◌≡◌, ℕ, ℤ, Bool, true, false, cond, ◌||◌, eq-eqb, eqb-true, List, [], ◌∷◌, Option, Some, None, option_map, refl, sym, ap, subst, ◌∙◌}
 use Rattle.std.proofs.lemmas.Bool.{true≢false}
 use Rattle.kq_model.specs.declared.doing.Doing.{Doing}
-use Rattle.kq_model.specs.declared.doing.Doing.TheVariants.{ToSocket, ToPipe, ToDescription, ToFile}
+use Rattle.kq_model.specs.declared.doing.Doing.TheVariants.{ToSocket, ToPipe}
 use Rattle.kq_model.specs.declared.doing.PipeRecord.{PipeRecord}
 use Rattle.kq_model.specs.declared.doing.PipeRecord.TheVariants as pipe
 use Rattle.kq_model.specs.declared.doing.SocketRecord.{SocketRecord}
@@ -14,14 +14,14 @@ use Rattle.kq_model.specs.declared.side.Side.{Side}
 use Rattle.kq_model.specs.declared.side.Side.TheVariants as side
 use Rattle.kq_model.specs.ObjectPlan as object
 use Rattle.kq_model.specs.Objects.{Objects, counted, done, all_done, kept, told_of, view_of}
-use Rattle.kq_model.specs.Pipes.{PipeState, pipe_after, pipe_view, is_pipe_held, no_pipe}
-use Rattle.kq_model.specs.Sockets.{SocketState, socket_after, socket_view, is_socket_held, no_socket}
+use Rattle.kq_model.specs.Pipes.{PipeState, pipe_after, pipe_view, is_pipe_held}
+use Rattle.kq_model.specs.Sockets.{SocketState, socket_after, socket_view, is_socket_held}
 use Rattle.kq_model.specs.Targets.{Posted}
 use Rattle.kq_model.specs.Touching.{touches, touched_by}
 use Rattle.kq_model.proofs.KnoteLaws.{by_test}
 use Rattle.kq_model.proofs.UntouchedViews.{untouched-all}
 use Rattle.kq_laws.proofs.PipeWakes.{TellsPipe}
-use Rattle.kq_laws.proofs.Shown.{is_told, hears, shown, shown-none, told-own, socket_shown, socket-shown, pipe_shown, pipe-shown, kept-shown}
+use Rattle.kq_laws.proofs.Shown.{is_told, shown, shown-none, told-own, socket-shown, pipe-shown, kept-shown}
 use Rattle.kq_laws.proofs.SocketWakes.{TellsSocket}
 
 -- what comes to be shown of a target is told

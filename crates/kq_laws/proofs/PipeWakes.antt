@@ -1,5 +1,5 @@
 -- A step at a pipe makes no condition hold but on the side that its hint tells.
-use Rattle.std.proofs.Common.{◌≡◌, ℕ, ℤ, pos, ◌+ℤ◌, ◌-ℤ◌, int_lt, int_le, Bool, true, false, not, ◌||◌, Option, Some, None, Ok, Err, refl, sym, ap, ◌∙◌, if◌then◌else◌, arith}
+use Rattle.std.proofs.Common.{◌≡◌, ℕ, ℤ, pos, ◌+ℤ◌, ◌-ℤ◌, int_lt, int_le, Bool, true, false, not, Option, Some, None, Ok, Err, refl, sym, ◌∙◌, if◌then◌else◌, arith}
 use Rattle.std.proofs.lemmas.Bool.{true≢false}
 use Rattle.std.proofs.lemmas.Int.{ints}
 use Rattle.kq_model.specs.declared.doing.PipeRecord.{PipeRecord}
@@ -60,7 +60,7 @@ module _ (s : PipeState) where
   was-written : (bytes : ℕ) → TellsPipe s (pipe.Written bytes) (Some Readable)
   unfolding pipe_after takes
   was-written bytes Read mark quiet e = absurd (true≢false quiet)
-  was-written bytes Write mark quiet e = 
+  was-written bytes Write mark quiet e =
       first-before (room s.bytes) (not (has_reader s)) (room (s.bytes +ℤ pos bytes))
       (space-before (pipe_mark (pos s.cap)) (pos s.cap) s.bytes bytes) e
 
@@ -86,13 +86,13 @@ module _ (s : PipeState) where
   pub reader-released : TellsPipe s (pipe.Released Read) (end_told Writable s.readers)
   unfolding pipe_after takes
   reader-released Read mark quiet e = e
-  reader-released Write mark quiet e = 
+  reader-released Write mark quiet e =
       second-before (room s.bytes) (not (has_reader s)) (not (int_lt (pos 0) (s.readers -ℤ pos 1)))
       (more-left s.readers (untold Write Writable (is_last s.readers) refl quiet)) e
 
   pub writer-released : TellsPipe s (pipe.Released Write) (end_told Readable s.writers)
   unfolding pipe_after takes
-  writer-released Read mark quiet e = 
+  writer-released Read mark quiet e =
       second-before (int_lt (pos 0) s.bytes) (not (has_writer s)) (not (int_lt (pos 0) (s.writers -ℤ pos 1)))
       (more-left s.writers (untold Read Readable (is_last s.writers) refl quiet)) e
   writer-released Write mark quiet e = e

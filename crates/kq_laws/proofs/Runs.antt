@@ -7,7 +7,7 @@ use Rattle.kq_model.specs.CountedWorld.{IsCountedWorld, Keeps}
 use Rattle.kq_model.specs.Hearing.{tallying}
 use Rattle.kq_model.specs.ListedFiles.{AreListed, StaysListed}
 use Rattle.kq_model.specs.NamedTargets.{IsNamed}
-use Rattle.kq_model.specs.Objects.{counted, no_objects}
+use Rattle.kq_model.specs.Objects.{counted}
 use Rattle.kq_model.specs.Plans.{plan}
 use Rattle.kq_model.specs.Subjects.{HasSubject}
 use Rattle.kq_model.specs.System.{empty_system, step_by, step, system_after}

@@ -1,5 +1,5 @@
 -- What READ and WRITE are shown of a target: whether their condition holds, told off the quantities of the object.
-use Rattle.std.proofs.Common.{◌≡◌, ℕ, ℤ, pos, int_lt, int_le, Bool, true, false, cond, not, ◌&&◌, ◌||◌, List, [], ◌∷◌, ◌++◌, Option, Some, None, option_map, refl, sym, ap, ap₂, ◌∙◌}
+use Rattle.std.proofs.Common.{◌≡◌, ℕ, ℤ, pos, int_lt, int_le, Bool, true, false, cond, not, ◌&&◌, ◌||◌, List, Option, Some, None, option_map, refl, sym, ap, ◌∙◌}
 use Rattle.std.proofs.lemmas.Bool.{true≢false}
 use Rattle.std.specs.List.{list_any}
 use Rattle.std.specs.Option.{is_some}
@@ -12,7 +12,7 @@ use Rattle.kq_model.specs.declared.object.View.TheVariants as view
 use Rattle.kq_model.specs.declared.side.Side.{Side}
 use Rattle.kq_model.specs.declared.side.Side.TheVariants.{Read, Write}
 use Rattle.kq_model.specs.Hints.{takes}
-use Rattle.kq_model.specs.Look.{Seen, difference, pipe_mark, side_seen, amount_seen, read_seen, write_seen}
+use Rattle.kq_model.specs.Look.{difference, pipe_mark, side_seen, amount_seen, read_seen, write_seen}
 use Rattle.kq_model.specs.ObjectPlan as object
 use Rattle.kq_model.specs.Pipes.{PipeState, pipe_view, has_reader, has_writer}
 use Rattle.kq_model.specs.Sockets.{SocketState, socket_view, socket_space}

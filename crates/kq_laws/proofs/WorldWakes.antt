@@ -1,5 +1,5 @@
 -- Each record tells of each condition of READ and WRITE that it makes hold of what was there before it.
-use Rattle.std.proofs.Common.{◌≡◌, ℕ, ℤ, pos, negsuc, ◌≤◌, ◌==◌, nat_lt, ltb, Bool, true, false, cond, not, ◌&&◌, ◌||◌, eqb, eqb-true, eq-eqb, length, List, [], ◌∷◌, ◌++◌, map, Option, Some, None, Ok, Err, refl, sym, ap, subst, ◌∙◌, arith, if◌then◌else◌}
+use Rattle.std.proofs.Common.{◌≡◌, ℕ, ℤ, pos, negsuc, ◌≤◌, ◌==◌, nat_lt, Bool, true, false, cond, not, ◌&&◌, ◌||◌, eqb, eqb-true, eq-eqb, length, List, [], ◌∷◌, ◌++◌, Option, Some, None, Ok, Err, refl, sym, ap, subst, ◌∙◌, arith, if◌then◌else◌}
 use Rattle.std.proofs.lemmas.Bool.{true≢false}
 use Rattle.std.proofs.lemmas.Bool.Decides.{nat_tests}
 use Rattle.std.proofs.lemmas.List.Elements.{All-nil, All-cons, All-map, All-weaker}
@@ -14,7 +14,6 @@ use Rattle.kq_model.specs.declared.mode.Mode.{Mode}
 use Rattle.kq_model.specs.declared.object.Named.{Named}
 use Rattle.kq_model.specs.declared.object.Named.TheVariants as named
 use Rattle.kq_model.specs.declared.object.Target.{Target}
-use Rattle.kq_model.specs.declared.side.Side.{Side}
 use Rattle.kq_model.specs.declared.why.Why.{Why}
 use Rattle.kq_model.specs.declared.why.Why.TheVariants.{UsedPid, UsedDescriptor, ClockBack, TooMany}
 use Rattle.kq_model.specs.Bits.{fork_note, exec_note, exit_note}
@@ -22,17 +21,16 @@ use Rattle.kq_model.specs.Clock.{Span}
 use Rattle.kq_model.specs.CountedWorld.{IsCountedWorld}
 use Rattle.kq_model.specs.DescriptorPlans.{close_doings, close_hints, closes, duplicated, plan_call, plan_close, plan_dup, plan_kevent, plan_kqueue}
 use Rattle.kq_model.specs.Descriptors.{Descriptor, named_among, without_closed}
-use Rattle.kq_model.specs.Holding.{hold_doings, option_list, release, release_doings, release_all, release_hint, release_hints, IsCounted, IsNamed}
+use Rattle.kq_model.specs.Holding.{hold_doings, option_list, release, release_doings, release_all, release_hint, release_hints, IsNamed}
 use Rattle.kq_model.specs.Limits.{most_changes, most_room}
 use Rattle.kq_model.specs.ListedFiles.{AreListed}
 use Rattle.kq_model.specs.ObjectPlan as object
 use Rattle.kq_model.specs.ObjectRecordPlans.{descriptor, pipe_ends, plan_accept, plan_act, plan_at, plan_open, plan_pipe, plan_socket, unless_open, with_objects}
-use Rattle.kq_model.specs.Objects.{Objects, counted, all_done, view_of}
+use Rattle.kq_model.specs.Objects.{counted, all_done, view_of}
 use Rattle.kq_model.specs.Planning as object_planning
 use Rattle.kq_model.specs.Plans.{plan}
-use Rattle.kq_model.specs.Processes.{ignored_by, ignores_none, is_live, process_of, was_used}
+use Rattle.kq_model.specs.Processes.{ignored_by, ignores_none, process_of, was_used}
 use Rattle.kq_model.specs.ProcessPlans.{delivery, descriptors_of, hold_all, inherited, is_signal, names_of, noted, pairs_of, plan_clock, plan_clock_at, plan_exec, plan_exit, plan_fork, plan_proc, plan_sig, plan_sigset}
-use Rattle.kq_model.specs.Targets.{Posted}
 use Rattle.kq_model.specs.World.{World, Plan, Planned, Impossible, Possible, idle, named_by}
 use Rattle.kq_model.proofs.CountedTables.{has_pair-one, inherited-all, times-without}
 use Rattle.kq_model.proofs.HeldNames.{counted-fewer}
@@ -73,11 +71,13 @@ module _ (place : ℕ) (w : World counted) where
   -- nothing is noted
   quiet : (p : Plan) → p.doings ≡ [] → IsForward w.now p.clock → K (Possible p)
   unfolding all_done
-  quiet p none forward = record { tells = λ c l calm. (
-    λ t _ side mark _ e. ap (λ ds. shown side mark (view_of t (all_done ds w.objects))) (sym none) ∙ e,
-    λ was. subst (λ ds. AreCalm (all_done ds w.objects)) (sym none) was,
-    forward,
-  ) }
+  quiet p none forward = record {
+    tells = λ c l calm. (
+      λ t _ side mark _ e. ap (λ ds. shown side mark (view_of t (all_done ds w.objects))) (sym none) ∙ e,
+      λ was. subst (λ ds. AreCalm (all_done ds w.objects)) (sym none) was,
+      forward,
+    );
+  }
 
   tells-proc : (pid : ℕ) → K (plan_proc pid w)
   unfolding plan_proc
@@ -143,11 +143,13 @@ module _ (place : ℕ) (w : World counted) where
         closed = record { pid = pid; number = fd } ∷ [];
         doings = release_doings n w.objects;
         hints = option_list (release_hint n w.objects);
-      })) (λ n _ _. record { tells = λ c l calm. (
-        λ t _. release-tells n w.objects t,
-        calm-all (release_doings n w.objects) w.objects (release-none n w.objects),
-        tt,
-      ) })
+      })) (λ n _ _. record {
+        tells = λ c l calm. (
+          λ t _. release-tells n w.objects t,
+          calm-all (release_doings n w.objects) w.objects (release-none n w.objects),
+          tt,
+        );
+      })
 
   other_number : (a b q fd to : ℕ) → eqb fd to ≡ false → (eqb a q && eqb b to) ≡ true → (eqb a q && eqb b fd) ≡ false
   other_number a b q fd to apart gone =
@@ -208,12 +210,14 @@ module _ (place : ℕ) (w : World counted) where
     sharing-tells n found =
         by_test (λ b. eqb fd to ≡ b → K (if b then Possible idle else Possible (shares n))) (fd == to)
         (λ _ _. quiet idle refl tt)
-        (λ _ apart. record { tells = λ c l calm. (
-          λ t _. shared-tells pid fd to n found apart c (named_among pid to w.table) refl t,
-          calm-all (close_doings (named_among pid to w.table) w.objects ++ hold_doings n) w.objects
-              (shared-none n (close_doings (named_among pid to w.table) w.objects) (closed-none pid fd to n found apart c (named_among pid to w.table))),
-          tt,
-        ) }) refl
+        (λ _ apart. record {
+          tells = λ c l calm. (
+            λ t _. shared-tells pid fd to n found apart c (named_among pid to w.table) refl t,
+            calm-all (close_doings (named_among pid to w.table) w.objects ++ hold_doings n) w.objects
+                (shared-none n (close_doings (named_among pid to w.table) w.objects) (closed-none pid fd to n found apart c (named_among pid to w.table))),
+            tt,
+          );
+        }) refl
 
     duplicated-tells : (n : Named) → named_among pid fd w.table ≡ Some n → K (duplicated pid fd to w n)
     unfolding duplicated named_by
@@ -247,13 +251,15 @@ module _ (place : ℕ) (w : World counted) where
         started = Some (record { pid = child; ignores = ignored_by (process_of pid w.processes) });
       }) in
       unless_gone K refused w pid (if was_used child w.processes then Impossible UsedPid else forks)
-      (λ _. unless K refused w (was_used child w.processes) UsedPid forks (λ _. record { tells = λ c l calm. (
-        λ t _. hold_all-tells (names_of ds) w.objects (names_of w.table) c.counts
-            (All-map (λ n. IsNamed n (names_of w.table)) (λ (d : Descriptor). d.named) ds
-            (inherited-all (λ n. IsNamed n (names_of w.table)) pid child w.table (all-named w.table))) (noted pid fork_note ∷ []) t,
-        calm-all (hold_all (names_of ds)) w.objects (hold_all-none (names_of ds)),
-        tt,
-      ) }))
+      (λ _. unless K refused w (was_used child w.processes) UsedPid forks (λ _. record {
+        tells = λ c l calm. (
+          λ t _. hold_all-tells (names_of ds) w.objects (names_of w.table) c.counts
+              (All-map (λ n. IsNamed n (names_of w.table)) (λ (d : Descriptor). d.named) ds
+              (inherited-all (λ n. IsNamed n (names_of w.table)) pid child w.table (all-named w.table))) (noted pid fork_note ∷ []) t,
+          calm-all (hold_all (names_of ds)) w.objects (hold_all-none (names_of ds)),
+          tt,
+        );
+      }))
 
   tells-exit : (pid status : ℕ) → K (plan_exit pid status w)
   unfolding plan_exit
@@ -264,12 +270,14 @@ module _ (place : ℕ) (w : World counted) where
         doings = release_all (names_of ds) w.objects;
         hints = release_hints (names_of ds) w.objects ++ noted pid exit_note ∷ [];
         ended = Some (record { pid = pid; status = status });
-      })) (λ _. record { tells = λ c l calm. (
-        λ t _ side mark silent e. release_all-tells (names_of ds) w.objects t side mark
-            (told-either side t (release_hints (names_of ds) w.objects) (noted pid exit_note ∷ []) silent).0 e,
-        calm-all (release_all (names_of ds) w.objects) w.objects (release_all-none (names_of ds) w.objects),
-        tt,
-      ) })
+      })) (λ _. record {
+        tells = λ c l calm. (
+          λ t _ side mark silent e. release_all-tells (names_of ds) w.objects t side mark
+              (told-either side t (release_hints (names_of ds) w.objects) (noted pid exit_note ∷ []) silent).0 e,
+          calm-all (release_all (names_of ds) w.objects) w.objects (release_all-none (names_of ds) w.objects),
+          tt,
+        );
+      })
 
   -- ---- records about objects
 
