@@ -1,0 +1,10 @@
+use Rattle.std.proofs.lemmas.Result.{IfOk-weaker}
+use Rattle.kq_system.specs.SystemState.{system_of}
+use Rattle.kq_laws.proofs.Runs.{announces_all}
+use Rattle.kq_laws.proofs.running.apply.Goals as goal
+
+pub returns-clause-hints : goal.returns-clause-hints
+returns-clause-hints c =
+    IfOk-weaker c.apply.result _ _
+    (λ r steps. announces_all c.args.system.now.applied c.args.event.now (system_of c.args.system.now) (system_of c.apply.new.self) steps.0)
+    c.apply.ensures.reply
