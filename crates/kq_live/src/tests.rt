@@ -2,7 +2,6 @@
 mod calls;
 mod refusals;
 mod runs;
-mod tries;
 
 ghost use Rattle.std.specs.Prelude.{◌≡◌, IfSome};
 ghost use Rattle.kq_lock.specs.Seats.{EachSeat, IsFresh};
