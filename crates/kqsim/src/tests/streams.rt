@@ -7,7 +7,9 @@ use crate::output::write_out;
 use crate::running::run_order;
 use std::io;
 use std::io::{ErrorKind, Read, Write};
+use std::sync::Wait;
 use std::test::Fail;
+use std::thread::Threads;
 
 /// Gives one byte a read, and fails once it was read so often.
 #[derive(Drop)]
@@ -80,7 +82,7 @@ impl Write for Narrow {
     }
 }
 
-fn taking(rt: &HostRuntime, writes: usize, kind: Option<ErrorKind>) -> Narrow {
+fn taking(rt: &impl AllocGlobal, writes: usize, kind: Option<ErrorKind>) -> Narrow {
     Narrow {
         got: Vec::new(rt.alloc()),
         writes,
@@ -191,7 +193,11 @@ fn a_wrong_number_is_refused_before_reading(rt: HostRuntime) -> Result<(), Fail>
 }
 
 /// Whether the stored run ends with status 3 and nothing is written where the reader fails after so many reads.
-fn is_left_unread(rt: &HostRuntime, order: &Order, reads: usize) -> bool {
+fn is_left_unread<R: AllocGlobal + Threads + Wait + Sync>(
+    rt: &R,
+    order: &Order,
+    reads: usize,
+) -> bool {
     let mut reader = giving(STORED.as_bytes(), reads);
     let mut out = taking(rt, 1000, None);
     let mut err = taking(rt, 1000, None);
@@ -209,7 +215,12 @@ fn a_reader_may_fail_at_its_first_second_and_last_read(rt: HostRuntime) -> Resul
 
 /// Whether the stored run ends with status 7 where the writer takes so many bytes and then fails in this way, and what
 /// it took is the beginning of the report.
-fn is_cut_off(rt: &HostRuntime, order: &Order, writes: usize, kind: Option<ErrorKind>) -> bool {
+fn is_cut_off<R: AllocGlobal + Threads + Wait + Sync>(
+    rt: &R,
+    order: &Order,
+    writes: usize,
+    kind: Option<ErrorKind>,
+) -> bool {
     let mut reader = giving(STORED.as_bytes(), 1000);
     let mut out = taking(rt, writes, kind);
     let mut err = taking(rt, 1000, None);
