@@ -1,5 +1,5 @@
 -- How often a number stands in lists, and sums over the seats.
-use Rattle.std.proofs.Common.{◌≡◌, ◌≢◌, ℕ, zero, suc, ◌+◌, ◌<◌, ◌≤◌, ◌==◌, Bool, true, false, cond, ltb}
+use Rattle.std.proofs.Common.{◌≡◌, ◌≢◌, ℕ, zero, suc, ◌+◌, ◌<◌, ◌≤◌, Bool, true, false, cond, ltb}
 use Rattle.std.proofs.Common.{List, [], ◌∷◌, ◌++◌, length, get_or, filter, sum_by, refl, ap, sym, ◌∙◌}
 use Rattle.std.proofs.Common.{arith, true≢false, eq-eqb, ne_eqb}
 use mathlib.Core.Logic.{dite}

@@ -1,21 +1,21 @@
 -- Each step on the counter's table keeps its rule.
-use Rattle.std.proofs.Common.{◌≡◌, ℕ, zero, suc, ◌+◌, ◌-◌, ◌%◌, ◌^◌, ◌<◌, ◌≤◌, cond, ltb, List, []}
+use Rattle.std.proofs.Common.{◌≡◌, ℕ, ◌+◌, ◌%◌, ◌^◌, ◌<◌, ◌≤◌, List, []}
 use Rattle.std.proofs.Common.{◌∷◌, ◌++◌, get_or, set, le_refl, sum_by, refl, ap, sym, ◌∙◌, subst, ⊎_elim, arith}
 use Rattle.std.proofs.Math.Nat.{mod-eq_of_lt}
-use Rattle.std.proofs.lemmas.List.Sums.{sum_by-cons, sum_by_push}
+use Rattle.std.proofs.lemmas.List.Sums.{sum_by_push}
 use mathlib.Core.Option.{none, some, some-injective, some-ne-none}
 use mathlib.Core.Logic.{dite}
 use native.Mathlib.Decide.{dec_lt}
 use lib.ListN.{get_elem?}
 use Rattle.atomic_table.specs.Table.{State, Me, Act, keeps, step, Valid, homes_after}
-use Rattle.atomic_table.specs.Table.{carried_after, Allows, Splits, Joins, opening}
+use Rattle.atomic_table.specs.Table.{carried_after, Allows, Splits, Joins}
 use Rattle.atomic_table.proofs.Lists.{at_set, at_snoc, set_again}
 use Rattle.kq_lock.proofs.Beginnings.{sum_set}
 use Rattle.kq_jobs.specs.declared.view.View.{View}
 use Rattle.kq_jobs.specs.Claims.{times, once_below}
-use Rattle.kq_jobs.specs.Handing.{Knows, HandsOut, newcomer, giving, given, joined, spent, drew}
+use Rattle.kq_jobs.specs.Handing.{Knows, HandsOut, giving, given, joined, spent, drew}
 use Rattle.kq_jobs.specs.Handing.{Draws, Settles, DrewAll}
-use Rattle.kq_jobs.proofs.Counting.{times_append, once_at_most, once_inside, once_outside, once_next}
+use Rattle.kq_jobs.proofs.Counting.{times_append, once_at_most, once_inside, once_next}
 use Rattle.kq_jobs.proofs.Counting.{sum_has, sum_most, sum_whole}
 
 abbrev parts_of : View → ℕ
@@ -58,15 +58,6 @@ spent_knows count claim = record {
   ended = λ p. absurd (omega arith);
   spent = λ _. refl;
 }
-
-begins_at : (count j : ℕ) (v : View) → get_elem? (newcomer count ∷ []) j ≡ some v → Knows count 0 v
-begins_at count zero v e = subst (Knows count 0) (some-injective (newcomer count) v e) (record {
-  counted = λ _. refl;
-  few_past = omega arith;
-  ended = λ p. absurd (omega arith);
-  spent = λ none_left. absurd (omega arith);
-})
-begins_at count (suc j) v e = absurd (some-ne-none v (sym e))
 
 module _ {S : Type 0} (count : ℕ) where
   -- CLAIM never comes near 2^64
@@ -269,16 +260,3 @@ module _ {S : Type 0} (count : ℕ) where
         seats = knows_set count h.claim h.claim ones other spent (le_refl h.claim) with_both
             (spent_knows count h.claim);
       }
-
-  -- the counter at its start
-  pub begins : (xs : List S) → HandsOut {S = S} count (opening (0 ∷ []) xs (newcomer count))
-  begins xs = record {
-    claim = 0;
-    word = refl;
-    each_once = λ x.
-        let t = sum_by-cons (drawn_of x) (newcomer count) [] in
-        let o = once_outside x 0 (omega arith) in omega arith;
-    bounded = omega arith;
-    all_parts = let t = sum_by-cons parts_of (newcomer count) [] in omega arith;
-    seats = begins_at count;
-  }

@@ -1,11 +1,11 @@
 -- The rule of the counter's table, and what each step tells the seat that takes it.
-use Rattle.std.specs.Prelude.{◌≡◌, ℕ, suc, ◌+◌, ◌-◌, ◌<◌, ◌≤◌, ltb, List, [], ◌∷◌, ◌++◌, filter}
+use Rattle.std.specs.Prelude.{◌≡◌, ℕ, ◌+◌, ◌-◌, ◌<◌, ◌≤◌, ltb, List, [], ◌∷◌, ◌++◌, filter}
 use Rattle.std.specs.Prelude.{sum_by}
 use mathlib.Core.Option.{some}
 use lib.ListN.{get_elem?}
 use Rattle.atomic_table.specs.Table.{State, Me, Step}
 use Rattle.kq_jobs.specs.declared.view.View.{View}
-use Rattle.kq_jobs.specs.Claims.{times, once_below, IsAtMostOnce, HasAll}
+use Rattle.kq_jobs.specs.Claims.{times, once_below, IsAtMostOnce}
 
 -- the numbers that a seat drew, but for those past the last one
 abbrev pub claimed : View → List ℕ
