@@ -7,6 +7,7 @@ use kq_model::Memory;
 use std::alloc::Global;
 use std::sync::Wait;
 use std::sync::atomic::AtomicU64;
+use std::sync::atomic::Ordering::SeqCst;
 use std::test::Fail;
 use std::thread::Threads;
 
@@ -31,6 +32,30 @@ impl Jobs for Squares {
     }
 }
 
+// The same, with a count of the runs.
+#[derive(Drop)]
+struct Counted {
+    squares: Squares,
+    runs: AtomicU64,
+}
+
+impl Jobs for Counted {
+    type Outcome = u64;
+
+    ghost count = { λ jobs. jobs.squares.0 };
+
+    ghost gives = { λ jobs n square. square ≡ n * n };
+
+    fn len(&self) -> u32 {
+        self.squares.len()
+    }
+
+    fn run(&self, number: u32) -> Result<u64, Memory> {
+        self.runs.fetch_add(1, SeqCst);
+        self.squares.run(number)
+    }
+}
+
 // The sum of the squares, and how many there are.
 fn summed<R: Threads + Wait + Sync, G: Gate + Sync, S: Starts>(
     rt: &R,
@@ -49,15 +74,20 @@ fn summed<R: Threads + Wait + Sync, G: Gate + Sync, S: Starts>(
 }
 
 #[test]
-fn each_job_is_entered_once(rt: HostRuntime) -> Result<(), Fail> {
+fn each_job_is_entered_and_run_once(rt: HostRuntime) -> Result<(), Fail> {
     for workers in [1, 2, 256] {
         let mut entered = Vec::new(rt.alloc());
         for _ in 0..300 {
             entered.push(AtomicU64::new(0)).map_err(|_| "memory")?;
         }
         let gate = Counts { entered };
-        let summed = summed(&rt, rt.alloc(), 300, workers, &gate, &Always);
-        assert_eq!(rt; summed, Ok((8955050, 300)));
+        let jobs = Counted {
+            squares: Squares(300),
+            runs: AtomicU64::new(0),
+        };
+        let ran = run_all(&rt, rt.alloc(), &jobs, workers, &gate, &Always);
+        assert_eq!(rt; ran.map(|all| all.len()), Ok(300));
+        assert_eq!(rt; jobs.runs.load(SeqCst), 300);
         assert!(rt; gate.all_once());
     }
     Ok(())
