@@ -26,7 +26,8 @@ impl World {
         ensures next { OnOk result (IsCountedWorld (place + 1) (world_of self.new)) }
         // The same for the world that keeps each object's records, for which this one stands.
         ensures listed { (m : Kept listed) → world_of self.old ≡ seen_world m
-            → OnOk result (world_of self.new ≡ seen_world (listed_after place (plan place event.now (seen_world m)) m)) }
+            → OnOk result (world_of self.new
+            ≡ seen_world (listed_after place (plan place event.now (seen_world m)) m)) }
     {
         self.step(place, event)
     }

@@ -32,11 +32,7 @@ impl Effect {
     pub fn quiet(alloc: Global) -> Self
         ensures { Tells [] result }
     {
-        Effect {
-            verdict: Ok(()),
-            closed: Series::from_vec(Vec::new(alloc)),
-            hints: Series::from_vec(Vec::new(alloc)),
-        }
+        Effect::done(Vec::new(alloc), Vec::new(alloc))
     }
 
     /// Of a record that closes nothing and gives one hint.

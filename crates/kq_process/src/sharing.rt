@@ -147,8 +147,8 @@ impl World {
         requires other { (fd == to) ≡ false }
         requires once { AreOnce (descriptor_in pid (to, before) ∷ []) (world_of self.old).table }
         ensures effect { IfOk result (IsDone (sharing pid to (Some before) named (world_of self.old))) }
-        ensures world { (place : ℕ) → OnOk result (world_of self.new
-            ≡ world_after place (Possible (sharing pid to (Some before) named (world_of self.old))) (world_of self.old)) }
+        ensures world { (place : ℕ) → OnOk result (world_of self.new ≡ world_after place
+            (Possible (sharing pid to (Some before) named (world_of self.old))) (world_of self.old)) }
         ensures memory { OnErr result (world_of self.new ≡ world_of self.old) }
     {
         let alloc = self.processes.allocator();
