@@ -1,0 +1,3 @@
+mod TimelineLemmas
+mod Rising
+mod Picked

@@ -1,0 +1,5 @@
+pub mod Timeline
+pub mod Timelines
+pub mod Items
+pub mod Shelves
+pub mod Log
