@@ -1,3 +1,6 @@
 mod TimelineLemmas
 mod Rising
 mod Picked
+mod Following
+mod Sourced
+mod Private

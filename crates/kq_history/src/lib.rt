@@ -2,13 +2,23 @@
 //! that each kqueue can be replayed alone.
 #![tactic(auto)]
 
+mod at;
 mod item;
+mod kqueues;
 mod log;
+mod private;
+mod said;
+mod seen;
 mod shelves;
+mod sources;
+mod split;
+#[cfg(test)]
+mod tests;
 mod timeline;
 mod timelines;
+mod touched;
 
-pub use item::{Item, Source, What};
-pub use log::Log;
-pub use timeline::{Mark, Timeline};
-pub use timelines::Timelines;
+pub use at::HistoryAt;
+pub use item::{Item, What};
+pub use private::Private;
+pub use split::Split;
