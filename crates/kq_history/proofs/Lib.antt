@@ -2,5 +2,6 @@ mod TimelineLemmas
 mod Rising
 mod Picked
 mod Following
+mod Noted
 mod Sourced
 mod Private

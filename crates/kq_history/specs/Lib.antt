@@ -7,3 +7,4 @@ pub mod Sources
 pub mod Kqueues
 pub mod Concerned
 pub mod History
+pub mod Noted
