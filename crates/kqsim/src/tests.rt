@@ -1,6 +1,8 @@
 mod library;
 mod merging;
+mod objects;
 mod program;
 mod streams;
 mod system;
 mod text;
+mod world;
