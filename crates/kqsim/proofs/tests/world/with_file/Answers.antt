@@ -13,6 +13,6 @@ act-requires-clause-none c = refl
 pub returns : goal.returns
 unfolding made_names
 returns c =
-    let none : made_names 5 (act.File 8 (pos 7)) ≡ [] = refl in
-    counted-acted 5 (act.File 8 (pos 7)) (world_of c.in_ok-world.world) (world_of c.act.new.self) none
+    let none : made_names 2 (act.File 8 (pos 7)) ≡ [] = refl in
+    counted-acted 2 (act.File 8 (pos 7)) (world_of c.in_ok-world.world) (world_of c.act.new.self) none
     c.in_ok-act.ensures.world c.in_ok-world.ensures
