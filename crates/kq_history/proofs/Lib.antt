@@ -1,0 +1,7 @@
+mod TimelineLemmas
+mod Rising
+mod Picked
+mod Following
+mod Noted
+mod Sourced
+mod Private

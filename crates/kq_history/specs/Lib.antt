@@ -1,0 +1,10 @@
+pub mod Timeline
+pub mod Timelines
+pub mod Items
+pub mod Shelves
+pub mod Log
+pub mod Sources
+pub mod Kqueues
+pub mod Concerned
+pub mod History
+pub mod Noted
