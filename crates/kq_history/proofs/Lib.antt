@@ -1,7 +1,7 @@
 mod TimelineLemmas
 mod Rising
 mod Picked
-mod Following
-mod Noted
+mod Known
+mod Places
 mod Sourced
-mod Private
+mod PickedPrivate

@@ -6,5 +6,3 @@ pub mod Log
 pub mod Sources
 pub mod Kqueues
 pub mod Concerned
-pub mod History
-pub mod Noted

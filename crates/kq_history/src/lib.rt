@@ -2,23 +2,18 @@
 //! that each kqueue can be replayed alone.
 #![tactic(auto)]
 
-mod at;
 mod item;
 mod kqueues;
 mod log;
-mod private;
-mod said;
-mod seen;
 mod shelves;
 mod sources;
-mod split;
-#[cfg(test)]
-mod tests;
 mod timeline;
 mod timelines;
-mod touched;
 
-pub use at::HistoryAt;
-pub use item::{Item, What};
-pub use private::Private;
-pub use split::Split;
+pub use item::{Item, Source, What};
+pub use kqueues::{Concerned, Kqueues};
+pub use log::Log;
+pub use shelves::{Shelf, Shelves};
+pub use sources::Sources;
+pub use timeline::{Mark, Timeline};
+pub use timelines::Timelines;
