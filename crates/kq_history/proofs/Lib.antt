@@ -5,3 +5,4 @@ mod Known
 mod Places
 mod Sourced
 mod PickedPrivate
+mod Following

@@ -6,3 +6,5 @@ pub mod Log
 pub mod Sources
 pub mod Kqueues
 pub mod Concerned
+pub mod Seen
+pub mod Noted

@@ -2,17 +2,21 @@
 //! that each kqueue can be replayed alone.
 #![tactic(auto)]
 
+mod at;
 mod item;
 mod kqueues;
 mod log;
+mod seen;
 mod shelves;
 mod sources;
 mod timeline;
 mod timelines;
 
+pub use at::HistoryAt;
 pub use item::{Item, Source, What};
 pub use kqueues::{Concerned, Kqueues};
 pub use log::Log;
+pub use seen::Seen;
 pub use shelves::{Shelf, Shelves};
 pub use sources::Sources;
 pub use timeline::{Mark, Timeline};
