@@ -31,6 +31,7 @@ bench: all
 	bench/run $(KQSIM) $(VALUE_COUNT) $(TRACE_CHECK)
 	bench/kevents $(KQSIM)
 	bench/objects $(KQSIM)
+	bench/timers $(KQSIM)
 
 install: all
 	install -D -m 755 $(KQSIM) $(DESTDIR)$(PREFIX)/bin/kqsim

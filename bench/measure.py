@@ -3,6 +3,8 @@ import os
 import subprocess
 import sys
 
+import traces
+
 
 class Measure:
     """The shortest time, in seconds, and the greatest peak memory, in bytes, of some runs of one program.
@@ -38,6 +40,29 @@ def last_line(path):
     with open(path, "rb") as file:
         file.seek(max(0, os.path.getsize(path) - 200))
         return file.read().splitlines()[-1]
+
+
+def marginal(room, kqsim, lines, before, lengths, repeats):
+    """Returns what a record costs, in seconds, behind the first `before` of a trace that is cut at each of these
+    lengths, and the run itself.
+
+    `lines` is called for the lines of the trace. The runs go by turns, and the shortest time of each counts.
+    """
+    def ran(records):
+        each = Measure([kqsim, "replay", "-"], f"{room}/{records}", f"{room}/{records}.report")
+        traces.write(each.given, lines(), records)
+        each.write()
+        with open(each.taken, "rb") as report:
+            is_possible = b'"impossible"' not in report.read(1 << 20)
+        if not is_possible or not last_line(each.taken).endswith(b'"records":%d}' % records):
+            sys.exit("what the program wrote is not what this trace gives")
+        return each
+
+    start, *others = map(ran, (before, *lengths))
+    for _ in range(repeats):
+        for each in (start, *others):
+            each.run()
+    return [((each.seconds - start.seconds) / (records - before), each) for each, records in zip(others, lengths)]
 
 
 def bar(what, has, most):

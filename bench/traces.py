@@ -1,12 +1,16 @@
-"""The traces of the benchmark: one process, one kqueue, calls on USER kevents, written straight to a file."""
+"""The traces of the benchmark. Each is an endless list of lines behind the header, of which `write` takes the first."""
 import itertools
 
 TRIGGER = 16777216
 POLL_ROOM = 4
 CHANGES = 1000
+NOTE_WRITE = 2
+NOTE_NSECONDS = 8
+SIGNALS = 64
+MILLISECOND = 1_000_000
 
 
-# the members of each kind of record besides `op`; `side` is the name of a side, `changes` a list, all others are numbers
+# the members of each kind of record besides `op`; all but those below, `ignore` and `changes` are whole numbers from 0
 MEMBERS = {
     "proc": ["pid"],
     "fork": ["pid", "child"],
@@ -26,18 +30,72 @@ MEMBERS = {
     "pipe": ["pid", "rfd", "wfd", "cap"],
     "read": ["pid", "fd", "n"],
     "write": ["pid", "fd", "n"],
+    "exec": ["pid"],
+    "sigset": ["pid", "sig", "ignore"],
+    "sig": ["pid", "sig"],
+    "file": ["file", "size"],
+    "open": ["pid", "fd", "file", "mode"],
+    "seek": ["pid", "fd", "offset"],
+    "truncate": ["file", "size"],
+    "note": ["file", "note"],
+    "clock": ["ns"],
     "kevent": ["pid", "fd", "changes", "room"],
 }
-SIDES = ["read", "write"]
+# the members whose values are words, and those that have a sign
+WORDS = {
+    "side": ["read", "write"],
+    "mode": ["r", "w", "rw"],
+    "note": ["attrib", "link", "rename", "delete", "revoke"],
+}
+SIGNED = ["size", "offset"]
+# those of a change, in the order of canonical text
+FILTERS = ["READ", "WRITE", "VNODE", "PROC", "SIGNAL", "TIMER", "USER"]
+FILTERS += ["AIO", "LIO", "FS", "PROCDESC", "SENDFILE", "EMPTY"]
+FLAGS = ["ADD", "DELETE", "ENABLE", "DISABLE", "ONESHOT", "CLEAR", "DISPATCH", "RECEIPT", "EOF", "ERROR"]
+
+
+def record(op, *numbers):
+    """One line: a kind of record and its members in their order, all of them numbers."""
+    members = ",".join(f'"{name}":{number}' for name, number in zip(MEMBERS[op], numbers))
+    return f'{{"op":"{op}",{members}}}\n'
+
+
+OPENING = (record("proc", 1), record("kqueue", 1, 9))
 
 
 def call(changes, room):
     return '{"op":"kevent","pid":1,"fd":9,"changes":[%s],"room":%d}\n' % (",".join(changes), room)
 
 
-def change(ident, flags, fflags):
+def change(ident, flags, fflags, filter="USER", data=None):
     names = ",".join(f'"{it}"' for it in flags)
-    return '{"ident":%d,"filter":"USER","flags":[%s],"fflags":%d}' % (ident, names, fflags)
+    last = "" if data is None else f',"data":{data}'
+    return '{"ident":%d,"filter":"%s","flags":[%s],"fflags":%d%s}' % (ident, filter, names, fflags, last)
+
+
+def in_calls(changes):
+    """Yields calls without room that make these changes, so many in each as are allowed."""
+    for start in range(0, len(changes), CHANGES):
+        yield call(changes[start : start + CHANGES], 0)
+
+
+def calls_setup(kevents):
+    """How many records register so many kevents, with those of the process and its kqueue."""
+    return len(OPENING) - (-kevents // CHANGES)
+
+
+def with_polls(lines):
+    """Yields these lines, and a poll after each three of them."""
+    while True:
+        yield from itertools.islice(lines, 3)
+        yield call([], POLL_ROOM)
+
+
+def write(path, lines, records):
+    """Writes the first so many records of a trace."""
+    with open(path, "w", encoding="ascii") as file:
+        file.write('{"kqsim":1}\n')
+        file.writelines(itertools.islice(lines, records))
 
 
 def level(ident):
@@ -52,42 +110,58 @@ def once(ident):
     return ["ADD", actions[ident % 3]], back[ident % 3]
 
 
-def write(path, kind, kevents, records):
-    """Writes a trace of so many records: kevents are added, then triggered in turn; each fourth record is a poll."""
-    with open(path, "w", encoding="ascii") as file:
-        file.write('{"kqsim":1}\n{"op":"proc","pid":1}\n{"op":"kqueue","pid":1,"fd":9}\n')
-        written = 2
-        for start in range(0, kevents, CHANGES):
-            idents = range(start, min(start + CHANGES, kevents))
-            file.write(call([change(it, kind(it)[0], 0) for it in idents], 0))
-            written += 1
-        triggers = [call([change(it, kind(it)[1], TRIGGER)], 0) for it in range(kevents)]
-        poll, ident = call([], POLL_ROOM), 0
-        for number in range(1, records - written + 1):
-            if number % 4 == 0:
-                file.write(poll)
-            else:
-                file.write(triggers[ident])
-                ident = (ident + 1) % kevents
+def users(kind, kevents):
+    """Kevents are added, then triggered in turn; each fourth record is a poll."""
+    yield from (*OPENING, *in_calls([change(it, kind(it)[0], 0) for it in range(kevents)]))
+    yield from with_polls(itertools.cycle([call([change(it, kind(it)[1], TRIGGER)], 0) for it in range(kevents)]))
 
 
-def turnover(path, kevents, records):
-    """Writes a trace in which the oldest of so many kevents is deleted and a new one added, record by record."""
-    with open(path, "w", encoding="ascii") as file:
-        file.write('{"kqsim":1}\n{"op":"proc","pid":1}\n{"op":"kqueue","pid":1,"fd":9}\n')
-        written = 2
-        for start in range(0, kevents, CHANGES):
-            idents = range(start, min(start + CHANGES, kevents))
-            file.write(call([change(it, ["ADD"], 0) for it in idents], 0))
-            written += 1
-        for oldest in range(records - written):
-            file.write(call([change(oldest, ["DELETE"], 0), change(oldest + kevents, ["ADD"], 0)], 0))
+def turnover(kevents):
+    """The oldest of so many kevents is deleted and a new one added, record by record."""
+    yield from (*OPENING, *in_calls([change(it, ["ADD"], 0) for it in range(kevents)]))
+    for oldest in itertools.count():
+        yield call([change(oldest, ["DELETE"], 0), change(oldest + kevents, ["ADD"], 0)], 0)
 
 
-def record(op, *numbers):
-    """One line: a kind of record and its members in their order, all of them numbers."""
-    members = ",".join(f'"{name}":{number}' for name, number in zip(MEMBERS[op], numbers))
-    return f'{{"op":"{op}",{members}}}\n'
+def files(kevents):
+    """One file after the other is written to, and a VNODE kevent with CLEAR watches each; each fourth record is a
+    poll."""
+    yield from OPENING
+    numbers = range(10, 10 + kevents)
+    for it in numbers:
+        yield from (record("file", it, 0), '{"op":"open","pid":1,"fd":%d,"file":%d,"mode":"w"}\n' % (it, it))
+    yield from in_calls([change(it, ["ADD", "CLEAR"], NOTE_WRITE, "VNODE") for it in numbers])
+    yield from with_polls(itertools.cycle([record("write", 1, it, 1) for it in numbers]))
+
+
+def files_setup(kevents):
+    return 2 * kevents + calls_setup(kevents)
+
+
+def signals(kevents):
+    """Signals come by turns, each heard by a kevent, beside user kevents that nothing triggers; each fourth record is a
+    poll."""
+    heard = range(1, SIGNALS + 1)
+    changes = [change(it, ["ADD"], 0, "SIGNAL") for it in heard]
+    yield from (*OPENING, *in_calls(changes + [change(it, ["ADD"], 0) for it in range(kevents - SIGNALS)]))
+    yield from with_polls(itertools.cycle([record("sig", 1, it) for it in heard]))
+
+
+def timers(count, period, longer, step):
+    """The clock goes on by `step` ns a record; so many timers have periods from `period` ns on, each `longer` ns longer
+    than the last."""
+    changes = [change(it, ["ADD"], NOTE_NSECONDS, "TIMER", period + it * longer) for it in range(count)]
+    yield from (*OPENING, *in_calls(changes))
+    for number in itertools.count(1):
+        yield record("clock", number * step)
+
+
+def wheel(count):
+    """The clock goes on by a millisecond a record, and so many timers have periods of as many milliseconds and more, so
+    that about every second step rings one; each fourth record is a poll."""
+    lines = timers(count, count * MILLISECOND, MILLISECOND, MILLISECOND)
+    yield from itertools.islice(lines, calls_setup(count))
+    yield from with_polls(lines)
 
 
 def on(pid, kqueue, room, *changes):
@@ -96,7 +170,7 @@ def on(pid, kqueue, room, *changes):
     return f'{{"op":"kevent","pid":{pid},"fd":{kqueue},"changes":[{spelled}],"room":{room}}}\n'
 
 
-def server(connections, _):
+def server(connections):
     """One process, one kqueue and so many connections open at a time. In each turn the oldest is served and closed,
     and its number goes to the next that comes, as open(2) gives the lowest that is free."""
     kqueue, listening, first = 3, 4, 5
@@ -115,9 +189,9 @@ def server(connections, _):
         oldest = (oldest + 7919) % connections
 
 
-def forks(live, _):
+def forks(live):
     """So many processes at a time, each with a kqueue on its end of a pipe from the first and on a socket that all
-    share. In each turn the oldest exits, and the first starts another and writes to it; at times the socket receives."""
+    share. In each turn the oldest exits, and the first starts another and writes to it; the socket receives."""
     kqueue, shared, sockets, writer = 3, 4, 5, 100
     yield from (record("proc", 1), record("kqueue", 1, kqueue), record("socket", 1, shared, 65536, 65536))
     yield from (record("connect", 1, shared), on(1, kqueue, 0, ("ADD", shared)))
@@ -133,7 +207,7 @@ def forks(live, _):
         yield from (on(child, kqueue, POLL_ROOM), record("read", child, sockets, 10), record("rx", 1, shared, 1))
 
 
-def crowd(live, _):
+def crowd(live):
     """So many processes, each with a kqueue on a socket of its own; each receives, polls and reads in turn, and at
     times one exits and another comes."""
     kqueue, own = 3, 4
@@ -155,26 +229,22 @@ def crowd(live, _):
         turn += 1
 
 
-def write_all(path, kind, size, records):
-    """Writes the first so many records of such a trace."""
-    with open(path, "w", encoding="ascii") as file:
-        file.write('{"kqsim":1}\n')
-        file.writelines(itertools.islice(kind(size, records), records))
-
-
 def spelled(number, name):
     """The value of a member of record `number`, as JSON."""
-    if name == "side":
-        return f'"{SIDES[number % 2]}"'
+    turn = number // len(MEMBERS)
+    if name in WORDS:
+        return f'"{WORDS[name][turn % len(WORDS[name])]}"'
+    if name == "ignore":
+        return "true" if turn % 2 else "false"
+    if name in SIGNED:
+        return str(number * 7919 - 2**20)
     return "[]" if name == "changes" else str(number * 7919 % 2**32)
 
 
-def each_kind(path, records):
-    """Writes a trace of each kind of record in turn, for what reads and writes traces: few of them are possible."""
+def each_kind():
+    """Each kind of record in turn, for what reads and writes traces: few of them are possible."""
     kinds = list(MEMBERS)
-    with open(path, "w", encoding="ascii") as file:
-        file.write('{"kqsim":1}\n')
-        for number in range(records):
-            op = kinds[number % len(kinds)]
-            members = ",".join(f'"{it}":{spelled(number, it)}' for it in MEMBERS[op])
-            file.write(f'{{"op":"{op}",{members}}}\n')
+    for number in itertools.count():
+        op = kinds[number % len(kinds)]
+        members = ",".join(f'"{it}":{spelled(number, it)}' for it in MEMBERS[op])
+        yield f'{{"op":"{op}",{members}}}\n'

@@ -28,8 +28,8 @@ def event(ident):
 
 def rows():
     """Yields the name, the input and the wanted stdout, stderr and status of each row."""
-    yield "line-of-just-the-limit-in-blanks", HEADER + b" " * LINE, *fault(2, "Json")
-    yield "line-over-the-limit-in-blanks", HEADER + b" " * (LINE + 1), *fault(2, "TooLong")
+    yield "line-of-just-the-limit-in-blanks", HEADER + b" " * LINE + b"\n", *fault(2, "Json")
+    yield "line-over-the-limit-in-blanks", HEADER + b" " * (LINE + 1) + b"\n", *fault(2, "TooLong")
     yield "header-over-the-limit", b'{"kqsim":1}'.ljust(LINE + 1) + b"\n", *fault(1, "TooLong")
     known = b'{"op":"proc","pid":1}'.ljust(LINE)
     yield "record-of-just-the-limit", HEADER + known + b"\n", report(b'{"calls":0,"events":0,"records":1}'), b"", 0
@@ -41,13 +41,21 @@ def rows():
     whole = report(*lines, b'{"calls":0,"events":0,"records":%d}' % RECORDS)
     yield "as-many-records-as-the-limit", HEADER + nobody * RECORDS, whole, b"", 0
     yield "one-line-too-many", HEADER + nobody * RECORDS + b"\n", *fault(RECORDS + 2, "TooManyRecords")
+    tick = b'{"op":"clock","ns":0}\n'
+    still = report(b'{"calls":0,"events":0,"records":%d}' % RECORDS)
+    yield "as-many-clock-records-as-the-limit", HEADER + tick * RECORDS, still, b"", 0
+    yield "one-clock-record-too-many", HEADER + tick * (RECORDS + 1), *fault(RECORDS + 2, "TooManyRecords")
     yield "last-record-bad", HEADER + nobody * (RECORDS - 1) + b"\n" + nobody, *fault(RECORDS + 1, "Json")
 
     most = report(b'{"at":3,"events":[]}', b'{"at":4,"events":[' + b",".join(map(event, range(1024))) + b"]}")
     last = b'{"calls":2,"events":1024,"records":4}'
     yield "as-many-changes-as-the-limit", OPENING + call(adds(1024), 0) + call([], 65536), most + report(last), b"", 0
-    impossible = report(b'{"at":3,"impossible":"TooMany"}', b'{"at":4,"events":[]}', b'{"calls":1,"events":0,"records":4}')
-    yield "one-change-too-many", OPENING + call(adds(1025), 0) + call([], 65536), impossible, b"", 0
+    too_many = b'{"at":3,"impossible":"TooMany"}'
+    nothing = report(too_many, b'{"at":4,"events":[]}', b'{"calls":1,"events":0,"records":4}')
+    yield "one-change-too-many", OPENING + call(adds(1025), 0) + call([], 65536), nothing, b"", 0
+    same = [b'{"ident":1,"filter":"USER","flags":["ADD"]}'] * 1025
+    counts = b'{"calls":0,"events":0,"records":3}'
+    yield "one-change-too-many-of-one-kevent", OPENING + call(same, 1), report(too_many, counts), b"", 0
 
     yield "input-over-the-limit", bytes(INPUT + 1), b"", b"kqsim: cannot read the trace\n", 3
     yield "input-of-just-the-limit", bytes(INPUT), *fault(1, "TooLong")

@@ -7,7 +7,7 @@ use Rattle.kq_model.specs.Close.{Pair, is_of_number, is_closed, closed}
 use Rattle.kq_model.specs.Knote.{watches_number}
 use Rattle.kq_model.specs.Registration.{with_removed}
 use Rattle.kq_model.specs.Tallied.{Knote, Kqueue}
-use Rattle.kq_model.proofs.NumberLaws.{key_by, three, three_keys, without-number, without-number_keys, filter_same}
+use Rattle.kq_model.proofs.NumberLaws.{key_by, three_keys, without-number, without-number_keys, filter_same}
 
 abbrev pub number_of : ℕ → ℕ → List Pair
 number_of owner number = record { pid = owner; number = number } ∷ []

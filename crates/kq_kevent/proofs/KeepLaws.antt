@@ -1,5 +1,5 @@
 -- A knote that takes the place of another watches what that one watched.
-use Rattle.std.proofs.Common.{◌≡◌, Bool, cond, List, Option, Some, refl, sym, ap, ◌∙◌}
+use Rattle.std.proofs.Common.{◌≡◌, List, Some, refl, sym, ap, ◌∙◌}
 use Rattle.std.proofs.lemmas.Bool.{cond_both}
 use Rattle.std.proofs.lemmas.Option.{same_Some}
 use Rattle.kq_model.specs.declared.change.Change.{Change}

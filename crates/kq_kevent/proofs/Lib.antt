@@ -14,3 +14,8 @@ pub mod CloseLaws
 pub mod TellLaws
 pub mod NotifyLaws
 pub mod NotifiedLaws
+pub mod RingLaws
+pub mod ClockLaws
+pub mod RingWalk
+pub mod ClockedLaws
+pub mod RingDue

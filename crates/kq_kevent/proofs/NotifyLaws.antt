@@ -6,7 +6,7 @@ use Rattle.std.specs.List.{list_any}
 use Rattle.kq_model.specs.declared.key.Key.{Key}
 use Rattle.kq_model.specs.declared.object.Hint.{Hint}
 use Rattle.kq_model.specs.Hints.{takes, hints_for, noticed, if_there, knotes_noticing, queue_with, queue_noticing, queue_after_all, notified}
-use Rattle.kq_model.specs.Knote.{key_eq, find_knote, with_knote, without_knote}
+use Rattle.kq_model.specs.Knote.{find_knote, with_knote, without_knote}
 use Rattle.kq_model.specs.Kqueue.{HaveOwnKeys}
 use Rattle.kq_model.specs.Noticing.{with_noticed, noticed_in, noticed_at}
 use Rattle.kq_model.specs.Tallied.{Knote, Kqueue}

@@ -1,20 +1,15 @@
 -- What registration comes to in each case, and how the code's steps make it up.
-use Rattle.std.proofs.Common.{◌≡◌, Bool, true, false, cond, not, ◌&&◌, List, Option, Some, None, refl, sym, ap, ◌∙◌, subst}
-use Rattle.std.proofs.lemmas.Bool.{or_parts, not-false, true≢false}
+use Rattle.std.proofs.Common.{◌≡◌, true, false, cond, List, Option, Some, None, sym, ap, ◌∙◌, subst}
 use Rattle.kq_model.specs.declared.change.Change.{Change}
 use Rattle.kq_model.specs.declared.errno.Errno.{Errno}
 use Rattle.kq_model.specs.declared.errno.Errno.TheVariants.{EBADF, EINVAL}
-use Rattle.kq_model.specs.declared.filter.Filter.{Filter}
-use Rattle.kq_model.specs.declared.filter.Filter.TheVariants.{Read, Write, Vnode, Proc, Signal, Timer, User, Aio, Lio, Fs, Procdesc, Sendfile, Empty}
 use Rattle.kq_model.specs.declared.key.Key.{Key}
-use Rattle.kq_model.specs.Bits.{asks, add, enable, disable}
 use Rattle.kq_model.specs.Caller.{Caller}
 use Rattle.kq_model.specs.ChangedKnote.{key_of, fresh, begun, replaced, restarted, changed, switched, attended, made, modified}
-use Rattle.kq_model.specs.Knote.{find_knote, without_key, is_timer}
+use Rattle.kq_model.specs.Knote.{find_knote}
 use Rattle.kq_model.specs.Kqueue.{IsSound}
-use Rattle.kq_model.specs.Look.{is_simulated}
 use Rattle.kq_model.specs.Refusals.{is_malformed, is_unopened}
-use Rattle.kq_model.specs.Registration.{decided, decision, Refuse, Remove, Make, Modify, is_restart, queue_for, with_made, with_removed, with_modified, carried_out, register}
+use Rattle.kq_model.specs.Registration.{decided, decision, Refuse, Remove, Make, Modify, with_made, with_removed, with_modified, carried_out, register}
 use Rattle.kq_model.specs.Tallied.{Decision, Knote, Kqueue}
 
 pub same_kqueue : (ks : List Knote) (q : List Key) (kq : Kqueue) → ks ≡ kq.knotes → q ≡ kq.queue
@@ -33,63 +28,12 @@ pub made-by : (caller : Caller) (c : Change) (first k : Knote) → first ≡ beg
 unfolding made
 made-by caller c first k e f = f ∙ ap (attended caller.views) e
 
--- only a TIMER starts anew
-restarted-no_timer : (f : Filter) (caller : Caller) (c : Change) (k : Knote) → is_timer f ≡ false → restarted f caller c k ≡ k
-unfolding restarted is_timer
-restarted-no_timer Timer caller c k no_timer = absurd (true≢false no_timer)
-restarted-no_timer Read caller c k no_timer = refl
-restarted-no_timer Write caller c k no_timer = refl
-restarted-no_timer Vnode caller c k no_timer = refl
-restarted-no_timer Proc caller c k no_timer = refl
-restarted-no_timer Signal caller c k no_timer = refl
-restarted-no_timer User caller c k no_timer = refl
-restarted-no_timer Aio caller c k no_timer = refl
-restarted-no_timer Lio caller c k no_timer = refl
-restarted-no_timer Fs caller c k no_timer = refl
-restarted-no_timer Procdesc caller c k no_timer = refl
-restarted-no_timer Sendfile caller c k no_timer = refl
-restarted-no_timer Empty caller c k no_timer = refl
-
-pub modified-by : (caller : Caller) (c : Change) (k k1 k2 k3 k4 : Knote) → is_timer c.filter ≡ false → k1 ≡ replaced c k
-    → k2 ≡ changed c.filter c k1 → k3 ≡ switched c k2 → k4 ≡ attended caller.views k3 → k4 ≡ modified caller c k
+pub modified-by : (caller : Caller) (c : Change) (k k1 k2 k3 k4 k5 : Knote) → k1 ≡ replaced c k → k2 ≡ restarted c.filter caller c k1
+    → k3 ≡ changed c.filter c k2 → k4 ≡ switched c k3 → k5 ≡ attended caller.views k4 → k5 ≡ modified caller c k
 unfolding modified
-modified-by caller c k k1 k2 k3 k4 no_timer e1 e2 e3 e4 =
-    e4 ∙ ap (λ n. attended caller.views n)
-    (e3 ∙ ap (switched c)
-    (e2 ∙ ap (changed c.filter c) (e1 ∙ sym (restarted-no_timer c.filter caller c (replaced c k) no_timer))))
-
--- a change of another filter is no restart of a TIMER
-pub restart-no_timer : (c : Change) → is_timer c.filter ≡ false → is_restart c ≡ false
-restart-no_timer c no_timer = ap (λ b. b && asks c.flags add) no_timer
-
-pub modified-queue : (c : Change) (k : Knote) (kq : Kqueue) → is_timer c.filter ≡ false → queue_for k kq.queue ≡
-    (with_modified c k kq).queue
-modified-queue c k kq no_timer =
-    ap (λ b. queue_for k (cond b (without_key (key_of c) kq.queue) kq.queue)) (sym (restart-no_timer c no_timer))
-
--- ---- what is not malformed is of a simulated filter, and a TIMER is none
-
-simulated-no_timer : (f : Filter) → is_simulated f ≡ true → is_timer f ≡ false
-unfolding is_simulated is_timer
-simulated-no_timer Timer e = absurd (true≢false (sym e))
-simulated-no_timer Read e = refl
-simulated-no_timer Write e = refl
-simulated-no_timer Vnode e = refl
-simulated-no_timer Proc e = refl
-simulated-no_timer Signal e = refl
-simulated-no_timer User e = refl
-simulated-no_timer Aio e = refl
-simulated-no_timer Lio e = refl
-simulated-no_timer Fs e = refl
-simulated-no_timer Procdesc e = refl
-simulated-no_timer Sendfile e = refl
-simulated-no_timer Empty e = refl
-
-pub formed-no_timer : (c : Change) → is_malformed c ≡ false → is_timer c.filter ≡ false
-formed-no_timer c good =
-    simulated-no_timer c.filter
-    (not-false (is_simulated c.filter)
-    (or_parts (not (is_simulated c.filter)) (asks c.flags enable && asks c.flags disable) good).0)
+modified-by caller c k k1 k2 k3 k4 k5 e1 e2 e3 e4 e5 =
+    e5 ∙ ap (attended caller.views)
+    (e4 ∙ ap (switched c) (e3 ∙ ap (changed c.filter c) (e2 ∙ ap (restarted c.filter caller c) e1)))
 
 -- ---- the decision
 

@@ -3,11 +3,10 @@ use Rattle.std.proofs.Common.{◌≡◌, ℕ, suc, ◌+◌, Bool, true, false, c
 use Rattle.std.proofs.lemmas.Bool.{true≢false}
 use Rattle.std.specs.Option.{is_some, MatchOption}
 use Rattle.kq_model.specs.declared.key.Key.{Key}
-use Rattle.kq_model.specs.Knote.{key_eq, has_key, without_key, find_knote, without_knote}
-use Rattle.kq_model.specs.Kqueue.{AreOnce, HaveOwnKeys}
-use Rattle.kq_model.specs.Tallied.{Knote}
+use Rattle.kq_model.specs.Knote.{key_eq, has_key, without_key}
+use Rattle.kq_model.specs.Kqueue.{AreOnce}
 use Rattle.kq_model.proofs.KeyLaws.{same_key}
-use Rattle.kq_model.proofs.KnoteLaws.{by_test, without_knote-absent}
+use Rattle.kq_model.proofs.KnoteLaws.{by_test}
 use Rattle.kq_table.specs.Rows.{find_row, without_row}
 
 abbrev found_at : Key → Option Key → Bool → Option Key

@@ -1,5 +1,5 @@
 -- A knote that the code tells the hints of a record hears those that are for it.
-use Rattle.std.proofs.Common.{◌≡◌, ℕ, Bool, true, false, cond, ◌&&◌, ◌||◌, List, [], ◌∷◌, map, filter, Option, Some, None, refl, sym, ap, ap₂, ◌∙◌, subst}
+use Rattle.std.proofs.Common.{◌≡◌, Bool, true, false, cond, ◌&&◌, ◌||◌, List, [], ◌∷◌, map, filter, Option, Some, None, refl, sym, ap, ap₂, ◌∙◌}
 use Rattle.std.proofs.lemmas.Bool.{true≢false}
 use Rattle.kq_model.specs.declared.filter.Filter.{Filter}
 use Rattle.kq_model.specs.declared.object.Hint.{Hint}
@@ -7,7 +7,7 @@ use Rattle.kq_model.specs.declared.key.Key.{Key}
 use Rattle.kq_model.specs.declared.object.Target.{Target}
 use Rattle.kq_model.specs.ChangedKnote.{activated}
 use Rattle.kq_model.specs.Hearing.{tallying}
-use Rattle.kq_model.specs.Hints.{takes, kept, added, after_hint, is_done, hints_for, noticed}
+use Rattle.kq_model.specs.Hints.{takes, kept, added, after_hint, is_done, hints_for}
 use Rattle.kq_model.specs.Knote.{find_knote, with_knote}
 use Rattle.kq_model.specs.Look.{Seen, look}
 use Rattle.kq_model.specs.Noticing.{is_for, heard_along, is_done_along, left_by, with_noticed, noticed_in}

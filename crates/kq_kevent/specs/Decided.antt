@@ -1,7 +1,5 @@
 -- What is decided of a change in the code, and what is known of the knote that it is about.
-use Rattle.std.specs.Prelude.{◌≡◌, false, Option, Some, None}
-use Rattle.kq_model.specs.declared.filter.Filter.{Filter}
-use Rattle.kq_model.specs.Knote.{is_timer}
+use Rattle.std.specs.Prelude.{◌≡◌, Option, Some, None}
 use Rattle.kq_model.specs.Registration as registration
 use Rattle.kq_model.specs.Tallied as tallied
 use Rattle.kq_kevent.specs.declared.decide.Decision.{Decision}
@@ -14,8 +12,8 @@ decision_of Make = registration.Make
 decision_of (Modify k) = registration.Modify k
 
 -- a knote is made where there is none, and modified where it is there
-abbrev pub IsAbout : Decision → Option tallied.Knote → Filter → Type 0
-IsAbout (Refuse e) present filter = Unit {0}
-IsAbout Remove present filter = Unit {0}
-IsAbout Make present filter = (present ≡ None) × (is_timer filter ≡ false)
-IsAbout (Modify k) present filter = (present ≡ Some k) × (is_timer filter ≡ false)
+abbrev pub IsAbout : Decision → Option tallied.Knote → Type 0
+IsAbout (Refuse e) present = Unit {0}
+IsAbout Remove present = Unit {0}
+IsAbout Make present = present ≡ None
+IsAbout (Modify k) present = present ≡ Some k

@@ -2,3 +2,4 @@ pub mod Ending
 pub mod Owned
 pub mod Decided
 pub mod Telling
+pub mod Ringing

@@ -1,5 +1,5 @@
 -- A knote that is told the hints of a record one after the other, as the code does it.
-use Rattle.std.specs.Prelude.{◌≡◌, Bool, true, false, ◌||◌, List, [], ◌∷◌, Some, if◌then◌else◌}
+use Rattle.std.specs.Prelude.{◌≡◌, true, false, ◌||◌, List, [], ◌∷◌, Some, if◌then◌else◌}
 use Rattle.kq_model.specs.Hints.{after_hint, is_done}
 use Rattle.kq_model.specs.Knote.{find_knote}
 use Rattle.kq_model.specs.Noticing.{is_for}

@@ -41,6 +41,19 @@ fn shared_in(changes: &[Change]) -> usize
     shared
 }
 
+/// How many changes may make a timer.
+fn timers_in(changes: &[Change]) -> usize
+    ensures { result ≤ length changes.now }
+{
+    let mut timers = 0;
+    for change in changes {
+        if change.filter == Filter::Timer {
+            timers += 1;
+        }
+    }
+    timers
+}
+
 impl Kq {
     /// One kevent call, which waits for nothing: all changes in order, with an entry for each
     /// that fails or asks for a receipt; then, where no entry was placed and no change ended the
@@ -81,7 +94,7 @@ impl Kq {
         ensures ok { length changes.now ≤ self.old.room
             → min room (length self.old.kq.queue + length changes.now) ≡ 0 → IsOk result }
     {
-        self.reserve_for(changes.len(), shared_in(changes))?;
+        self.reserve_for(changes.len(), shared_in(changes), timers_in(changes))?;
         let room = room as usize;
         let most = room.min(self.queue.len().saturating_add(changes.len()));
         let mut events = Vec::with_capacity(self.queue.allocator(), most).map_err(|_| Memory)?;

@@ -1,6 +1,6 @@
-ghost use Rattle.std.specs.Prelude.{◌≡◌, ℕ, false};
+ghost use Rattle.std.specs.Prelude.{◌≡◌, ℕ};
 ghost use Rattle.kq_model.specs.ChangedKnote.{key_of};
-ghost use Rattle.kq_model.specs.Knote.{find_knote, is_timer};
+ghost use Rattle.kq_model.specs.Knote.{find_knote};
 ghost use Rattle.kq_model.specs.Registration.{decided, decision};
 ghost use Rattle.kq_kevent.specs.Decided.{decision_of, IsAbout};
 ghost use Rattle.kq_kevent.specs.Owned.{caller};
@@ -29,10 +29,9 @@ pub enum Decision {
 /// filter refuses it.
 #[tactic(auto, unfolding(kq_model::specs::Registration::decided, kq_model::specs::Registration::unless_refused))]
 fn decided<V: Views>(owner: u32, present: Option<Knote>, change: &Change, views: &V) -> Decision
-    requires { is_timer change.now.filter ≡ false }
     ensures decided { (version : ℕ) → decision_of result
         ≡ decided (record { views = V.sees views.now; owner = owner; version = version }) present change.now }
-    ensures about { IsAbout result present change.now.filter }
+    ensures about { IsAbout result present }
 {
     match present {
         None => {
@@ -67,7 +66,7 @@ impl Kq {
     pub(crate) fn decide<V: Views>(&self, change: &Change, views: &V) -> Decision
         ensures decision { decision_of result ≡ decision (caller (V.sees views.now) self.now)
             (find_knote (key_of change.now) self.now.kq.knotes) change.now }
-        ensures about { IsAbout result (find_knote (key_of change.now) self.now.kq.knotes) change.now.filter }
+        ensures about { IsAbout result (find_knote (key_of change.now) self.now.kq.knotes) }
     {
         if is_malformed(change) {
             return Decision::Refuse(Errno::EINVAL);

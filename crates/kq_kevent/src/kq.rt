@@ -84,12 +84,17 @@ impl Kq {
         ensures missing { OnErr result (self.old.room < changes) }
     {
         // Each of them may watch what others may watch too.
-        self.reserve_for(changes, changes)
+        self.reserve_for(changes, changes, 0)
     }
 
-    /// Makes the room at least `changes`, of which so many may watch what others may watch too. For
-    /// these alone the index by target takes memory.
-    pub(crate) fn reserve_for(&mut self, changes: usize, shared: usize) -> Result<(), Memory>
+    /// Makes the room at least `changes`, of which so many may watch what others may watch too, and so
+    /// many may be timers. For these alone the index by target and the alarms take memory.
+    pub(crate) fn reserve_for(
+        &mut self,
+        changes: usize,
+        shared: usize,
+        timers: usize,
+    ) -> Result<(), Memory>
         ensures kq { self.new.kq ≡ self.old.kq }
         ensures owner { self.new.owner ≡ self.old.owner }
         ensures version { self.new.version ≡ self.old.version }
@@ -98,6 +103,7 @@ impl Kq {
         ensures missing { OnErr result (self.old.room < changes) }
     {
         self.knotes.reserve_shared(shared);
+        self.knotes.reserve_timers(timers);
         if changes <= self.room() {
             return Ok(());
         }

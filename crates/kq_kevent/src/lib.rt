@@ -2,6 +2,7 @@
 #![tactic(auto)]
 
 mod call;
+mod clock;
 mod close;
 mod decide;
 mod kq;

@@ -184,7 +184,7 @@ impl Kq {
     }
 
     /// Puts a knote in the place of the one of its key, and its key where it belongs.
-    fn put_back(&mut self, knote: Knote)
+    pub(crate) fn put_back(&mut self, knote: Knote)
         requires { StandsFor knote self.old.kq.knotes }
         ensures kq { self.new.kq
             ≡ record { knotes = with_knote knote self.old.kq.knotes; queue = queue_for knote self.old.kq.queue } }

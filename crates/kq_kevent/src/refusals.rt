@@ -1,21 +1,36 @@
-ghost use Rattle.std.specs.Prelude.{◌≡◌, ℕ, false};
+ghost use Rattle.std.specs.Prelude.{◌≡◌, ℕ};
 ghost use Rattle.kq_model.specs.Caller.{Caller};
-ghost use Rattle.kq_model.specs.Knote.{watches_number, is_timer};
+ghost use Rattle.kq_model.specs.Knote.{watches_number};
+ghost use Rattle.kq_model.specs.Look.{is_simulated};
 ghost use Rattle.kq_model.specs.Refusals.{is_malformed, is_unopened, invalid_if, is_readable, is_writable, is_file, is_live_process, process_refusal, own_refusal};
+ghost use Rattle.kq_model.specs.Ticks.{period_of};
+ghost use Rattle.std.specs.Option.{is_none};
 
 use crate::named::{named_in, process_in};
 use crate::register::asks;
 use kq_filters::Views;
 use kq_model::notes::NOTE_TRACK;
 use kq_model::{Change, Errno, EvFlags, Filter, Named, View};
+use kq_timer::Period;
+
+/// Whether changes of a filter do something; those of all others are refused.
+#[tactic(auto, unfolding(kq_model::specs::Look::is_simulated))]
+fn is_simulated(filter: Filter) -> bool
+    ensures { result ≡ is_simulated filter }
+{
+    match filter {
+        Filter::Read | Filter::Write | Filter::Vnode => true,
+        Filter::Proc | Filter::Signal | Filter::Timer | Filter::User => true,
+        _ => false,
+    }
+}
 
 /// Whether a change is refused whatever is there: its filter is not simulated, or it asks for
 /// ENABLE together with DISABLE.
-#[tactic(auto, unfolding(kq_model::specs::Look::is_simulated))]
 pub fn is_malformed(change: &Change) -> bool
     ensures { result ≡ is_malformed change.now }
 {
-    if !matches!(change.filter, Filter::Read | Filter::Write | Filter::User) {
+    if !is_simulated(change.filter) {
         return true;
     }
     asks(change.flags, EvFlags::ENABLE) && asks(change.flags, EvFlags::DISABLE)
@@ -101,10 +116,20 @@ fn process_refusal<V: Views>(is_new: bool, change: &Change, views: &V) -> Option
     None
 }
 
-/// With which error a filter other than TIMER refuses an ADD of the process `owner`.
-#[tactic(auto, unfolding(kq_model::specs::Refusals::own_refusal, kq_model::specs::Knote::is_timer))]
+/// Whether a change of a timer names no period: it names two units, unknown bits, a negative number or
+/// one that is too large.
+fn names_no_period(change: &Change) -> bool
+    ensures { result ≡ is_none (period_of change.now.datum change.now.fflags) }
+{
+    match Period::new(change.datum, change.fflags) {
+        Ok(_) => false,
+        Err(_) => true,
+    }
+}
+
+/// With which error a filter refuses an ADD of the process `owner`.
+#[tactic(auto, unfolding(kq_model::specs::Refusals::own_refusal))]
 pub fn own_refusal<V: Views>(owner: u32, is_new: bool, change: &Change, views: &V) -> Option<Errno>
-    requires { is_timer change.now.filter ≡ false }
     ensures { (version : ℕ) → result ≡ own_refusal change.now.filter
         (record { views = V.sees views.now; owner = owner; version = version }) is_new change.now }
 {
@@ -114,6 +139,7 @@ pub fn own_refusal<V: Views>(owner: u32, is_new: bool, change: &Change, views: &
         Filter::Vnode => invalid_if(!is_file(named_in(owner, change.ident, views))),
         Filter::Proc => process_refusal(is_new, change, views),
         Filter::Signal => invalid_if(change.ident < 1 || 128 < change.ident),
+        Filter::Timer => invalid_if(names_no_period(change)),
         _ => None,
     }
 }

@@ -3,10 +3,10 @@ ghost use Rattle.kq_model.specs.Bits.{asks};
 ghost use Rattle.kq_model.specs.Call.{number_of};
 ghost use Rattle.kq_model.specs.ChangedKnote.{key_of, made, modified};
 ghost use Rattle.kq_model.specs.Hearing.{listed};
-ghost use Rattle.kq_model.specs.Knote.{find_knote, has_key, is_timer};
-ghost use Rattle.kq_model.specs.Kqueue.{is_waiting, Kqueue};
+ghost use Rattle.kq_model.specs.Knote.{find_knote, has_key};
+ghost use Rattle.kq_model.specs.Kqueue.{is_waiting, AreOnce, Kqueue};
 ghost use Rattle.kq_model.specs.Recast.{tallied};
-ghost use Rattle.kq_model.specs.Registration.{register, queue_for, with_made, with_removed, with_modified};
+ghost use Rattle.kq_model.specs.Registration.{register, queue_for, is_restart, with_made, with_removed, with_modified, without_restarted};
 ghost use Rattle.kq_model.specs.RegistrationLaws.{IsRegistered};
 ghost use Rattle.kq_model.specs.WatchedNumbers.{WatchTheirNumbers};
 ghost use Rattle.kq_kevent.specs.Owned.{caller, limit, IsTalliedRegistration};
@@ -20,13 +20,21 @@ use crate::queue::Queue;
 use bitflags::Flags;
 use kq_filters::Views;
 use kq_knote::Knote;
-use kq_model::{Change, Errno, EvFlags, Key};
+use kq_model::{Change, Errno, EvFlags, Filter, Key};
 
 /// Whether the flags have this one.
 pub(crate) fn asks(flags: EvFlags, flag: EvFlags) -> bool
     ensures { result ≡ asks flags flag.0 }
 {
     flags.contains(flag)
+}
+
+/// Whether a change starts a timer anew, where it is there: an ADD of a TIMER.
+#[tactic(auto, unfolding(kq_model::specs::Knote::is_timer))]
+fn is_restart(change: &Change) -> bool
+    ensures { result ≡ is_restart change.now }
+{
+    matches!(change.filter, Filter::Timer) && asks(change.flags, EvFlags::ADD)
 }
 
 /// Whether a knote waits to be returned.
@@ -51,6 +59,25 @@ impl Queue {
             self.take_out(knote.key);
         } else if knote.active && !waits {
             self.put_in(knote.key);
+        }
+    }
+
+    /// Keeps the key of a knote that a change modified where it now belongs: that of a timer that
+    /// starts anew leaves the queue first.
+    pub fn renew(&mut self, change: &Change, knote: &Knote, waits: bool)
+        requires once { AreOnce self.old.keys }
+        requires fits { length self.old.keys ≤ self.old.capacity }
+        requires key { knote.now.key ≡ key_of change.now }
+        requires waits { has_key knote.now.key self.old.keys ≡ waits }
+        requires room { waits ≡ false → length self.old.keys < self.old.capacity }
+        ensures keys { self.new.keys ≡ queue_for knote.now (without_restarted change.now self.old.keys) }
+        ensures capacity { self.new.capacity ≡ self.old.capacity }
+    {
+        if is_restart(change) {
+            self.take_out(knote.key);
+            self.place(knote, false);
+        } else {
+            self.place(knote, waits);
         }
     }
 }
@@ -114,7 +141,6 @@ impl Kq {
     /// Makes the knote of a change.
     fn make<V: Views>(&mut self, change: &Change, views: &V)
         requires room { 0 < self.old.room }
-        requires no_timer { is_timer change.now.filter ≡ false }
         requires absent { find_knote (key_of change.now) self.old.kq.knotes ≡ None }
         ensures kq { self.new.kq ≡ with_made (made (caller (V.sees views.now) self.old) change.now) self.old.kq }
         ensures owner { self.new.owner ≡ self.old.owner }
@@ -122,7 +148,8 @@ impl Kq {
         ensures room { self.new.room + 1 ≡ self.old.room }
     {
         let target = target_of(self.owner, change, views);
-        let mut knote = Knote::first(change, target);
+        let moment = views.now();
+        let mut knote = Knote::first(change, target, moment);
         attend(views, &mut knote);
         self.knotes.attach(knote);
         self.queue.place(&knote, false);
@@ -142,7 +169,6 @@ impl Kq {
 
     /// Lets a change modify the knote of its key.
     fn modify<V: Views>(&mut self, present: Knote, change: &Change, views: &V)
-        requires no_timer { is_timer change.now.filter ≡ false }
         requires present { find_knote (key_of change.now) self.old.kq.knotes ≡ Some present }
         ensures kq { self.new.kq
             ≡ with_modified change.now (modified (caller (V.sees views.now) self.old) change.now present) self.old.kq }
@@ -152,12 +178,14 @@ impl Kq {
     {
         // The queue holds just the knotes that are active and enabled, so it need not be asked.
         let waits = is_waiting(&present);
+        let moment = views.now();
         let mut knote = present;
         knote.replace(change);
+        knote.restart(change, moment);
         knote.control(change);
         knote.switch(change);
         attend(views, &mut knote);
         self.knotes.modify(knote);
-        self.queue.place(&knote, waits);
+        self.queue.renew(change, &knote, waits);
     }
 }

@@ -17,10 +17,10 @@ use Rattle.kq_knote.proofs.IndexLaws.{Watching, with_key, keys-cons, unshared-ap
 use Rattle.kq_table.specs.Links as links
 use Rattle.kq_table.specs.Rows.{is_among}
 
-abbrev key_of : Knote → Key
+abbrev pub key_of : Knote → Key
 key_of k = k.key
 
-abbrev keys_where : (Knote → Bool) → List Knote → List Key
+abbrev pub keys_where : (Knote → Bool) → List Knote → List Key
 keys_where p ks = map key_of (filter p ks)
 
 -- ---- among the keys of the knotes that pass
@@ -34,7 +34,7 @@ any-none p (x ∷ ks) key absent =
     (λ _. rest)
 
 -- a knote's key is there just where the knote passes
-any-where : (p : Knote → Bool) (ks : List Knote) (k : Knote) → HaveOwnKeys ks → find_knote k.key ks ≡ Some k → list_any (key_eq k.key) (keys_where p ks) ≡ p k
+pub any-where : (p : Knote → Bool) (ks : List Knote) (k : Knote) → HaveOwnKeys ks → find_knote k.key ks ≡ Some k → list_any (key_eq k.key) (keys_where p ks) ≡ p k
 any-where p [] k own found = absurd (none-some k (sym (find_knote-none tallying k.key) ∙ found))
 any-where p (x ∷ ks) k own found =
     by_test (λ b. key_eq k.key x.key ≡ b → list_any (key_eq k.key) (keys_where p (x ∷ ks)) ≡ p k) (key_eq k.key x.key)
@@ -78,7 +78,7 @@ module _ (alike : Option Target → Option Target → Bool) (alike_is : (t : Tar
 
 -- ---- the knotes of these keys, in order
 
-among-same : (same : Key → Key → Bool) (same_is : (a b : Key) → same a b ≡ key_eq a b) (key : Key) (keys : List Key) → list_any (same key) keys ≡ list_any (key_eq key) keys
+pub among-same : (same : Key → Key → Bool) (same_is : (a b : Key) → same a b ≡ key_eq a b) (key : Key) (keys : List Key) → list_any (same key) keys ≡ list_any (key_eq key) keys
 among-same same same_is key [] = refl
 among-same same same_is key (other ∷ keys) =
     ap (λ b. b || list_any (same key) keys) (same_is key other)
@@ -90,7 +90,7 @@ apart-here x ks k absent found =
     (λ _ is. absurd (none-some k (sym absent ∙ ap (λ key. find_knote key ks) (sym (same_key k.key x.key is)) ∙ found)))
     (λ _ _. refl) refl
 
-filter-same : (f p : Knote → Bool) (ks : List Knote) → HaveOwnKeys ks → ((k : Knote) → find_knote k.key ks ≡ Some k → f k ≡ p k) → filter f ks ≡ filter p ks
+pub filter-same : (f p : Knote → Bool) (ks : List Knote) → HaveOwnKeys ks → ((k : Knote) → find_knote k.key ks ≡ Some k → f k ≡ p k) → filter f ks ≡ filter p ks
 filter-same f p [] own agree = refl
 filter-same f p (x ∷ ks) own agree =
     ap (λ b. cond b (x ∷ filter f ks) (filter f ks)) (agree x (find_knote-here x.key x ks (key_eq-refl x.key)))

@@ -4,3 +4,8 @@ pub mod IndexLaws
 pub mod TargetLaws
 pub mod WalkLaws
 pub mod GatherLaws
+pub mod TimerLaws
+pub mod QuietLaws
+pub mod AlarmLaws
+pub mod DueLaws
+pub mod ArmLaws

@@ -1,5 +1,5 @@
 -- Whether two targets are one, as the code tells it.
-use Rattle.std.proofs.Common.{◌≡◌, Bool, Option, None, Some, rules, refl}
+use Rattle.std.proofs.Common.{◌≡◌, Option, None, Some, rules}
 use Rattle.std.specs.Option.{option_eq}
 use Rattle.kq_model.specs.contracts.object.TargetPartialEq.TheImpl as target_equal
 use Rattle.kq_model.specs.declared.object.Target.{Target}

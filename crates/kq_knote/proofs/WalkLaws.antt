@@ -1,5 +1,5 @@
 -- A walk over the knotes in order of registration, to the next one that hints are for.
-use Rattle.std.proofs.Common.{◌≡◌, ℕ, ◌+◌, ◌≤◌, Bool, true, false, cond, List, [], ◌∷◌, ◌++◌, map, filter, length, drop, take, Option, None, Some, slice_get, append_assoc, refl, sym, ap, ◌∙◌, subst, arith}
+use Rattle.std.proofs.Common.{◌≡◌, ℕ, ◌+◌, ◌≤◌, true, false, cond, List, [], ◌∷◌, ◌++◌, map, filter, length, drop, take, Option, None, Some, slice_get, append_assoc, refl, sym, ap, ◌∙◌, subst, arith}
 use Rattle.std.proofs.lemmas.List.{drop-drop, take-append-drop, length-drop, length-append}
 use Rattle.std.proofs.lemmas.Option.{none-some, same_Some}
 use Rattle.kq_model.specs.declared.key.Key.{Key}
@@ -28,7 +28,7 @@ unfolding row_after
 after-later key x ks apart = ap (λ b. cond b (slice_get ks 0) (after key ks)) apart
 
 -- next after a knote in the middle comes the one behind it
-after-middle : (past : List Knote) (k : Knote) (ks : List Knote) → find_knote k.key past ≡ None → after k.key (past ++ k ∷ ks) ≡ slice_get ks 0
+pub after-middle : (past : List Knote) (k : Knote) (ks : List Knote) → find_knote k.key past ≡ None → after k.key (past ++ k ∷ ks) ≡ slice_get ks 0
 after-middle [] k ks absent = after-here k ks
 after-middle (x ∷ past) k ks absent =
     after-later k.key x (past ++ k ∷ ks) (find_knote-head k.key x past absent)

@@ -1,5 +1,5 @@
 -- Which knotes watch which targets: what is found, and how the index by target goes with the knotes.
-use Rattle.std.specs.Prelude.{◌≡◌, Bool, true, false, List, map, filter, Some, None, Option, slice_get}
+use Rattle.std.specs.Prelude.{◌≡◌, ◌≤◌, ℕ, Bool, true, false, List, map, filter, Some, None, Option, slice_get}
 use Rattle.std.specs.List.{list_any}
 use Rattle.kq_model.specs.declared.key.Key.{Key}
 use Rattle.kq_model.specs.declared.object.Target.{Target}
@@ -8,6 +8,10 @@ use Rattle.kq_model.specs.Knote.{key_eq, find_knote}
 use Rattle.kq_model.specs.Kqueue.{HaveOwnKeys}
 use Rattle.kq_model.specs.Tallied.{Knote}
 use Rattle.kq_model.specs.Targets.{Posted, is_target}
+use Rattle.kq_model.specs.Ticks.{last_moment}
+use Rattle.kq_alarm.specs.Armed.{Armed}
+use Rattle.kq_knote.specs.Expiring.{AreAlarmed}
+use Rattle.kq_knote.specs.Quiet.{AreQuiet}
 use Rattle.kq_table.specs.declared.watch.Watch.{Watch}
 use Rattle.kq_table.specs.Links.{Watched}
 use Rattle.kq_table.specs.Rows.{rows_behind}
@@ -61,7 +65,12 @@ KeepsTarget knote knotes = (k : Knote) → find_knote knote.key knotes ≡ Some 
 abbrev pub watch_of : Knote → Watch Key (Option Target)
 watch_of k = record { key = k.key; target = k.target }
 
--- Where the index is whole, it has each knote whose target others may share, and no other.
-pub record IsIndexed (knotes : List Knote) (whole : Bool) (index : Watched Key (Option Target)) : Type 0 where
+-- Where the index is whole, it has each knote whose target others may share, and no other. After the moment `since`
+-- no timer expires before `soonest`. Where the alarms are whole, each knote has one when it expires first after `since`.
+pub record IsKept (knotes : List Knote) (whole : Bool) (index : Watched Key (Option Target)) (since soonest : ℕ)
+    (alarmed : Bool) (alarms : Armed) : Type 0 where
   pub own_keys : HaveOwnKeys knotes
   pub watches : whole ≡ true → index.watches ≡ map watch_of (filter shares knotes)
+  pub begun : since ≤ last_moment
+  pub quiet : AreQuiet since soonest knotes
+  pub armed : alarmed ≡ true → AreAlarmed since alarms.entries knotes

@@ -1,2 +1,4 @@
 pub mod Reserved
 pub mod Index
+pub mod Quiet
+pub mod Expiring

@@ -1,15 +1,16 @@
-ghost use Rattle.std.specs.Prelude.{◌≡◌, ℕ, ◌/◌, false};
+ghost use Rattle.std.specs.Prelude.{◌≡◌, ℕ, ◌/◌};
 ghost use Rattle.kq_model.specs.Bits.{asks};
 ghost use Rattle.kq_model.specs.Caller.{Caller};
-ghost use Rattle.kq_model.specs.ChangedKnote.{always_clears, fresh, begun, replaced, changed, switched, controlled, key_of};
-ghost use Rattle.kq_model.specs.Knote.{is_timer};
+ghost use Rattle.kq_model.specs.ChangedKnote.{always_clears, fresh, begun, replaced, restarted, changed, switched, controlled, key_of, period_in};
 ghost use Rattle.kq_model.specs.Targets.{target_of};
+ghost use Rattle.kq_model.specs.Ticks.{period_of};
 ghost use Rattle.kq_model.specs.Retrieval.{rested};
 
 use crate::{Knote, Tally};
 use bitflags::Flags;
 use kq_model::notes::{NOTE_FFAND, NOTE_FFLAGSMASK, NOTE_TRIGGER};
 use kq_model::{Change, EvFlags, Filter, Target};
+use kq_timer::Period;
 
 /// The user's bits after a change, by its control: NOTE_FFNOP 0 leaves them, NOTE_FFAND 1,
 /// NOTE_FFOR 2 and NOTE_FFCOPY 3 do as named.
@@ -59,24 +60,55 @@ fn fresh(change: &Change, target: Option<Target>) -> Knote
     }
 }
 
+/// The period that a change of a timer names, in nanoseconds; 0 where it names none, as one that is
+/// refused.
+fn named_period(change: &Change) -> u64
+    ensures { result ≡ period_in (period_of change.now.datum change.now.fflags) }
+{
+    match Period::new(change.datum, change.fflags) {
+        Ok(period) => period.nanoseconds(),
+        Err(_) => 0,
+    }
+}
+
 impl Knote {
-    /// The knote that a first ADD of a filter other than TIMER makes, before it is looked at: with
-    /// the change's actions, and enabled unless the change says DISABLE. Of a user event it stores
-    /// the low 24 bits, whatever the control bits. `target` is what the change names.
-    #[tactic(auto, unfolding(kq_model::specs::ChangedKnote::begun, kq_model::specs::ChangedKnote::fresh, kq_model::specs::Knote::is_timer))]
-    pub fn first(change: &Change, target: Option<Target>) -> Knote
-        requires { is_timer change.now.filter ≡ false }
+    /// The knote that a first ADD makes, before it is looked at: with the change's actions, and
+    /// enabled unless the change says DISABLE. A timer starts at the moment `now`; of a user event the
+    /// low 24 bits are stored, whatever the control bits. `target` is what the change names.
+    #[tactic(auto, unfolding(kq_model::specs::ChangedKnote::begun, kq_model::specs::ChangedKnote::started, kq_model::specs::ChangedKnote::fresh))]
+    pub fn first(change: &Change, target: Option<Target>, now: u64) -> Knote
         ensures { (caller : Caller) → target ≡ target_of caller.views caller.owner change.now.filter change.now.ident
+            → now ≡ caller.views.now
             → result ≡ begun change.now.filter caller change.now (fresh caller change.now) }
     {
         let knote = fresh(change, target);
         match change.filter {
+            Filter::Timer => Knote {
+                start: now,
+                period: named_period(change),
+                ..knote
+            },
             Filter::User => Knote {
                 bits: change.fflags & NOTE_FFLAGSMASK,
                 triggered: change.fflags & NOTE_TRIGGER == NOTE_TRIGGER,
                 ..knote
             },
             _ => knote,
+        }
+    }
+
+    /// With ADD a timer starts anew at the moment `now`: what it heard is forgotten, and it is not
+    /// active.
+    #[tactic(auto, unfolding(kq_model::specs::ChangedKnote::restarted, kq_model::specs::ChangedKnote::started))]
+    pub fn restart(&mut self, change: &Change, now: u64)
+        ensures { (caller : Caller) → now ≡ caller.views.now
+            → self.new ≡ restarted change.now.filter caller change.now self.old }
+    {
+        if change.filter == Filter::Timer && change.flags.contains(EvFlags::ADD) {
+            self.start = now;
+            self.period = named_period(change);
+            self.tally = Tally::empty();
+            self.active = false;
         }
     }
 

@@ -1,11 +1,15 @@
-ghost use Rattle.std.specs.Prelude.{◌≡◌, ◌<◌, ◌≤◌, ◌+◌, ◌++◌, ◌↔◌, ◌∷◌, IsTrue, [], None, OnOk, OnErr, MatchOption, slice_get, length, filter, not, max};
+ghost use Rattle.std.specs.Prelude.{◌≡◌, ◌<◌, ◌≤◌, ◌+◌, ◌++◌, ◌↔◌, ◌∷◌, IsTrue, true, [], None, OnOk, OnErr, MatchOption, slice_get, length, filter, not, max};
 ghost use Rattle.kq_model.specs.Knote.{key_eq, find_knote, with_knote, without_knote};
 ghost use Rattle.kq_model.specs.Close.{is_of_number};
+ghost use Rattle.kq_model.specs.Ticks.{last_moment};
 ghost use Rattle.kq_knote.specs.Index.{KeepsTarget};
+ghost use Rattle.kq_knote.specs.Quiet.{AreLater, AreQuiet};
 ghost use Rattle.kq_table.specs.Rows.{row_after};
 
 use crate::Knote;
+use crate::arming::{put_changed, put_new};
 use crate::hinted::is_shared;
+use kq_alarm::Alarms;
 use kq_model::{Filter, Key, Memory, Target};
 use kq_table::{Table, TargetIndex, Watch};
 use std::alloc::Global;
@@ -25,6 +29,16 @@ pub struct Knotes {
     pub(crate) keys: Vec<Key>,
     /// Room for where their knotes stand.
     pub(crate) places: Vec<usize>,
+    /// After this moment of the clock,
+    pub(crate) since: u64,
+    /// and before this one, no timer expires.
+    pub(crate) soonest: u64,
+    /// When each timer expires first after `since`, and others of before.
+    pub(crate) alarms: Alarms,
+    /// The alarms have had room for each of them.
+    pub(crate) alarmed: bool,
+    /// Room for the keys of timers that expire. What stands in it means nothing.
+    pub(crate) due: Vec<Key>,
 }
 
 impl Model for Knotes {
@@ -32,11 +46,11 @@ impl Model for Knotes {
 
     ghost Value = { Reserved };
 
-    ghost use Rattle.kq_knote.specs.Index.{IsIndexed};
+    ghost use Rattle.kq_knote.specs.Index.{IsKept};
 
     ghost view = { λ k. record { knotes = k.rows.rows; room = k.rows.room } };
 
-    ghost invariant = { λ k. IsIndexed k.rows.rows k.whole k.index };
+    ghost invariant = { λ k. IsKept k.rows.rows k.whole k.index k.since k.soonest k.alarmed k.alarms };
 }
 
 impl Knotes {
@@ -51,6 +65,11 @@ impl Knotes {
             whole: true,
             keys: Vec::new(alloc),
             places: Vec::new(alloc),
+            since: 0,
+            soonest: 0,
+            alarms: Alarms::new(alloc),
+            alarmed: true,
+            due: Vec::new(alloc),
         }
     }
 
@@ -133,6 +152,9 @@ impl Knotes {
         ensures knotes { self.new.knotes ≡ self.old.knotes ++ knote ∷ [] }
         ensures room { self.new.room + 1 ≡ self.old.room }
     {
+        let first = knote.first_after(self.since);
+        self.soonest = self.soonest.min(first);
+        self.alarmed = put_new(&mut self.alarms, self.alarmed, knote.key.ident, first);
         self.rows.attach(knote);
         if !is_shared(knote.target) {
             return;
@@ -154,6 +176,16 @@ impl Knotes {
         ensures knotes { self.new.knotes ≡ with_knote knote self.old.knotes }
         ensures room { self.new.room ≡ self.old.room }
     {
+        let first = knote.first_after(self.since);
+        self.soonest = self.soonest.min(first);
+        self.alarmed = put_changed(
+            &self.rows,
+            self.since,
+            &mut self.alarms,
+            self.alarmed,
+            knote.key,
+            first,
+        );
         self.rows.modify(knote);
     }
 
@@ -187,5 +219,33 @@ impl Knotes {
             ident,
             filter: Filter::Vnode,
         });
+    }
+
+    /// Whether no timer is known to expire after the moment `from` and not after `to`; where some do,
+    /// it says no.
+    pub fn is_quiet(&self, from: u64, to: u64) -> bool
+        requires ordered { from ≤ to }
+        requires within { to ≤ last_moment }
+        ensures { result ≡ true → AreLater from to self.now.knotes }
+    {
+        if from < self.since {
+            return false;
+        }
+        if self.soonest <= to {
+            return false;
+        }
+        true
+    }
+
+    /// From now on it is known that after the moment `since` no timer expires before `soonest`. It
+    /// changes nothing.
+    pub fn note_quiet(&mut self, since: u64, soonest: u64)
+        requires within { since ≤ last_moment }
+        requires quiet { AreQuiet since soonest self.old.knotes }
+        ensures { self.new ≡ self.old }
+    {
+        self.alarmed = false;
+        self.since = since;
+        self.soonest = soonest;
     }
 }

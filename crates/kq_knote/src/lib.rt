@@ -1,12 +1,16 @@
 //! The knotes of one kqueue.
 #![tactic(auto)]
 
+mod arming;
 mod changes;
+mod due;
+mod expiring;
 mod gathered;
 mod hinted;
 mod knote;
 mod knotes;
 mod tally;
+mod timers;
 
 pub use knote::Knote;
 pub use knotes::Knotes;

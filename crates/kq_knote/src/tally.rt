@@ -1,5 +1,5 @@
-ghost use Rattle.std.specs.Prelude.{◌≡◌};
-ghost use Rattle.kq_model.specs.Hearing.{Told, notes_of, tallying};
+ghost use Rattle.std.specs.Prelude.{◌≡◌, ◌+◌, min};
+ghost use Rattle.kq_model.specs.Hearing.{Told, most_counted, notes_of, tallying};
 
 use kq_model::Hint;
 use std::marker::Model;
@@ -42,6 +42,13 @@ impl Tally {
     {
         self.count = self.count.saturating_add(1).min(MOST_COUNTED);
         self.notes |= notes_of(hint);
+    }
+
+    /// So many expirations more.
+    pub fn expire(&mut self, times: u64)
+        ensures { self.new ≡ record { count = min (self.old.count + times) most_counted; notes = self.old.notes } }
+    {
+        self.count = self.count.saturating_add(times).min(MOST_COUNTED);
     }
 
     /// Whether nothing was heard.

@@ -8,6 +8,7 @@ pub mod Lists
 pub mod Pieces
 pub mod Parts
 pub mod LookUps
+pub mod SignedLookUps
 pub mod FlagRows
 pub mod KnownChange
 pub mod RecordKinds

@@ -6,18 +6,20 @@ use Rattle.serde_json.specs.Data.{Data, Members, negative, number, object, unsig
 use Rattle.serde_json.specs.Find.{get_member}
 use Rattle.kq_model.specs.declared.change.Change.{Change}
 use Rattle.kq_model.specs.declared.filter.Filter.{Filter}
-use Rattle.kq_model.specs.declared.record_kind.MemberType.TheVariants.{SideName}
+use Rattle.kq_model.specs.declared.mode.Mode.{Mode}
+use Rattle.kq_model.specs.declared.note.Note.{Note}
+use Rattle.kq_model.specs.declared.record_kind.MemberType.TheVariants.{SideName, ModeName, NoteName}
 use Rattle.kq_model.specs.declared.side.Side.{Side}
 use Rattle.kq_model.specs.ChangeText.{change_list, filter_in, flags_in, is_change_list}
 use Rattle.kq_model.specs.Members.{has_member, i64_in, is_whole, member_count, optional, or_else, required, u32_in, u64_in}
-use Rattle.kq_model.specs.Names.{filter_named, side_named}
-use Rattle.kq_model.specs.RecordText.{is_of, side_in}
+use Rattle.kq_model.specs.Names.{filter_named, mode_named, note_named, side_named}
+use Rattle.kq_model.specs.RecordText.{is_of, mode_in, note_in, side_in}
 use Rattle.kq_line.specs.declared.found.Found.{Found}
 use Rattle.kq_line.specs.declared.piece.Piece.{Piece}
 use Rattle.kq_line.specs.declared.piece.Piece.TheVariants.{Number, Below, Name, Changes}
 use Rattle.kq_line.specs.Shows.{Agree, Holds, Shows, piece_in}
 use Rattle.kq_line.proofs.Letters.{same_name}
-use Rattle.kq_line.specs.Typed.{AreChanges, AreFlags, IsFilter, IsI64OrZero, IsSide, IsText, IsU32, IsU32OrZero, IsU64, IsU64OrZero}
+use Rattle.kq_line.specs.Typed.{AreChanges, AreFlags, IsFilter, IsI64OrZero, IsMode, IsNote, IsSide, IsText, IsU32, IsU32OrZero, IsU64, IsU64OrZero}
 
 -- ---- the value of a member that was found
 
@@ -29,7 +31,7 @@ missing_of : (changes : List Change) (o : Option Data) → Agree changes None o 
 missing_of changes None h = refl
 missing_of changes (Some d) h = absurd h
 
-held : (found : Found) (ms : Members) (name : List ℕ) (p : Piece) → Shows found ms → Some p ≡ piece_in found.members.items name
+pub held : (found : Found) (ms : Members) (name : List ℕ) (p : Piece) → Shows found ms → Some p ≡ piece_in found.members.items name
     → (d : Data) × (get_member name ms ≡ Some d) × Holds found.changes.items p d
 unfolding Shows
 held found ms name p shows is =
@@ -42,11 +44,11 @@ missing found ms name shows is =
     missing_of found.changes.items (get_member name ms)
     (subst (λ o. Agree found.changes.items o (get_member name ms)) (sym is) ((shows found.changes.items (λ has. refl)).each name))
 
-number_there : (found : Found) (ms : Members) (name : List ℕ) (n : ℕ) → Shows found ms → Some (Number n) ≡ piece_in found.members.items name
+pub number_there : (found : Found) (ms : Members) (name : List ℕ) (n : ℕ) → Shows found ms → Some (Number n) ≡ piece_in found.members.items name
     → get_member name ms ≡ Some (number (unsigned n))
 number_there found ms name n shows is = let h = held found ms name (Number n) shows is in h.1 ∙ ap Some h.2.0
 
-below_there : (found : Found) (ms : Members) (name : List ℕ) (n : ℕ) → Shows found ms → Some (Below n) ≡ piece_in found.members.items name
+pub below_there : (found : Found) (ms : Members) (name : List ℕ) (n : ℕ) → Shows found ms → Some (Below n) ≡ piece_in found.members.items name
     → get_member name ms ≡ Some (number (negative (negsuc n)))
 below_there found ms name n shows is = let h = held found ms name (Below n) shows is in h.1 ∙ ap Some h.2.0
 
@@ -56,7 +58,7 @@ u32_of : (n : ℕ) → n < 2 ^ 32 → u32_in (number (unsigned n)) ≡ Some n
 unfolding u32_in
 u32_of n fits = rw (lt-ltb n (2 ^ 32) fits) refl
 
-i64_of : (n : ℕ) → n < 2 ^ 63 → i64_in (number (unsigned n)) ≡ Some (pos n)
+pub i64_of : (n : ℕ) → n < 2 ^ 63 → i64_in (number (unsigned n)) ≡ Some (pos n)
 unfolding i64_in
 i64_of n fits = rw (lt-ltb n (2 ^ 63) fits) refl
 
@@ -129,6 +131,16 @@ unfolding side_in is_of required
 side_found ms name text side at named =
     record { there = ap (required (is_of SideName)) at ∙ ap is_some named; value = ap (option_and_then side_in) at ∙ named }
 
+pub mode_found : (ms : Members) (name text : List ℕ) (mode : Mode) → IsText ms name text → mode_named text ≡ Some mode → IsMode ms name mode
+unfolding mode_in is_of required
+mode_found ms name text mode at named =
+    record { there = ap (required (is_of ModeName)) at ∙ ap is_some named; value = ap (option_and_then mode_in) at ∙ named }
+
+pub note_found : (ms : Members) (name text : List ℕ) (note : Note) → IsText ms name text → note_named text ≡ Some note → IsNote ms name note
+unfolding note_in is_of required
+note_found ms name text note at named =
+    record { there = ap (required (is_of NoteName)) at ∙ ap is_some named; value = ap (option_and_then note_in) at ∙ named }
+
 pub flags_found : (found : Found) (name : List ℕ) (flags : ℕ) (p : Piece) → Some p ≡ piece_in found.members.items name
     → ((d : Data) → Holds found.changes.items p d → flags_in d ≡ Some flags) → (ms : Members) → Shows found ms → AreFlags ms name flags
 flags_found found name flags p is holds = λ ms shows.
@@ -200,3 +212,13 @@ pub side_tried : (found : Found) (name text : List ℕ) (o : Option Side) → ((
     → IfSome o (λ side. side_named text ≡ Some side) → IfSome o (λ side. (ms : Members) → Shows found ms → IsSide ms name side)
 side_tried found name text None at named = tt
 side_tried found name text (Some side) at named = λ ms shows. side_found ms name text side (at ms shows) named
+
+pub mode_tried : (found : Found) (name text : List ℕ) (o : Option Mode) → ((ms : Members) → Shows found ms → IsText ms name text)
+    → IfSome o (λ mode. mode_named text ≡ Some mode) → IfSome o (λ mode. (ms : Members) → Shows found ms → IsMode ms name mode)
+mode_tried found name text None at named = tt
+mode_tried found name text (Some mode) at named = λ ms shows. mode_found ms name text mode (at ms shows) named
+
+pub note_tried : (found : Found) (name text : List ℕ) (o : Option Note) → ((ms : Members) → Shows found ms → IsText ms name text)
+    → IfSome o (λ note. note_named text ≡ Some note) → IfSome o (λ note. (ms : Members) → Shows found ms → IsNote ms name note)
+note_tried found name text None at named = tt
+note_tried found name text (Some note) at named = λ ms shows. note_found ms name text note (at ms shows) named

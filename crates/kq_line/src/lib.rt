@@ -8,6 +8,7 @@
 
 mod changes;
 mod cursor;
+mod file_records;
 mod flags;
 mod found;
 mod line_reader;
@@ -18,5 +19,6 @@ mod numbers;
 mod piece;
 mod records;
 mod scalars;
+mod signal_records;
 
 pub use line_reader::LineReader;

@@ -4,16 +4,16 @@
 ghost use Rattle.std.specs.Prelude.{◌≡◌, IfSome, Some, is_some};
 ghost use Rattle.serde_json.specs.Data.{Members};
 ghost use Rattle.kq_model.specs.Members.{has_member, member_count};
-ghost use Rattle.kq_model.specs.Names.{filter_named, side_named};
+ghost use Rattle.kq_model.specs.Names.{filter_named, mode_named, note_named, side_named};
 ghost use Rattle.serde_json.specs.Data.{object};
 ghost use Rattle.kq_line.specs.Shows.{Shows, piece_in};
-ghost use Rattle.kq_line.specs.Typed.{AreChanges, AreFlags, IsFilter, IsI64OrZero, IsSide, IsText, IsU32, IsU32OrZero, IsU64, IsU64OrZero};
+ghost use Rattle.kq_line.specs.Typed.{AreChanges, AreFlags, IsFilter, IsI64, IsI64OrZero, IsMode, IsMoment, IsNote, IsSide, IsText, IsTruth, IsU32, IsU32OrZero, IsU64, IsU64OrZero};
 
 use crate::cursor::is;
 use crate::found::Found;
 use crate::numbers::{below, signed};
 use crate::piece::Piece;
-use kq_model::{Change, EvFlags, Filter, Side};
+use kq_model::{Change, EvFlags, Filter, Mode, Note, Side};
 
 impl<'a> Found<'a> {
     /// The piece of this name.
@@ -113,6 +113,50 @@ impl<'a> Found<'a> {
         filter_named(self.text_at(name)?)
     }
 
+    /// A whole number with a sign.
+    pub fn i64_at(&self, name: &[u8]) -> Option<i64>
+        ensures { IfSome result (λ z. (ms : Members) → Shows self.now ms → IsI64 ms name.now z) }
+    {
+        match self.piece(name)? {
+            Piece::Number(number) => signed(number),
+            Piece::Below(far) => below(far),
+            _ => None,
+        }
+    }
+
+    /// A moment of the clock, in ns: a whole number from 0 to 2^63 - 1.
+    pub fn moment_at(&self, name: &[u8]) -> Option<i64>
+        ensures { IfSome result (λ z. (ms : Members) → Shows self.now ms → IsMoment ms name.now z) }
+    {
+        match self.piece(name)? {
+            Piece::Number(number) => signed(number),
+            _ => None,
+        }
+    }
+
+    pub fn truth_at(&self, name: &[u8]) -> Option<bool>
+        ensures { IfSome result (λ truth. (ms : Members) → Shows self.now ms → IsTruth ms name.now truth) }
+    {
+        match self.piece(name)? {
+            Piece::Truth(truth) => Some(truth),
+            _ => None,
+        }
+    }
+
+    /// The mode that the member names.
+    pub fn mode_at(&self, name: &[u8]) -> Option<Mode>
+        ensures { IfSome result (λ mode. (ms : Members) → Shows self.now ms → IsMode ms name.now mode) }
+    {
+        mode_named(self.text_at(name)?)
+    }
+
+    /// The note that the member names.
+    pub fn note_at(&self, name: &[u8]) -> Option<Note>
+        ensures { IfSome result (λ note. (ms : Members) → Shows self.now ms → IsNote ms name.now note) }
+    {
+        note_named(self.text_at(name)?)
+    }
+
     /// The side that the member names.
     pub fn side_at(&self, name: &[u8]) -> Option<Side>
         ensures { IfSome result (λ side. (ms : Members) → Shows self.now ms → IsSide ms name.now side) }
@@ -199,6 +243,40 @@ fn side_named(name: &[u8]) -> Option<Side>
         Some(Side::Read)
     } else if is(name, b"write") {
         Some(Side::Write)
+    } else {
+        None
+    }
+}
+
+/// The mode of this name.
+fn mode_named(name: &[u8]) -> Option<Mode>
+    ensures { IfSome result (λ mode. mode_named name.now ≡ Some mode) }
+{
+    if is(name, b"r") {
+        Some(Mode::Read)
+    } else if is(name, b"w") {
+        Some(Mode::Write)
+    } else if is(name, b"rw") {
+        Some(Mode::ReadWrite)
+    } else {
+        None
+    }
+}
+
+/// The note of this name.
+fn note_named(name: &[u8]) -> Option<Note>
+    ensures { IfSome result (λ note. note_named name.now ≡ Some note) }
+{
+    if is(name, b"attrib") {
+        Some(Note::Attrib)
+    } else if is(name, b"link") {
+        Some(Note::Link)
+    } else if is(name, b"rename") {
+        Some(Note::Rename)
+    } else if is(name, b"delete") {
+        Some(Note::Delete)
+    } else if is(name, b"revoke") {
+        Some(Note::Revoke)
     } else {
         None
     }

@@ -16,7 +16,9 @@ ghost use Rattle.kq_line.specs.Shows.{Shows};
 ghost use Rattle.kq_line.specs.Typed.{IsRecord};
 
 use crate::cursor::is;
+use crate::file_records::{file, note, open, seek, truncate};
 use crate::found::Found;
+use crate::signal_records::{clock, exec, sig, sigset};
 use kq_model::{Event, RecordKind, Series};
 
 fn proc(found: &Found) -> Option<Event>
@@ -304,6 +306,24 @@ fn kind_named(name: &[u8]) -> Option<RecordKind>
         Some(RecordKind::Kqueue)
     } else if is(name, b"proc") {
         Some(RecordKind::Proc)
+    } else if is(name, b"exec") {
+        Some(RecordKind::Exec)
+    } else if is(name, b"sigset") {
+        Some(RecordKind::Sigset)
+    } else if is(name, b"sig") {
+        Some(RecordKind::Sig)
+    } else if is(name, b"file") {
+        Some(RecordKind::File)
+    } else if is(name, b"open") {
+        Some(RecordKind::Open)
+    } else if is(name, b"seek") {
+        Some(RecordKind::Seek)
+    } else if is(name, b"truncate") {
+        Some(RecordKind::Truncate)
+    } else if is(name, b"note") {
+        Some(RecordKind::Note)
+    } else if is(name, b"clock") {
+        Some(RecordKind::Clock)
     } else {
         None
     }
@@ -332,6 +352,15 @@ fn event_as(found: &Found, kind: RecordKind) -> Option<Event>
         RecordKind::Pipe => pipe(found),
         RecordKind::Read => read(found),
         RecordKind::Write => write(found),
+        RecordKind::Exec => exec(found),
+        RecordKind::Sigset => sigset(found),
+        RecordKind::Sig => sig(found),
+        RecordKind::File => file(found),
+        RecordKind::Open => open(found),
+        RecordKind::Seek => seek(found),
+        RecordKind::Truncate => truncate(found),
+        RecordKind::Note => note(found),
+        RecordKind::Clock => clock(found),
         RecordKind::Kevent => kevent(found),
     }
 }

@@ -1,11 +1,12 @@
 -- The call that the plan of a record has, if any, has at most the room of the record: of each form of plan, and so of
 -- each record.
-use Rattle.std.proofs.Common.{◌≡◌, ℕ, ◌≤◌, Bool, true, false, not, ◌||◌, cond, is_some, eqb, List, [], ◌∷◌, length, nat_lt, Option, Some, None, Ok, Err, refl, sym, subst, arith}
+use Rattle.std.proofs.Common.{◌≡◌, ℕ, ℤ, pos, negsuc, ◌≤◌, Bool, true, false, not, ◌||◌, cond, is_some, eqb, List, [], ◌∷◌, length, nat_lt, Option, Some, None, Ok, Err, refl, sym, subst, arith}
 use Rattle.kq_model.specs.declared.act.Act.{Act}
 use Rattle.kq_model.specs.declared.act.Act.TheVariants as act
 use Rattle.kq_model.specs.declared.change.Change.{Change}
 use Rattle.kq_model.specs.declared.event.Event.{Event}
 use Rattle.kq_model.specs.declared.event.Event.TheVariants as event
+use Rattle.kq_model.specs.declared.mode.Mode.{Mode}
 use Rattle.kq_model.specs.declared.object.Named.{Named}
 use Rattle.kq_model.specs.declared.object.Named.TheVariants as named
 use Rattle.kq_model.specs.declared.why.Why.{Why}
@@ -14,12 +15,12 @@ use Rattle.kq_model.specs.Descriptors.{Descriptor}
 use Rattle.kq_model.specs.DescriptorPlans.{duplicated, on_descriptor, on_named, plan_call, plan_close, plan_dup, plan_kevent, plan_kqueue}
 use Rattle.kq_model.specs.Limits.{most_changes, most_room}
 use Rattle.kq_model.specs.ObjectPlan as object
-use Rattle.kq_model.specs.ObjectRecordPlans.{if_live, pipe_ends, plan_accept, plan_act, plan_at, plan_pipe, plan_socket, unless_open, with_objects}
+use Rattle.kq_model.specs.ObjectRecordPlans.{if_live, pipe_ends, plan_accept, plan_act, plan_at, plan_open, plan_pipe, plan_socket, unless_open, with_objects}
 use Rattle.kq_model.specs.Objects.{counted}
 use Rattle.kq_model.specs.Planning as object_planning
 use Rattle.kq_model.specs.Plans.{plan}
 use Rattle.kq_model.specs.Processes.{is_live, was_used}
-use Rattle.kq_model.specs.ProcessPlans.{plan_exit, plan_fork, plan_proc}
+use Rattle.kq_model.specs.ProcessPlans.{is_signal, plan_clock, plan_clock_at, plan_exec, plan_exit, plan_fork, plan_proc, plan_sig, plan_sigset}
 use Rattle.kq_model.specs.World.{Call, Impossible, Plan, Planned, Possible, World, idle, named_by}
 use Rattle.kq_live.specs.Rooms.{room_of}
 
@@ -145,6 +146,32 @@ plan_pipe_within place pid read_fd write_fd cap w =
     (unless_open_within pid (read_fd ∷ write_fd ∷ []) w _
     (plan_act_within place (pipe_ends place pid read_fd write_fd) (act.Pipe cap) w)))
 
+pub plan_open_within : {room : ℕ} (place pid fd file : ℕ) (mode : Mode) (w : World counted)
+    → PlansWithin room (plan_open place pid fd file mode w)
+unfolding plan_open
+plan_open_within place pid fd file mode w =
+    if_live_within pid w _ (unless_open_within pid (fd ∷ []) w _ (plan_act_within place _ (act.Open file mode) w))
+
+pub plan_exec_within : {room : ℕ} (pid : ℕ) (w : World counted) → PlansWithin room (plan_exec pid w)
+unfolding plan_exec
+plan_exec_within pid w = either (not (is_live pid w.processes)) refused (no_call refl)
+
+pub plan_sigset_within : {room : ℕ} (pid signal : ℕ) (ignore : Bool) (w : World counted)
+    → PlansWithin room (plan_sigset pid signal ignore w)
+unfolding plan_sigset
+plan_sigset_within pid signal ignore w =
+    either (not (is_live pid w.processes)) refused (either (not (is_signal signal)) refused (no_call refl))
+
+pub plan_sig_within : {room : ℕ} (pid signal : ℕ) (w : World counted) → PlansWithin room (plan_sig pid signal w)
+unfolding plan_sig
+plan_sig_within pid signal w =
+    either (not (is_live pid w.processes)) refused (either (not (is_signal signal)) refused (no_call refl))
+
+pub plan_clock_within : {room : ℕ} (moment : ℤ) (w : World counted) → PlansWithin room (plan_clock_at moment w)
+unfolding plan_clock_at plan_clock
+plan_clock_within (pos moment) w = either (nat_lt moment w.now) refused (no_call refl)
+plan_clock_within (negsuc n) w = refused
+
 -- ---- the plan of a call
 
 abbrev planned_call : ℕ → List Change → ℕ → Bool → Bool → Planned
@@ -196,4 +223,13 @@ plan_within place (event.Lowat pid fd side n) w = plan_at_within place pid fd (�
 plan_within place (event.Pipe pid rfd wfd cap) w = plan_pipe_within place pid rfd wfd cap w
 plan_within place (event.Read pid fd n) w = plan_at_within place pid fd (λ on. act.Read on n) w
 plan_within place (event.Write pid fd n) w = plan_at_within place pid fd (λ on. act.Write on n) w
+plan_within place (event.Exec pid) w = plan_exec_within pid w
+plan_within place (event.Sigset pid sig ignore) w = plan_sigset_within pid sig ignore w
+plan_within place (event.Sig pid sig) w = plan_sig_within pid sig w
+plan_within place (event.File file size) w = plan_act_within place [] (act.File file size) w
+plan_within place (event.Open pid fd file mode) w = plan_open_within place pid fd file mode w
+plan_within place (event.Seek pid fd offset) w = plan_at_within place pid fd (λ on. act.Seek on offset) w
+plan_within place (event.Truncate file size) w = plan_act_within place [] (act.Truncate file size) w
+plan_within place (event.Note file note) w = plan_act_within place [] (act.Note file note) w
+plan_within place (event.Clock ns) w = plan_clock_within ns w
 plan_within place (event.Kevent pid fd changes room) w = plan_kevent_within pid fd changes room w

@@ -3,7 +3,7 @@ use Rattle.std.specs.Prelude.{ℕ}
 use Rattle.kq_model.specs.declared.event.Event.{Event}
 use Rattle.kq_model.specs.declared.event.Event.TheVariants as event
 
--- its pid
+-- its pid; what happens to a file or to the clock has none, and counts as that of 0
 abbrev pub actor : Event → ℕ
 actor (event.Proc pid) = pid
 actor (event.Fork pid child) = pid
@@ -23,4 +23,13 @@ actor (event.Lowat pid fd side n) = pid
 actor (event.Pipe pid rfd wfd cap) = pid
 actor (event.Read pid fd n) = pid
 actor (event.Write pid fd n) = pid
+actor (event.Exec pid) = pid
+actor (event.Sigset pid sig ignore) = pid
+actor (event.Sig pid sig) = pid
+actor (event.File file size) = 0
+actor (event.Open pid fd file mode) = pid
+actor (event.Seek pid fd offset) = pid
+actor (event.Truncate file size) = 0
+actor (event.Note file note) = 0
+actor (event.Clock ns) = 0
 actor (event.Kevent pid fd changes room) = pid

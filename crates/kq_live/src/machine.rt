@@ -97,7 +97,16 @@ impl Served for LiveMachine {
             | Event::Pipe { pid, .. }
             | Event::Read { pid, .. }
             | Event::Write { pid, .. }
+            | Event::Exec { pid }
+            | Event::Sigset { pid, .. }
+            | Event::Sig { pid, .. }
+            | Event::Open { pid, .. }
+            | Event::Seek { pid, .. }
             | Event::Kevent { pid, .. } => u64::from(*pid),
+            Event::File { .. }
+            | Event::Truncate { .. }
+            | Event::Note { .. }
+            | Event::Clock { .. } => 0,
         }
     }
 

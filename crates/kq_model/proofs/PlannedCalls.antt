@@ -1,6 +1,6 @@
 -- A record calls only a kqueue that a number names, and such a one is live; so each call of a trace is on a
 -- live kqueue.
-use Rattle.std.proofs.Common.{◌≡◌, ℕ, ◌+◌, Bool, true, false, cond, not, ◌&&◌, ◌||◌, eqb, ltb, length, List, [], ◌∷◌, Option, Some, None, Ok, Err, refl, sym, ap, subst, ◌∙◌}
+use Rattle.std.proofs.Common.{◌≡◌, ℕ, ℤ, pos, negsuc, ◌+◌, Bool, true, false, cond, not, ◌&&◌, ◌||◌, eqb, ltb, length, List, [], ◌∷◌, Option, Some, None, Ok, Err, refl, sym, ap, subst, ◌∙◌}
 use Rattle.std.proofs.lemmas.Bool.{and_parts, eqb-true, eq-eqb}
 use Rattle.std.proofs.lemmas.List.Elements.{All-nil}
 use Rattle.std.specs.List.{list_any}
@@ -28,7 +28,7 @@ use Rattle.kq_model.specs.Objects.{Keeping, counted}
 use Rattle.kq_model.specs.Planning as object_planning
 use Rattle.kq_model.specs.Plans.{plan}
 use Rattle.kq_model.specs.Processes as processes
-use Rattle.kq_model.specs.ProcessPlans.{plan_proc, plan_fork, plan_exec, plan_exit, is_signal, plan_sigset, plan_sig, plan_clock}
+use Rattle.kq_model.specs.ProcessPlans.{plan_proc, plan_fork, plan_exec, plan_exit, is_signal, plan_sigset, plan_sig, plan_clock, plan_clock_at}
 use Rattle.kq_model.specs.System.{Live, System, step_by, step}
 use Rattle.kq_model.specs.World.{World, Call, Planned, Impossible, Possible, named_by, seen_world}
 use Rattle.kq_model.proofs.FoldRows.{step-world}
@@ -126,6 +126,11 @@ module _ (w : World counted) where
   unfolding plan_clock call_of
   clock-calls moment = or-calls (ltb moment w.now) _ _ tt tt
 
+  pub clock_at-calls : (moment : ℤ) → CallsNamed w (plan_clock_at moment w)
+  unfolding plan_clock_at call_of
+  clock_at-calls (pos moment) = clock-calls moment
+  clock_at-calls (negsuc n) = tt
+
   with_objects-calls : (opened : List Descriptor) (p : object.Planned) → CallsNamed w (with_objects opened p)
   unfolding with_objects call_of
   with_objects-calls opened (Err why) = tt
@@ -175,7 +180,7 @@ module _ (w : World counted) where
   pub plan-calls : (place : ℕ) (e : Event) → CallsNamed w (plan place e w)
   unfolding plan
   plan-calls place (event.Kevent pid fd changes room) = kevent-calls pid fd room changes
-  plan-calls place e = search (proc-calls, kqueue-calls, close-calls, dup-calls, fork-calls, exec-calls, exit-calls, sigset-calls, sig-calls, clock-calls, act-calls, at-calls, socket-calls, accept-calls, pipe-calls, open-calls)
+  plan-calls place e = search (proc-calls, kqueue-calls, close-calls, dup-calls, fork-calls, exec-calls, exit-calls, sigset-calls, sig-calls, clock_at-calls, act-calls, at-calls, socket-calls, accept-calls, pipe-calls, open-calls)
 
 module _ {S : Type 0} {h : Hearing S} where
   live-by-place : (place pid number : ℕ) (live : List (Live h)) → has_live place pid number live ≡ true → is_live place live ≡ true

@@ -1,5 +1,5 @@
 -- What a record opens is no kqueue: of each form of plan, and so of each record.
-use Rattle.std.proofs.Common.{◌≡◌, ℕ, Bool, true, false, cond, not, ◌||◌, ltb, eqb, length, List, [], ◌∷◌, map, Option, Some, None, Ok, Err, refl, sym, ap, ◌∙◌, subst}
+use Rattle.std.proofs.Common.{◌≡◌, ℕ, pos, negsuc, Bool, true, false, cond, not, ◌||◌, ltb, eqb, length, List, [], ◌∷◌, map, Option, Some, None, Ok, Err, refl, sym, ap, ◌∙◌, subst}
 use Rattle.std.proofs.lemmas.Bool.{cond_both, not-true}
 use Rattle.std.proofs.lemmas.List.Elements.{All-nil, All-cons}
 use Rattle.std.specs.Option.{is_some}
@@ -9,6 +9,7 @@ use Rattle.kq_model.specs.declared.act.Act.TheVariants as act
 use Rattle.kq_model.specs.declared.change.Change.{Change}
 use Rattle.kq_model.specs.declared.event.Event.{Event}
 use Rattle.kq_model.specs.declared.event.Event.TheVariants as event
+use Rattle.kq_model.specs.declared.mode.Mode.{Mode}
 use Rattle.kq_model.specs.declared.object.Named.{Named}
 use Rattle.kq_model.specs.declared.object.Named.TheVariants as named
 use Rattle.kq_model.specs.declared.why.Why.{Why}
@@ -17,12 +18,12 @@ use Rattle.kq_model.specs.DescriptorPlans.{on_named, on_descriptor, plan_close, 
 use Rattle.kq_model.specs.LiveKqueues.{NamesNoKqueue, OpensNoKqueue}
 use Rattle.kq_model.specs.Limits.{most_changes, most_room}
 use Rattle.kq_model.specs.ObjectPlan as object
-use Rattle.kq_model.specs.ObjectRecordPlans.{with_objects, plan_act, plan_at, unless_open, if_live, pipe_ends, plan_socket, plan_accept, plan_pipe}
+use Rattle.kq_model.specs.ObjectRecordPlans.{with_objects, plan_act, plan_at, unless_open, if_live, pipe_ends, plan_socket, plan_accept, plan_open, plan_pipe}
 use Rattle.kq_model.specs.Objects.{counted}
 use Rattle.kq_model.specs.Planning as object_planning
 use Rattle.kq_model.specs.Plans.{plan}
 use Rattle.kq_model.specs.Processes.{was_used, is_live}
-use Rattle.kq_model.specs.ProcessPlans.{descriptors_of, inheritable, is_kqueue, plan_exit, plan_fork, plan_proc}
+use Rattle.kq_model.specs.ProcessPlans.{descriptors_of, inheritable, is_kqueue, is_signal, plan_clock, plan_clock_at, plan_exec, plan_exit, plan_fork, plan_proc, plan_sig, plan_sigset}
 use Rattle.kq_model.specs.World.{World, Plan, Planned, Impossible, Possible, named_by}
 
 -- ---- descriptors that name no kqueue
@@ -133,8 +134,14 @@ plan_pipe-opens place pid rfd wfd cap w =
     (other_than_kqueue (record { pid = pid; number = rfd; named = named.PipeRead place }) refl)
     (one (record { pid = pid; number = wfd; named = named.PipeWrite place }) refl)))))
 
+plan_open-opens : (place pid fd file : ℕ) (mode : Mode) (w : World counted) → Opens (plan_open place pid fd file mode w)
+unfolding plan_open is_kqueue
+plan_open-opens place pid fd file mode w =
+    if_live-opens pid w _ (unless_open-opens pid (fd ∷ []) w _
+    (plan_act-opens place _ (act.Open file mode) w (one (record { pid = pid; number = fd; named = named.Open place file }) refl)))
+
 record_opens : (place : ℕ) (e : Event) (w : World counted) → Opens (plan place e w)
-unfolding plan plan_proc plan_exit plan_kqueue plan_dup plan_close plan_kevent
+unfolding plan plan_clock_at plan_clock plan_exec plan_sigset plan_sig plan_proc plan_exit plan_kqueue plan_dup plan_close plan_kevent
 record_opens place (event.Proc pid) w = either (was_used pid w.processes) impossible (nothing refl)
 record_opens place (event.Fork pid child) w = plan_fork-opens pid child w
 record_opens place (event.Exit pid status) w = either (not (is_live pid w.processes)) impossible (nothing refl)
@@ -154,6 +161,18 @@ record_opens place (event.Lowat pid fd side n) w = plan_at-opens place pid fd (�
 record_opens place (event.Pipe pid rfd wfd cap) w = plan_pipe-opens place pid rfd wfd cap w
 record_opens place (event.Read pid fd n) w = plan_at-opens place pid fd (λ on. act.Read on n) w
 record_opens place (event.Write pid fd n) w = plan_at-opens place pid fd (λ on. act.Write on n) w
+record_opens place (event.Exec pid) w = either (not (is_live pid w.processes)) impossible (nothing refl)
+record_opens place (event.Sigset pid sig ignore) w =
+    either (not (is_live pid w.processes)) impossible (either (not (is_signal sig)) impossible (nothing refl))
+record_opens place (event.Sig pid sig) w =
+    either (not (is_live pid w.processes)) impossible (either (not (is_signal sig)) impossible (nothing refl))
+record_opens place (event.File file size) w = plan_act-opens place [] (act.File file size) w (All-nil NamesNoKqueue)
+record_opens place (event.Open pid fd file mode) w = plan_open-opens place pid fd file mode w
+record_opens place (event.Seek pid fd offset) w = plan_at-opens place pid fd (λ on. act.Seek on offset) w
+record_opens place (event.Truncate file size) w = plan_act-opens place [] (act.Truncate file size) w (All-nil NamesNoKqueue)
+record_opens place (event.Note file note) w = plan_act-opens place [] (act.Note file note) w (All-nil NamesNoKqueue)
+record_opens place (event.Clock (pos n)) w = either (ltb n w.now) impossible (nothing refl)
+record_opens place (event.Clock (negsuc n)) w = impossible
 record_opens place (event.Kevent pid fd changes room) w = on_descriptor-opens pid fd (plan_call changes room) (plan_call-opens changes room) w
 
 pub plan-opens : (place : ℕ) (e : Event) (w : World counted) → OpensNoKqueue (plan place e w)

@@ -21,6 +21,10 @@ pub record Seen : Type 0 where
 unfoldable pub is_simulated : Filter → Bool
 is_simulated Read = true
 is_simulated Write = true
+is_simulated Vnode = true
+is_simulated Proc = true
+is_simulated Signal = true
+is_simulated Timer = true
 is_simulated User = true
 is_simulated _ = false
 

@@ -1,7 +1,7 @@
 -- The members of a record: which are there, of which kind, and whether a whole number is in its type's
 -- range. A member that is missing or of the wrong kind is the fault Field, a whole number out of range
 -- the fault Range, and Field anywhere in a record comes before Range (this project's choice).
-use Rattle.std.specs.Prelude.{ℕ, ◌+◌, ◌^◌, ◌==◌, ℤ, pos, Bool, true, false, ◌&&◌, List, length, nat_lt, Option, Some, None, Result, Ok, Err, if◌then◌else◌}
+use Rattle.std.specs.Prelude.{ℕ, ◌+◌, ◌^◌, ◌==◌, ℤ, pos, Bool, true, false, ◌&&◌, List, length, nat_lt, int_lt, Option, Some, None, option_and_then, Result, Ok, Err, if◌then◌else◌}
 use Rattle.std.specs.List.{list_all}
 use Rattle.std.specs.Option.{is_some}
 use Rattle.serde_json.specs.Data.{unsigned, negative, Data, null, boolean, number, string, array, object, Members, no_members, member}
@@ -47,6 +47,13 @@ unfoldable pub i64_in : Data → Option ℤ
 i64_in (number (unsigned n)) = if nat_lt n (2 ^ 63) then Some (pos n) else None
 i64_in (number (negative z)) = Some z
 i64_in _ = None
+
+unfoldable pub from_zero : ℤ → Option ℤ
+from_zero z = if int_lt z (pos 0) then None else Some z
+
+-- a moment of the clock, in ns after its start
+unfoldable pub moment_in : Data → Option ℤ
+moment_in d = option_and_then from_zero (i64_in d)
 
 -- a test of a member that has to be there
 unfoldable pub required : (Data → Bool) → Option Data → Bool

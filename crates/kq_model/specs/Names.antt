@@ -1,9 +1,13 @@
--- The names of filters, flags, sides and reasons in a trace and a report (this project's choice).
+-- The names of filters, flags, sides, modes, notes and reasons in a trace and a report (this project's choice).
 use Rattle.std.specs.Prelude.{ℕ, nat_eq, Bool, List, [], ◌∷◌, Option, Some, None, codes, filter, map, if◌then◌else◌}
 use Rattle.std.specs.Cmp.Lexicographic.{pointwise}
 use Rattle.kq_model.specs.declared.event_flags.EvFlags.{EvFlags}
 use Rattle.kq_model.specs.declared.filter.Filter.{Filter}
 use Rattle.kq_model.specs.declared.filter.Filter.TheVariants.{Read, Write, Vnode, Proc, Signal, Timer, User, Aio, Lio, Fs, Procdesc, Sendfile, Empty}
+use Rattle.kq_model.specs.declared.mode.Mode.{Mode}
+use Rattle.kq_model.specs.declared.mode.Mode.TheVariants as mode
+use Rattle.kq_model.specs.declared.note.Note.{Note}
+use Rattle.kq_model.specs.declared.note.Note.TheVariants as note
 use Rattle.kq_model.specs.declared.side.Side.{Side}
 use Rattle.kq_model.specs.declared.side.Side.TheVariants as side
 use Rattle.kq_model.specs.declared.why.Why.{Why}
@@ -54,6 +58,36 @@ unfoldable pub side_named : List ℕ → Option Side
 side_named name =
     if is_text name (codes "read") then Some side.Read
     else if is_text name (codes "write") then Some side.Write
+    else None
+
+abbrev pub mode_name : Mode → List ℕ
+mode_name mode.Read = codes "r"
+mode_name mode.Write = codes "w"
+mode_name mode.ReadWrite = codes "rw"
+
+-- the mode of this name
+unfoldable pub mode_named : List ℕ → Option Mode
+mode_named name =
+    if is_text name (codes "r") then Some mode.Read
+    else if is_text name (codes "w") then Some mode.Write
+    else if is_text name (codes "rw") then Some mode.ReadWrite
+    else None
+
+abbrev pub note_name : Note → List ℕ
+note_name note.Attrib = codes "attrib"
+note_name note.Link = codes "link"
+note_name note.Rename = codes "rename"
+note_name note.Delete = codes "delete"
+note_name note.Revoke = codes "revoke"
+
+-- the note of this name
+unfoldable pub note_named : List ℕ → Option Note
+note_named name =
+    if is_text name (codes "attrib") then Some note.Attrib
+    else if is_text name (codes "link") then Some note.Link
+    else if is_text name (codes "rename") then Some note.Rename
+    else if is_text name (codes "delete") then Some note.Delete
+    else if is_text name (codes "revoke") then Some note.Revoke
     else None
 
 -- why a record is impossible

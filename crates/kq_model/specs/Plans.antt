@@ -1,12 +1,12 @@
 -- The plan of each record, or the first reason why it is impossible.
-use Rattle.std.specs.Prelude.{ℕ}
+use Rattle.std.specs.Prelude.{ℕ, []}
 use Rattle.kq_model.specs.declared.act.Act.TheVariants as act
 use Rattle.kq_model.specs.declared.event.Event.{Event}
 use Rattle.kq_model.specs.declared.event.Event.TheVariants as event
 use Rattle.kq_model.specs.DescriptorPlans.{plan_close, plan_dup, plan_kqueue, plan_kevent}
-use Rattle.kq_model.specs.ObjectRecordPlans.{plan_accept, plan_at, plan_pipe, plan_socket}
+use Rattle.kq_model.specs.ObjectRecordPlans.{plan_accept, plan_act, plan_at, plan_open, plan_pipe, plan_socket}
 use Rattle.kq_model.specs.Objects.{counted}
-use Rattle.kq_model.specs.ProcessPlans.{plan_exit, plan_fork, plan_proc}
+use Rattle.kq_model.specs.ProcessPlans.{plan_clock_at, plan_exec, plan_exit, plan_fork, plan_proc, plan_sig, plan_sigset}
 use Rattle.kq_model.specs.World.{World, Planned}
 
 -- the record at a place
@@ -29,4 +29,13 @@ plan place (event.Lowat pid fd side n) w = plan_at place pid fd (λ on. act.LowW
 plan place (event.Pipe pid rfd wfd cap) w = plan_pipe place pid rfd wfd cap w
 plan place (event.Read pid fd n) w = plan_at place pid fd (λ on. act.Read on n) w
 plan place (event.Write pid fd n) w = plan_at place pid fd (λ on. act.Write on n) w
+plan place (event.Exec pid) w = plan_exec pid w
+plan place (event.Sigset pid sig ignore) w = plan_sigset pid sig ignore w
+plan place (event.Sig pid sig) w = plan_sig pid sig w
+plan place (event.File file size) w = plan_act place [] (act.File file size) w
+plan place (event.Open pid fd file mode) w = plan_open place pid fd file mode w
+plan place (event.Seek pid fd offset) w = plan_at place pid fd (λ on. act.Seek on offset) w
+plan place (event.Truncate file size) w = plan_act place [] (act.Truncate file size) w
+plan place (event.Note file note) w = plan_act place [] (act.Note file note) w
+plan place (event.Clock ns) w = plan_clock_at ns w
 plan place (event.Kevent pid fd changes room) w = plan_kevent pid fd changes room w

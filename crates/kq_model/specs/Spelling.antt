@@ -1,7 +1,7 @@
 -- Spelling: the canonical text of a trace. Each record is the compact text of one JSON value, with all
 -- its members in the order of their names' bytes, and each line ends with LF (this project's choice).
-use Rattle.std.specs.Prelude.{ℕ, ℤ, List, [], ◌∷◌, ◌++◌, map, codes}
-use Rattle.serde_json.specs.Data.{unsigned, Data, number, string, array, object, Members, no_members, member}
+use Rattle.std.specs.Prelude.{ℕ, ℤ, Bool, List, [], ◌∷◌, ◌++◌, map, codes}
+use Rattle.serde_json.specs.Data.{unsigned, Data, boolean, number, string, array, object, Members, no_members, member}
 use Rattle.serde_json.specs.Find.{of_integer}
 use Rattle.serde_json.specs.View.{items_of}
 use Rattle.serde_json.specs.Written.{compact_text}
@@ -11,7 +11,7 @@ use Rattle.kq_model.specs.declared.event.Event.TheVariants as event
 use Rattle.kq_model.specs.declared.event_flags.EvFlags.{EvFlags}
 use Rattle.kq_model.specs.declared.side.Side.{Side}
 use Rattle.kq_model.specs.Lines.{line_feed}
-use Rattle.kq_model.specs.Names.{filter_name, names_of, side_name}
+use Rattle.kq_model.specs.Names.{filter_name, mode_name, names_of, note_name, side_name}
 
 unfoldable pub natural : ℕ → Data
 natural n = number (unsigned n)
@@ -36,11 +36,15 @@ change_data c = object (
 -- the value of a member
 pub data Value : Type 0 where
   Number : ℕ → Value
+  Integer : ℤ → Value
+  Truth : Bool → Value
   Name : List ℕ → Value
   Changes : List Change → Value
 
 abbrev pub value_data : Value → Data
 value_data (Number n) = natural n
+value_data (Integer z) = integer z
+value_data (Truth b) = boolean b
 value_data (Name name) = string name
 value_data (Changes changes) = array (items_of (map change_data changes))
 
@@ -78,12 +82,26 @@ members_of (event.Accept p f to rcv snd) =
 members_of (event.Connect p f) = fd f ∷ op (codes "connect") ∷ pid p ∷ []
 members_of (event.Rx p f n) = fd f ∷ (codes "n", Number n) ∷ op (codes "rx") ∷ pid p ∷ []
 members_of (event.Tx p f n) = fd f ∷ (codes "n", Number n) ∷ op (codes "tx") ∷ pid p ∷ []
-members_of (event.Shut p f side error) = (codes "error", Number error) ∷ fd f ∷ op (codes "shut") ∷ pid p ∷ on_side side ∷ []
+members_of (event.Shut p f side error) =
+    (codes "error", Number error) ∷ fd f ∷ op (codes "shut") ∷ pid p ∷ on_side side ∷ []
 members_of (event.Lowat p f side n) = fd f ∷ (codes "n", Number n) ∷ op (codes "lowat") ∷ pid p ∷ on_side side ∷ []
 members_of (event.Pipe p rfd wfd cap) =
     (codes "cap", Number cap) ∷ op (codes "pipe") ∷ pid p ∷ (codes "rfd", Number rfd) ∷ (codes "wfd", Number wfd) ∷ []
 members_of (event.Read p f n) = fd f ∷ (codes "n", Number n) ∷ op (codes "read") ∷ pid p ∷ []
 members_of (event.Write p f n) = fd f ∷ (codes "n", Number n) ∷ op (codes "write") ∷ pid p ∷ []
+members_of (event.Exec p) = op (codes "exec") ∷ pid p ∷ []
+members_of (event.Sigset p sig ignore) =
+    (codes "ignore", Truth ignore) ∷ op (codes "sigset") ∷ pid p ∷ (codes "sig", Number sig) ∷ []
+members_of (event.Sig p sig) = op (codes "sig") ∷ pid p ∷ (codes "sig", Number sig) ∷ []
+members_of (event.File file size) = (codes "file", Number file) ∷ op (codes "file") ∷ (codes "size", Integer size) ∷ []
+members_of (event.Open p f file mode) =
+    fd f ∷ (codes "file", Number file) ∷ (codes "mode", Name (mode_name mode)) ∷ op (codes "open") ∷ pid p ∷ []
+members_of (event.Seek p f offset) = fd f ∷ (codes "offset", Integer offset) ∷ op (codes "seek") ∷ pid p ∷ []
+members_of (event.Truncate file size) =
+    (codes "file", Number file) ∷ op (codes "truncate") ∷ (codes "size", Integer size) ∷ []
+members_of (event.Note file note) =
+    (codes "file", Number file) ∷ (codes "note", Name (note_name note)) ∷ op (codes "note") ∷ []
+members_of (event.Clock ns) = (codes "ns", Integer ns) ∷ op (codes "clock") ∷ []
 members_of (event.Kevent p f changes room) =
     (codes "changes", Changes changes) ∷ fd f ∷ op (codes "kevent") ∷ pid p ∷ (codes "room", Number room) ∷ []
 

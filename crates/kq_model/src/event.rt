@@ -1,6 +1,6 @@
 ghost use Rattle.std.specs.Prelude.{◌≡◌, IfOk};
 
-use crate::{Change, Memory, Series, Side};
+use crate::{Change, Memory, Mode, Note, Series, Side};
 
 /// One record of a trace: what happened to the simulated system. Its fields have the names of the record's members.
 ///
@@ -117,6 +117,54 @@ pub enum Event {
         fd: u32,
         n: u32,
     },
+    /// The process runs another program; see execve(2).
+    Exec {
+        pid: u32,
+    },
+    /// The process ignores the signal `sig` from now on, or no longer; see sigaction(2). Signals are 1 to 128.
+    Sigset {
+        pid: u32,
+        sig: u32,
+        ignore: bool,
+    },
+    /// The signal `sig`, 1 to 128, is sent to the process; see kill(2).
+    Sig {
+        pid: u32,
+        sig: u32,
+    },
+    /// A file of this number is there from now on, with so many bytes, 0 to 2^61. Its number was never used before
+    /// (this project's choice).
+    File {
+        file: u32,
+        size: i64,
+    },
+    /// The process opens the file under the new number `fd`, at offset 0; see open(2).
+    Open {
+        pid: u32,
+        fd: u32,
+        file: u32,
+        mode: Mode,
+    },
+    /// The offset of the open file description is `offset` bytes, 0 to 2^61; see lseek(2).
+    Seek {
+        pid: u32,
+        fd: u32,
+        offset: i64,
+    },
+    /// The file has `size` bytes, 0 to 2^61; see truncate(2).
+    Truncate {
+        file: u32,
+        size: i64,
+    },
+    /// Something else happens to the file; see EVFILT_VNODE of kqueue(2).
+    Note {
+        file: u32,
+        note: Note,
+    },
+    /// The clock goes on to `ns` ns after its start, or stays there; 0 to 2^63 - 1.
+    Clock {
+        ns: i64,
+    },
     /// The process calls kevent(2) on its kqueue: first all changes, then at most `room` events.
     Kevent {
         pid: u32,
@@ -217,6 +265,45 @@ impl Event {
                 fd: *fd,
                 n: *n,
             }),
+            Event::Exec { pid } => Ok(Event::Exec { pid: *pid }),
+            Event::Sigset { pid, sig, ignore } => Ok(Event::Sigset {
+                pid: *pid,
+                sig: *sig,
+                ignore: *ignore,
+            }),
+            Event::Sig { pid, sig } => Ok(Event::Sig {
+                pid: *pid,
+                sig: *sig,
+            }),
+            Event::File { file, size } => Ok(Event::File {
+                file: *file,
+                size: *size,
+            }),
+            Event::Open {
+                pid,
+                fd,
+                file,
+                mode,
+            } => Ok(Event::Open {
+                pid: *pid,
+                fd: *fd,
+                file: *file,
+                mode: *mode,
+            }),
+            Event::Seek { pid, fd, offset } => Ok(Event::Seek {
+                pid: *pid,
+                fd: *fd,
+                offset: *offset,
+            }),
+            Event::Truncate { file, size } => Ok(Event::Truncate {
+                file: *file,
+                size: *size,
+            }),
+            Event::Note { file, note } => Ok(Event::Note {
+                file: *file,
+                note: *note,
+            }),
+            Event::Clock { ns } => Ok(Event::Clock { ns: *ns }),
             Event::Kevent {
                 pid,
                 fd,

@@ -19,6 +19,15 @@ pub enum RecordKind {
     Pipe,
     Read,
     Write,
+    Exec,
+    Sigset,
+    Sig,
+    File,
+    Open,
+    Seek,
+    Truncate,
+    Note,
+    Clock,
     Kevent,
 }
 
@@ -27,8 +36,14 @@ pub enum RecordKind {
 pub enum MemberType {
     /// A whole number.
     Whole,
+    /// True or false.
+    Truth,
     /// The name of a side of a socket.
     SideName,
+    /// The name of a mode in which a file is opened.
+    ModeName,
+    /// The name of a note on a file.
+    NoteName,
     /// A list of changes.
     ChangeList,
 }

@@ -1,17 +1,19 @@
 -- Any record: what it keeps true, and what it does where each object's records are kept.
 use Rattle.std.proofs.Common.{◌≡◌, ℕ, ◌+◌, ◌<◌, ◌≤◌, List, refl, sym, arith}
 use Rattle.std.proofs.lemmas.List.Elements.{All-weaker}
+use Rattle.kq_model.specs.declared.act.Act.TheVariants as act
 use Rattle.kq_model.specs.declared.event.Event.{Event}
 use Rattle.kq_model.specs.declared.event.Event.TheVariants as event
 use Rattle.kq_model.specs.CountedWorld.{IsCountedWorld, KeepsCounts, NamesBelow}
 use Rattle.kq_model.specs.Descriptors.{Descriptor}
+use Rattle.kq_model.specs.Holding.{made_names}
 use Rattle.kq_model.specs.ObjectRecordPlans.{plan_at}
 use Rattle.kq_model.specs.Objects.{counted, listed}
 use Rattle.kq_model.specs.Plans.{plan}
 use Rattle.kq_model.specs.World.{World, Planned, Impossible, Possible, seen_world}
 use Rattle.kq_model.proofs.CountedObjects.{listed-counts}
-use Rattle.kq_model.proofs.CountedRecords.{counted-at, counted-socket, counted-accept, counted-pipe}
-use Rattle.kq_model.proofs.CountedWorld.{counted-proc, counted-fork, counted-exit, counted-kqueue, counted-dup, counted-close, counted-kevent}
+use Rattle.kq_model.proofs.CountedRecords.{counted-act, counted-at, counted-socket, counted-accept, counted-open, counted-pipe}
+use Rattle.kq_model.proofs.CountedWorld.{counted-proc, counted-exec, counted-sigset, counted-sig, counted-clock_at, counted-fork, counted-exit, counted-kqueue, counted-dup, counted-close, counted-kevent}
 use Rattle.kq_model.proofs.SeenWorld.{seen-carried_out}
 use Rattle.kq_process.specs.Effects.{world_after, listed_after}
 use Rattle.kq_process.specs.Uses.{act_on}
@@ -24,7 +26,7 @@ module _ (place : ℕ) (w : World counted) where
   counted-use pid fd what = counted-at place pid fd (act_on what) w (λ n. uses-make what place n)
 
   pub counted-record : (e : Event) → KeepsCounts place w (plan place e w)
-  unfolding plan
+  unfolding plan made_names
   counted-record (event.Proc pid) = counted-proc place pid w
   counted-record (event.Fork pid child) = counted-fork place pid child w
   counted-record (event.Exit pid status) = counted-exit place pid status w
@@ -43,6 +45,15 @@ module _ (place : ℕ) (w : World counted) where
   counted-record (event.Pipe pid rfd wfd size) = counted-pipe place pid rfd wfd size w
   counted-record (event.Read pid fd n) = counted-use pid fd (use_of.Read n)
   counted-record (event.Write pid fd n) = counted-use pid fd (use_of.Write n)
+  counted-record (event.Exec pid) = counted-exec place pid w
+  counted-record (event.Sigset pid sig ignore) = counted-sigset place pid sig ignore w
+  counted-record (event.Sig pid sig) = counted-sig place pid sig w
+  counted-record (event.File file size) = counted-act place (act.File file size) w refl
+  counted-record (event.Open pid fd file mode) = counted-open place pid fd file mode w
+  counted-record (event.Seek pid fd offset) = counted-use pid fd (use_of.Seek offset)
+  counted-record (event.Truncate file size) = counted-act place (act.Truncate file size) w refl
+  counted-record (event.Note file note) = counted-act place (act.Note file note) w refl
+  counted-record (event.Clock ns) = counted-clock_at place ns w
   counted-record (event.Kevent pid fd changes room) = counted-kevent place pid fd changes room w
 
   below-later : (next : ℕ) → place ≤ next → (d : Descriptor) → NamesBelow place d → NamesBelow next d

@@ -8,7 +8,7 @@ ghost use Rattle.kq_model.specs.World.{World as Kept, seen_world};
 use crate::effect::Effect;
 use crate::uses::Use;
 use crate::world::World;
-use kq_model::{Event, Memory};
+use kq_model::{Act, Event, Memory};
 
 impl World {
     ghost use Rattle.kq_process.specs.Effects.{IsPossible, listed_after};
@@ -34,7 +34,7 @@ impl World {
         self.step(place, event)
     }
 
-    #[tactic(auto, unfolding(kq_model::specs::Plans::plan))]
+    #[tactic(auto, unfolding(kq_model::specs::Plans::plan, kq_model::specs::Holding::made_names))]
     fn step(&mut self, place: u64, event: &Event) -> Result<Effect, Memory>
         requires { IsCountedWorld place (world_of self.old) }
         ensures effect { IfOk result (IsEffectBy (plan place event.now) self.old) }
@@ -109,6 +109,43 @@ impl World {
                 *fd,
                 Use::Write { bytes: *n },
             ),
+            Event::Exec { pid } => self.exec(*pid),
+            Event::Sigset { pid, sig, ignore } => Ok(self.sigset(*pid, *sig, *ignore)),
+            Event::Sig { pid, sig } => self.signal(*pid, *sig),
+            Event::File { file, size } => {
+                let act = Act::File {
+                    file: *file,
+                    size: *size,
+                };
+                self.act(place, &act)
+            }
+            Event::Open {
+                pid,
+                fd,
+                file,
+                mode,
+            } => self.open(place, *pid, *fd, *file, *mode),
+            Event::Seek { pid, fd, offset } => self.use_object(
+                place,
+                *pid,
+                *fd,
+                Use::Seek { offset: *offset },
+            ),
+            Event::Truncate { file, size } => {
+                let act = Act::Truncate {
+                    file: *file,
+                    size: *size,
+                };
+                self.act(place, &act)
+            }
+            Event::Note { file, note } => {
+                let act = Act::Note {
+                    file: *file,
+                    note: *note,
+                };
+                self.act(place, &act)
+            }
+            Event::Clock { ns } => Ok(self.clock_at(*ns)),
             Event::Kevent {
                 pid,
                 fd,

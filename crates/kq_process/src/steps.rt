@@ -1,7 +1,7 @@
 // The records about one process, the clock, a new kqueue and a kevent call.
 ghost use Rattle.std.specs.Prelude.{◌≡◌, ℕ, IfOk, OnOk, OnErr};
 ghost use Rattle.kq_model.specs.DescriptorPlans.{plan_kqueue, plan_kevent};
-ghost use Rattle.kq_model.specs.ProcessPlans.{plan_proc, plan_exec, plan_sigset, plan_sig, plan_clock};
+ghost use Rattle.kq_model.specs.ProcessPlans.{plan_proc, plan_exec, plan_sigset, plan_sig, plan_clock, plan_clock_at};
 
 use crate::effect::Effect;
 use crate::world::World;
@@ -60,6 +60,19 @@ impl World {
         }
         self.clock = moment;
         Effect::quiet(alloc)
+    }
+
+    /// The same for a moment that may be below 0, where the clock never is. ClockBack: it would go
+    /// back.
+    #[tactic(auto, unfolding(kq_model::specs::ProcessPlans::plan_clock_at))]
+    pub fn clock_at(&mut self, moment: i64) -> Effect
+        ensures effect { IsEffectBy (plan_clock_at moment) self.old result }
+        ensures world { (place : ℕ) → IsNext place (plan_clock_at moment) self.old self.new }
+    {
+        if moment < 0 {
+            return Effect::impossible(self.processes.allocator(), Why::ClockBack);
+        }
+        self.clock(moment as u64)
     }
 
     /// A process opens a kqueue, named by the record's place, under a number that is not open

@@ -9,7 +9,7 @@ use Rattle.kq_model.specs.Call as kevent
 use Rattle.kq_model.specs.Caller.{Caller}
 use Rattle.kq_model.specs.LiveKqueues.{has_live}
 use Rattle.kq_model.specs.Moment.{Moment, called_at, caller_at}
-use Rattle.kq_model.specs.System.{answer, lived, stepped}
+use Rattle.kq_model.specs.System.{answer, stepped}
 use Rattle.kq_model.specs.Tallied.{Called, Kqueue, Live}
 use Rattle.kq_model.specs.Views.{Views}
 use Rattle.kq_model.specs.World.{Call}

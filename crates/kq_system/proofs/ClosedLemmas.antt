@@ -1,5 +1,5 @@
 -- After a record no kqueue has a READ, WRITE or VNODE knote of a number that was closed in its process.
-use Rattle.std.proofs.Common.{◌≡◌, ◌∙◌, ◌⊎◌, inl, inr, ◌+◌, ◌++◌, ℕ, List, [], ◌∷◌, Option, None, Some, refl, sym, ap, subst}
+use Rattle.std.proofs.Common.{◌≡◌, ◌∙◌, ◌⊎◌, inl, inr, ◌+◌, ℕ, List, [], ◌∷◌, Option, None, Some, sym, ap, subst}
 use Rattle.std.proofs.lemmas.List.Elements.{All-nil, All-cons, All-append}
 use Rattle.std.specs.Prelude.{All}
 use Rattle.kq_model.specs.declared.event.Event.{Event}
@@ -18,6 +18,7 @@ use Rattle.kq_model.specs.Tallied.{System, World}
 use Rattle.kq_model.specs.World.{Plan, Planned, Possible, seen_world}
 use Rattle.kq_model.proofs.CloseLaw.{lived-closed, none-closed}
 use Rattle.kq_system.specs.SystemState.{IsStep}
+use Rattle.kq_system.proofs.ClockLemmas.{clock-calls}
 use Rattle.kq_system.proofs.PlainPlans.{other-plain}
 use Rattle.kq_system.proofs.StepLemmas.{kevent_plan, kqueue_plan, possible_call, possible_kqueue}
 
@@ -69,6 +70,19 @@ calls_or_closes place (event.Pipe pid rfd wfd cap) w p is =
     inl ((other-plain (event.Pipe pid rfd wfd cap) tt).call place w p is)
 calls_or_closes place (event.Read pid fd n) w p is = inl ((other-plain (event.Read pid fd n) tt).call place w p is)
 calls_or_closes place (event.Write pid fd n) w p is = inl ((other-plain (event.Write pid fd n) tt).call place w p is)
+calls_or_closes place (event.Exec pid) w p is = inl ((other-plain (event.Exec pid) tt).call place w p is)
+calls_or_closes place (event.Sigset pid sig ignore) w p is =
+    inl ((other-plain (event.Sigset pid sig ignore) tt).call place w p is)
+calls_or_closes place (event.Sig pid sig) w p is = inl ((other-plain (event.Sig pid sig) tt).call place w p is)
+calls_or_closes place (event.File file size) w p is = inl ((other-plain (event.File file size) tt).call place w p is)
+calls_or_closes place (event.Open pid fd file mode) w p is =
+    inl ((other-plain (event.Open pid fd file mode) tt).call place w p is)
+calls_or_closes place (event.Seek pid fd offset) w p is =
+    inl ((other-plain (event.Seek pid fd offset) tt).call place w p is)
+calls_or_closes place (event.Truncate file size) w p is =
+    inl ((other-plain (event.Truncate file size) tt).call place w p is)
+calls_or_closes place (event.Note file note) w p is = inl ((other-plain (event.Note file note) tt).call place w p is)
+calls_or_closes place (event.Clock ns) w p is = inl (clock-calls place ns w p is)
 
 -- ---- a step
 

@@ -1,5 +1,5 @@
 -- To show a record to the kqueues that it concerns is to show it to all.
-use Rattle.std.proofs.Common.{◌≡◌, ◌∙◌, ◌==◌, ◌||◌, ◌&&◌, ◌<◌, ◌≤◌, ◌++◌, ℕ, Bool, true, false, not, cond, List, [], ◌∷◌, map, filter, nat_eq, Option, None, Some, refl, sym, ap, ap₂, subst, arith}
+use Rattle.std.proofs.Common.{◌≡◌, ◌∙◌, ◌==◌, ◌||◌, ◌&&◌, ◌<◌, ◌++◌, ℕ, Bool, true, false, not, cond, List, [], ◌∷◌, map, filter, nat_eq, Option, None, Some, refl, sym, ap, ap₂, subst, arith}
 use Rattle.std.proofs.lemmas.Bool.{eqb-true}
 use Rattle.std.proofs.lemmas.Bool.Decides.{nat_tests}
 use Rattle.std.proofs.lemmas.List.Elements.{All-head, All-tail}
@@ -26,22 +26,10 @@ use Rattle.kq_model.proofs.SubjectsCall.{closed-subjects, notified-subjects}
 use Rattle.kq_process.specs.Effects.{pairs_in}
 use Rattle.kq_system.specs.Places.{has_place, places_at}
 use Rattle.kq_system.specs.Showing.{AreFound, ArePassed, AreShown, Each, IsListed, IsPassed, IsTold, asks_owned, asks_watching}
-use Rattle.kq_system.specs.SystemState.{AreOfVersion, AreUpTo, HaveStayed, NumberedKqueue, goes_on, happened_to, happened_to_all, live_of}
-use Rattle.kq_system.proofs.CallLemmas.{same_live}
+use Rattle.kq_system.specs.SystemState.{NumberedKqueue, goes_on, happened_to, happened_to_all, live_of}
 use Rattle.kq_system.proofs.QuietLemmas.{all_kept}
-use Rattle.kq_system.proofs.ShowLemmas.{Each-from, Each-found, Entries, Was, by_test, was}
-
-abbrev pub stands : ℕ × NumberedKqueue → Bool
-stands e = not e.1.ended
-
-abbrev pub AreStanding : Entries → Type 0
-AreStanding es = Each (λ place v. v.ended ≡ false) es
-
-pub all_standing : (es : Entries) → AreStanding es → filter stands es ≡ es
-all_standing [] all = refl
-all_standing (e ∷ es) all =
-    ap (λ b. cond (not b) (e ∷ filter stands es) (filter stands es)) all.0
-    ∙ ap (λ (l : Entries). e ∷ l) (all_standing es all.1)
+use Rattle.kq_system.proofs.PassedLemmas.{AreStanding, not_yet, placed, same_keys, stands}
+use Rattle.kq_system.proofs.ShowLemmas.{Each-from, Each-found, Entries, by_test, was}
 
 no_case : {X : Type 0} (b : Bool) → b ≡ true → b ≡ false → X
 no_case b is away = absurd (cc)
@@ -175,7 +163,7 @@ unhinted_one watching place k (p ∷ ps) listed others away =
     both_false (is_target k.target p.0) (list_any (λ (q : Posted). is_target k.target q.0) ps)
     (by_test (λ b. is_target k.target p.0 ≡ b → b ≡ false) (is_target k.target p.0)
     (λ _ is. no_case (has_place place (places_at target_equal.eq-value.it watching p.0))
-    (listed p.0 (watched k.target p.0 is) others.0) parts.0)
+    (listed.0 p.0 (watched k.target p.0 is) others.0) parts.0)
     (λ _ _. refl) refl)
     (unhinted_one watching place k ps listed others.1 parts.1)
 
@@ -190,6 +178,14 @@ unhinted watching place (k ∷ ks) posted listed others away = (
 )
 
 -- ---- all of them
+
+-- what holds of the subjects of its knotes goes on to hold
+pub told_subjects : (pairs : List Pair) (hints : List Posted) (views : Views) (P : Filter → ℕ → Option Target → Type 0)
+    (v w : NumberedKqueue) → IsTold pairs hints views v w → w.ended ≡ false → HaveSubjects P v.kq.kq.knotes
+    → HaveSubjects P w.kq.kq.knotes
+told_subjects pairs hints views P v w told stays has =
+    subst (λ (kq : Kqueue). HaveSubjects P kq.knotes) (sym (told.kq stays))
+    (notified-subjects tallying P views hints _ (closed-subjects tallying P v.kq.owner pairs v.kq.kq has))
 
 module _ (round : ℕ) (pairs : List Pair) (hints : List Posted) (views : Views) where
   abbrev becomes : Live → Live
@@ -208,14 +204,8 @@ module _ (round : ℕ) (pairs : List Pair) (hints : List Posted) (views : Views)
   joined false true n rest l ls same one others = absurd (cc)
   joined false false n rest l ls same one others = others
 
-  placed : (e n : ℕ × NumberedKqueue) (kq : Kqueue) → n.0 ≡ e.0 → n.1.number ≡ e.1.number → n.1.kq.owner ≡ e.1.kq.owner
-      → n.1.kq.kq ≡ kq → live_of n ≡ record { place = e.0; owner = e.1.kq.owner; number = e.1.number; kq = kq }
-  placed e n kq place number owner is =
-      ap (λ p. let l : Live = record { place = p; owner = n.1.kq.owner; number = n.1.number; kq = n.1.kq.kq } in l) place
-      ∙ same_live e.0 n.1.kq.owner e.1.kq.owner n.1.number e.1.number n.1.kq.kq kq owner number is
-
   one_became : (e n : ℕ × NumberedKqueue) (rest : Entries) (ls : List Live) → n.0 ≡ e.0
-      → IsPassed round pairs hints views e.1 n.1 → e.1.ended ≡ false → (e.1.shown ≡ round → ⊥)
+      → IsPassed round (IsTold pairs hints views) e.1 n.1 → e.1.ended ≡ false → (e.1.shown ≡ round → ⊥)
       → ((n.1.shown ≡ round → ⊥) → IsUntouched n.1) → map live_of rest ≡ map becomes ls
       → map live_of (cond (stands n) (n ∷ rest) rest) ≡ map becomes (cond (goes_on pairs (live_of e)) (live_of e ∷ ls) ls)
   one_became e n rest ls place passed was_standing fresh untouched others =
@@ -244,7 +234,7 @@ module _ (round : ℕ) (pairs : List Pair) (hints : List Posted) (views : Views)
       unlike : (a b : ℕ) → nat_eq a b ≡ false → a ≡ b → ⊥
       unlike a b apart same = grind (arith, nat_tests)
 
-  pub all_became : (es ns : Entries) → ArePassed round pairs hints views es ns → AreStanding es
+  pub all_became : (es ns : Entries) → ArePassed round (IsTold pairs hints views) es ns → AreStanding es
       → Each (λ place v. v.shown ≡ round → ⊥) es → Each (λ place w. (w.shown ≡ round → ⊥) → IsUntouched w) ns
       → map live_of (filter stands ns) ≡ happened_to_all pairs hints views (map live_of es)
   all_became [] [] passed standing fresh untouched = refl
@@ -253,119 +243,6 @@ module _ (round : ℕ) (pairs : List Pair) (hints : List Posted) (views : Views)
   all_became (e ∷ es) (n ∷ ns) passed standing fresh untouched =
       one_became e n (filter stands ns) (filter (goes_on pairs) (map live_of es)) passed.0 passed.1 standing.0 fresh.0
       untouched.0 (all_became es ns passed.2 standing.1 fresh.1 untouched.1)
-
-  -- what holds of those that were shown the record, and go on
-  kept_one : (P : ℕ → NumberedKqueue → Type 0) (n : ℕ × NumberedKqueue) (rest : Entries) (b : Bool) → n.1.ended ≡ b
-      → (n.1.ended ≡ false → P n.0 n.1) → Each P rest → Each P (cond (not b) (n ∷ rest) rest)
-  kept_one P n rest true is here others = others
-  kept_one P n rest false is here others = (here is, others)
-
-  pub all_keep : (P Q : ℕ → NumberedKqueue → Type 0)
-      → ((k : ℕ) (v w : NumberedKqueue) → IsPassed round pairs hints views v w → w.ended ≡ false → P k v → Q k w)
-      → (es ns : Entries) → ArePassed round pairs hints views es ns → Each P es → Each Q (filter stands ns)
-  all_keep P Q keeps [] [] passed all = tt
-  all_keep P Q keeps [] (n ∷ ns) passed all = absurd passed
-  all_keep P Q keeps (e ∷ es) [] passed all = absurd passed
-  all_keep P Q keeps (e ∷ es) (n ∷ ns) passed all =
-      kept_one Q n (filter stands ns) n.1.ended refl
-      (λ stays. subst (λ k. Q k n.1) (sym passed.0) (keeps e.0 e.1 n.1 passed.1 stays all.0))
-      (all_keep P Q keeps es ns passed.2 all.1)
-
-  subjects_kept : (P : Filter → ℕ → Option Target → Type 0) (v w : NumberedKqueue) → IsPassed round pairs hints views v w → w.ended ≡ false
-      → (v.shown ≡ round → ⊥) → HaveSubjects P v.kq.kq.knotes → HaveSubjects P w.kq.kq.knotes
-  subjects_kept P v w passed stays fresh has =
-      by_test (λ b. nat_eq w.shown round ≡ b → HaveSubjects P w.kq.kq.knotes) (nat_eq w.shown round)
-      (λ _ is.
-      let seen : w.shown ≡ round = grind (arith, nat_tests) in
-      let told = passed.told fresh seen in
-      subst (λ (kq : Kqueue). HaveSubjects P kq.knotes) (sym (told.kq stays))
-      (notified-subjects tallying P views hints _ (closed-subjects tallying P v.kq.owner pairs v.kq.kq has)))
-      (λ _ other.
-      let unseen : w.shown ≡ round → ⊥ = λ same. grind (arith, nat_tests) in
-      subst (λ (x : NumberedKqueue). HaveSubjects P x.kq.kq.knotes) (sym (passed.unseen unseen)) has) refl
-
-  abbrev Owns : {S : Type 0} → HashMap ℕ (List ℕ) S → ℕ → NumberedKqueue → Type 0
-  Owns owned place v = has_place place (places_at nat_eq owned v.kq.owner) ≡ true
-
-  module _ {S T : Type 0} (owned : HashMap ℕ (List ℕ) S) (watching : HashMap Target (List ℕ) T) (last : ℕ)
-      (later : last < round) where
-    abbrev Watches : ℕ → NumberedKqueue → Type 0
-    Watches place v = HaveSubjects (IsListed place watching) v.kq.kq.knotes
-
-    seen_before : (es : Entries) → Each (λ place v. v.shown ≤ last) es → Each (λ place v. v.shown ≡ round → ⊥) es
-    seen_before [] all = tt
-    seen_before (e ∷ es) all = (λ same. absurd (omega (arith, all.0, same, later)), seen_before es all.1)
-
-    pair_each : (P Q : ℕ → NumberedKqueue → Type 0) (es : Entries) → Each P es → Each Q es
-        → Each (λ place v. P place v × Q place v) es
-    pair_each P Q [] first second = tt
-    pair_each P Q (e ∷ es) first second = ((first.0, second.0), pair_each P Q es first.1 second.1)
-
-    shown_kept : (v w : NumberedKqueue) → IsPassed round pairs hints views v w → v.shown ≤ last → w.shown ≤ round
-    shown_kept v w passed le =
-        by_test (λ b. nat_eq w.shown round ≡ b → w.shown ≤ round) (nat_eq w.shown round)
-        (λ _ is. grind (arith, nat_tests))
-        (λ _ other.
-        let unseen : w.shown ≡ round → ⊥ = λ same. grind (arith, nat_tests) in
-        let same : w.shown ≡ v.shown = ap (λ (x : NumberedKqueue). x.shown) (passed.unseen unseen) in
-        omega (arith, same, le, later)) refl
-
-    pub found_after : (es ns : Entries) (spare spare' : ℕ) (prepared : Option (ℕ × ℕ))
-        → AreFound es spare prepared owned watching last → ArePassed round pairs hints views es ns
-        → AreFound (filter stands ns) spare' None owned watching round
-    found_after es ns spare spare' prepared found passed = record {
-      by_owner = all_keep (Owns owned) (Owns owned)
-          (λ k v w was _ has. subst (λ owner. has_place k (places_at nat_eq owned owner) ≡ true) (sym was.owner) has)
-          es ns passed found.by_owner;
-      by_target = all_keep (λ place v. (v.shown ≡ round → ⊥) × Watches place v) Watches
-          (λ k v w was stays has. subjects_kept (IsListed k watching) v w was stays has.0 has.1) es ns passed
-          (pair_each (λ place v. v.shown ≡ round → ⊥) Watches es (seen_before es found.shown) found.by_target);
-      shown = all_keep (λ place v. v.shown ≤ last) (λ place w. w.shown ≤ round)
-          (λ k v w was _ le. shown_kept v w was le) es ns passed found.shown;
-      standing = all_keep (λ place v. v.ended ≡ false) (λ place w. w.ended ≡ false) (λ k v w was stays _. stays)
-          es ns passed found.standing;
-      room = λ birth is. absurd (cc);
-    }
-
-  same_keys : (es ns : Entries) → ArePassed round pairs hints views es ns → keys_of ns ≡ keys_of es
-  same_keys [] [] passed = refl
-  same_keys [] (n ∷ ns) passed = absurd passed
-  same_keys (e ∷ es) [] passed = absurd passed
-  same_keys (e ∷ es) (n ∷ ns) passed = ap₂ (λ k (ks : List ℕ). k ∷ ks) passed.0 (same_keys es ns passed.2)
-
-  -- no kqueue comes, and those that stay are of their version
-  version_kept : (version : ℕ) (e n : ℕ × NumberedKqueue) (rest : Entries) (b : Bool)
-      → IsPassed round pairs hints views e.1 n.1 → e.1.kq.version ≡ version → AreOfVersion version rest
-      → AreOfVersion version (cond b (n ∷ rest) rest)
-  version_kept version e n rest true passed is all = (passed.version ∙ is, all)
-  version_kept version e n rest false passed is all = all
-
-  of_version : (version : ℕ) (es ns : Entries) → ArePassed round pairs hints views es ns → AreOfVersion version es
-      → AreOfVersion version (filter stands ns)
-  of_version version [] [] passed all = tt
-  of_version version [] (n ∷ ns) passed all = absurd passed
-  of_version version (e ∷ es) [] passed all = absurd passed
-  of_version version (e ∷ es) (n ∷ ns) passed all =
-      version_kept version e n (filter stands ns) (stands n) passed.1 all.0 (of_version version es ns passed.2 all.1)
-
-  place_kept : (most : ℕ) (e n : ℕ × NumberedKqueue) (rest : Entries) (b : Bool) → n.0 ≡ e.0 → e.0 ≤ most
-      → AreUpTo most (keys_of rest) → AreUpTo most (keys_of (cond b (n ∷ rest) rest))
-  place_kept most e n rest true same le all = (subst (λ k. k ≤ most) (sym same) le, all)
-  place_kept most e n rest false same le all = all
-
-  up_to : (most : ℕ) (es ns : Entries) → ArePassed round pairs hints views es ns → AreUpTo most (keys_of es)
-      → AreUpTo most (keys_of (filter stands ns))
-  up_to most [] [] passed all = tt
-  up_to most [] (n ∷ ns) passed all = absurd passed
-  up_to most (e ∷ es) [] passed all = absurd passed
-  up_to most (e ∷ es) (n ∷ ns) passed all =
-      place_kept most e n (filter stands ns) (stands n) passed.0 all.0 (up_to most es ns passed.2 all.1)
-
-  pub shown_stayed : (es ns : Entries) → ArePassed round pairs hints views es ns → HaveStayed es (filter stands ns)
-  shown_stayed es ns passed = record {
-    of_version = λ version all. of_version version es ns passed all;
-    up_to = λ most all. up_to most es ns passed all;
-  }
 
 -- a record that was shown to all that its indexes name was shown to all
 module _ (round : ℕ) (ps : List (ℕ × ℕ)) (hints : List Posted) (views : Views) {S T : Type 0}
@@ -376,7 +253,7 @@ module _ (round : ℕ) (ps : List (ℕ × ℕ)) (hints : List Posted) (views : V
 
   module _ (es ns : Entries) (any : Bool) (spare : ℕ) (prepared : Option (ℕ × ℕ))
       (found : AreFound es spare prepared owned watching last)
-      (shown : AreShown round (pairs_in ps) hints views asked any es ns) where
+      (shown : AreShown round (IsTold (pairs_in ps) hints views) asked any es ns) where
     left_out : (place : ℕ) (w : NumberedKqueue) → lookup (nat_eq place) ns ≡ Some w → (w.shown ≡ round → ⊥)
         → asked place ≡ false
     left_out place w here unseen =
@@ -387,7 +264,7 @@ module _ (round : ℕ) (ps : List (ℕ × ℕ)) (hints : List Posted) (views : V
     untouched : (place : ℕ) (w : NumberedKqueue) → lookup (nat_eq place) ns ≡ Some w → (w.shown ≡ round → ⊥)
         → IsUntouched round (pairs_in ps) hints views w
     untouched place w here unseen =
-        let before = was round (pairs_in ps) hints views place es ns w shown.passed here in
+        let before = was round (IsTold (pairs_in ps) hints views) place es ns w shown.passed here in
         let v = before.it in
         let parts = or_parts (asks_owned owned ps place) (asks_watching watching hints place)
         (left_out place w here unseen) in
@@ -403,14 +280,10 @@ module _ (round : ℕ) (ps : List (ℕ × ℕ)) (hints : List Posted) (views : V
         } in
         subst (IsUntouched round (pairs_in ps) hints views) (sym (before.passed.unseen unseen)) it
 
-    fresh : (xs : Entries) → Each (λ place v. v.shown ≤ last) xs → Each (λ place v. v.shown ≡ round → ⊥) xs
-    fresh [] all = tt
-    fresh (x ∷ xs) all = (λ same. absurd (omega (arith, all.0, same, later)), fresh xs all.1)
-
     pub concerned : IsDistinct nat_eq (keys_of es)
         → map live_of (filter stands ns) ≡ happened_to_all (pairs_in ps) hints views (map live_of es)
     concerned distinct =
-        all_became round (pairs_in ps) hints views es ns shown.passed found.standing (fresh es found.shown)
+        all_became round (pairs_in ps) hints views es ns shown.passed found.standing (not_yet round last later es found.shown)
         (Each-from (λ place w. (w.shown ≡ round → ⊥) → IsUntouched round (pairs_in ps) hints views w) ns
-        (subst (IsDistinct nat_eq) (sym (same_keys round (pairs_in ps) hints views es ns shown.passed)) distinct)
+        (subst (IsDistinct nat_eq) (sym (same_keys round (IsTold (pairs_in ps) hints views) es ns shown.passed)) distinct)
         untouched)

@@ -12,6 +12,7 @@ use Rattle.kq_model.specs.declared.change.Change.{Change}
 use Rattle.kq_model.specs.declared.filter.Filter.{Filter}
 use Rattle.kq_model.specs.declared.memory.Memory.{Memory}
 use Rattle.kq_model.specs.declared.object.Target.{Target}
+use Rattle.kq_model.specs.declared.object.Target.TheVariants.{Own}
 use Rattle.kq_model.specs.declared.reply.Reply.{Reply}
 use Rattle.kq_model.specs.Bits.{add, asks, delete}
 use Rattle.kq_model.specs.Call as kevent
@@ -19,7 +20,6 @@ use Rattle.kq_model.specs.Caller.{Caller}
 use Rattle.kq_model.specs.ChangedKnote.{key_of}
 use Rattle.kq_model.specs.Close.{Pair}
 use Rattle.kq_model.specs.Hearing.{tallying}
-use Rattle.kq_model.specs.Hints.{notified}
 use Rattle.kq_model.specs.Knote.{find_knote}
 use Rattle.kq_model.specs.Refusals.{is_malformed, is_unopened, own_refusal}
 use Rattle.kq_model.specs.Registration.{Decision, Make, Modify, Refuse, Remove, decided, decision, unless_refused}
@@ -31,7 +31,7 @@ use Rattle.std.proofs.lemmas.Bool.{cond_both, true≢false}
 use Rattle.kq_model.specs.declared.errno.Errno.{Errno}
 use Rattle.kq_model.proofs.SubjectsCall.{call-subjects, closed-subjects, notified-subjects}
 use Rattle.kq_system.specs.Places.{Grows, has_place, places_at}
-use Rattle.kq_system.specs.Showing.{AreFound, Each, IsListed}
+use Rattle.kq_system.specs.Showing.{AreFound, Each, IsFound, IsListed}
 use Rattle.kq_system.specs.SystemState.{NumberedKqueue}
 use Rattle.kq_system.proofs.HappenLemmas.{Says}
 use Rattle.kq_system.proofs.ShowLemmas.{Each-found, Each-push, Each-set, Each-weaker, Entries}
@@ -39,12 +39,18 @@ use Rattle.kq_system.proofs.ShowLemmas.{Each-found, Each-push, Each-set, Each-we
 same_number : (a b : ℕ) → nat_eq a b ≡ true → a ≡ b
 same_number a b h = grind (arith, nat_tests)
 
+-- what is found is found among more
+pub found_among : {T : Type 0} (place : ℕ) (old new : HashMap Target (List ℕ) T) → Grows target_equal.eq-value.it old new
+    → (filter : Filter) (target : Option Target) → IsFound place old filter target → IsFound place new filter target
+found_among place old new more filter target found =
+    (λ t is other. more.grows t place (found.0 t is other), λ timer. more.grows Own place (found.1 timer))
+
 -- a set of knotes under more places
 pub listed_more : {T : Type 0} (place : ℕ) (old new : HashMap Target (List ℕ) T) → Grows target_equal.eq-value.it old new
     → (ks : List Knote) → HaveSubjects (IsListed place old) ks → HaveSubjects (IsListed place new) ks
 listed_more place old new more ks has =
     All-weaker (HasSubject (IsListed place old)) (HasSubject (IsListed place new))
-    (λ k listed t is other. more.grows t place (listed t is other)) ks has
+    (λ k found. found_among place old new more k.key.filter k.target found) ks has
 
 -- ---- where a record was shown to all
 

@@ -5,8 +5,12 @@ pub mod RowLemmas
 pub mod HappenLemmas
 pub mod PlainPlans
 pub mod StepLemmas
+pub mod ClockLemmas
 pub mod ClosedLemmas
 pub mod ShowLemmas
+pub mod PassedLemmas
+pub mod TickLemmas
+pub mod PlaceLemmas
 pub mod ConcernedLemmas
 pub mod FoundLemmas
 pub mod RenewLemmas

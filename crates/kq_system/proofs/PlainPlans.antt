@@ -1,5 +1,5 @@
--- Every record but two calls no kqueue and makes none, and none of them moves the clock.
-use Rattle.std.proofs.Common.{◌≡◌, ◌∙◌, ℕ, Bool, cond, not, eqb, List, [], ◌∷◌, Option, Some, None, Ok, Err, refl, sym, subst}
+-- Every record but three calls no kqueue, makes none and leaves the clock as it is.
+use Rattle.std.proofs.Common.{◌≡◌, ℕ, ℤ, Bool, cond, not, eqb, List, [], ◌∷◌, Option, Some, None, Ok, Err, refl, subst}
 use Rattle.std.proofs.lemmas.Bool.{cond_both}
 use Rattle.std.specs.Option.{is_some}
 use Rattle.kq_model.specs.declared.act.Act.{Act}
@@ -13,12 +13,12 @@ use Rattle.kq_model.specs.declared.why.Why.{Why}
 use Rattle.kq_model.specs.Descriptors.{Descriptor}
 use Rattle.kq_model.specs.DescriptorPlans.{on_named, on_descriptor, plan_close, duplicated, plan_dup}
 use Rattle.kq_model.specs.ObjectPlan as object
-use Rattle.kq_model.specs.ObjectRecordPlans.{with_objects, plan_act, plan_at, unless_open, if_live, pipe_ends, plan_socket, plan_accept, plan_pipe}
+use Rattle.kq_model.specs.ObjectRecordPlans.{with_objects, plan_act, plan_at, unless_open, if_live, plan_socket, plan_accept, plan_open, plan_pipe}
 use Rattle.kq_model.specs.Objects.{counted}
 use Rattle.kq_model.specs.Planning as object_planning
 use Rattle.kq_model.specs.Plans.{plan}
 use Rattle.kq_model.specs.Processes.{was_used, is_live}
-use Rattle.kq_model.specs.ProcessPlans.{plan_exit, plan_fork, plan_proc}
+use Rattle.kq_model.specs.ProcessPlans.{is_signal, plan_exec, plan_exit, plan_fork, plan_proc, plan_sig, plan_sigset}
 use Rattle.kq_model.specs.World.{World, Plan, Planned, Impossible, Possible, named_by}
 use Rattle.kq_system.specs.SystemState.{IsPlain}
 
@@ -82,20 +82,23 @@ duplicated-plain pid fd to w n =
 
 -- ---- records
 
--- a record that neither makes a kqueue nor calls one
+-- a record that neither makes a kqueue nor calls one, nor moves the clock
 abbrev pub IsOther : Event → Type 0
 IsOther (event.Kqueue pid fd) = ⊥
 IsOther (event.Kevent pid fd changes room) = ⊥
+IsOther (event.Clock ns) = ⊥
 IsOther _ = Unit {0}
 
 pub other : (e : Event) → ((pid fd : ℕ) → e ≡ event.Kqueue pid fd → ⊥)
-    → ((pid fd : ℕ) (changes : List Change) (room : ℕ) → e ≡ event.Kevent pid fd changes room → ⊥) → IsOther e
-other (event.Kqueue pid fd) makes calls = makes pid fd refl
-other (event.Kevent pid fd changes room) makes calls = calls pid fd changes room refl
-other _ makes calls = tt
+    → ((pid fd : ℕ) (changes : List Change) (room : ℕ) → e ≡ event.Kevent pid fd changes room → ⊥)
+    → ((ns : ℤ) → e ≡ event.Clock ns → ⊥) → IsOther e
+other (event.Kqueue pid fd) makes calls moves = makes pid fd refl
+other (event.Kevent pid fd changes room) makes calls moves = calls pid fd changes room refl
+other (event.Clock ns) makes calls moves = moves ns refl
+other _ makes calls moves = tt
 
 record-plain : (place : ℕ) (e : Event) (w : World counted) → IsOther e → Plain (plan place e w)
-unfolding plan plan_proc plan_fork plan_exit plan_dup plan_close plan_socket plan_accept plan_pipe
+unfolding plan plan_proc plan_fork plan_exec plan_exit plan_sigset plan_sig plan_dup plan_close plan_socket plan_accept plan_open plan_pipe
 record-plain place (event.Proc pid) w is = either (was_used pid w.processes) impossible (record { plain = (refl, refl, refl) })
 record-plain place (event.Fork pid child) w is =
     either (not (is_live pid w.processes)) impossible
@@ -124,6 +127,21 @@ record-plain place (event.Pipe pid rfd wfd cap) w is =
     (unless_open-plain pid (rfd ∷ wfd ∷ []) w _ (plan_act-plain place _ (act.Pipe cap) w)))
 record-plain place (event.Read pid fd n) w is = plan_at-plain place pid fd (λ on. act.Read on n) w
 record-plain place (event.Write pid fd n) w is = plan_at-plain place pid fd (λ on. act.Write on n) w
+record-plain place (event.Exec pid) w is =
+    either (not (is_live pid w.processes)) impossible (record { plain = (refl, refl, refl) })
+record-plain place (event.Sigset pid sig ignore) w is =
+    either (not (is_live pid w.processes)) impossible
+    (either (not (is_signal sig)) impossible (record { plain = (refl, refl, refl) }))
+record-plain place (event.Sig pid sig) w is =
+    either (not (is_live pid w.processes)) impossible
+    (either (not (is_signal sig)) impossible (record { plain = (refl, refl, refl) }))
+record-plain place (event.File file size) w is = plan_act-plain place [] (act.File file size) w
+record-plain place (event.Open pid fd file mode) w is =
+    if_live-plain pid w _ (unless_open-plain pid (fd ∷ []) w _ (plan_act-plain place _ (act.Open file mode) w))
+record-plain place (event.Seek pid fd offset) w is = plan_at-plain place pid fd (λ on. act.Seek on offset) w
+record-plain place (event.Truncate file size) w is = plan_act-plain place [] (act.Truncate file size) w
+record-plain place (event.Note file note) w is = plan_act-plain place [] (act.Note file note) w
+record-plain place (event.Clock ns) w is = absurd is
 record-plain place (event.Kevent pid fd changes room) w is = absurd is
 
 plain_plan : (place : ℕ) (e : Event) (w : World counted) (p : Plan) → IsOther e → plan place e w ≡ Possible p

@@ -1,5 +1,5 @@
 -- A moment without closes, hints and clock leaves each kqueue as it is before its call.
-use Rattle.std.proofs.Common.{◌≡◌, ◌∙◌, ◌==◌, ◌&&◌, ℕ, Bool, true, false, not, List, [], ◌∷◌, filter, map, Some, None, refl, ap, ap₂, sym}
+use Rattle.std.proofs.Common.{◌≡◌, ◌∙◌, ◌==◌, ◌&&◌, ℕ, Bool, true, false, not, List, [], ◌∷◌, filter, map, Some, None, refl, ap, ap₂}
 use Rattle.kq_model.specs.declared.key.Key.{Key}
 use Rattle.kq_model.specs.Close.{closed, has_pair, is_closed}
 use Rattle.kq_model.specs.Descriptors.{Descriptor, without_closed}

@@ -4,11 +4,8 @@ use Rattle.std.proofs.lemmas.List.{take_all}
 use Rattle.std.proofs.lemmas.Bool.Decides.{nat_tests}
 use Rattle.std.specs.List.{AllByRecursion, IsDistinct, list_any}
 use Rattle.std.specs.Map.{lookup, keys_of, set_value}
-use Rattle.kq_model.specs.Close.{Pair}
-use Rattle.kq_model.specs.Targets.{Posted}
-use Rattle.kq_model.specs.Views.{Views}
 use Rattle.kq_system.specs.SystemState.{NumberedKqueue}
-use Rattle.kq_system.specs.Showing.{AreShown, ArePassed, Each, IsPassed, IsTold}
+use Rattle.kq_system.specs.Showing.{AreShown, ArePassed, Each, IsPassed}
 
 abbrev pub Entries : Type 0
 Entries = List (ℕ × NumberedKqueue)
@@ -124,12 +121,12 @@ read_back k [] w u found = absurd (cc)
 read_back k (e ∷ es) w u found =
     read_step k e es (set_value (nat_eq k) es w) w u (nat_eq k e.0) refl (read_back k es w u) found
 
-module _ (round : ℕ) (pairs : List Pair) (hints : List Posted) (views : Views) where
+module _ (round : ℕ) (Told : NumberedKqueue → NumberedKqueue → Type 0) where
   abbrev Passed : NumberedKqueue → NumberedKqueue → Type 0
-  Passed = IsPassed round pairs hints views
+  Passed = IsPassed round Told
 
   abbrev All_passed : Entries → Entries → Type 0
-  All_passed = ArePassed round pairs hints views
+  All_passed = ArePassed round Told
 
   -- ---- one kqueue
 
@@ -143,11 +140,11 @@ module _ (round : ℕ) (pairs : List Pair) (hints : List Posted) (views : Views)
     told = λ fresh seen. absurd (fresh seen);
   }
 
-  told_before : (u v w : NumberedKqueue) → w ≡ v → IsTold round pairs hints views u v → IsTold round pairs hints views u w
-  told_before u v w same told = subst (IsTold round pairs hints views u) (sym same) told
+  told_before : (u v w : NumberedKqueue) → w ≡ v → Told u v → Told u w
+  told_before u v w same told = subst (Told u) (sym same) told
 
-  told_later : (u v w : NumberedKqueue) → v ≡ u → IsTold round pairs hints views v w → IsTold round pairs hints views u w
-  told_later u v w same told = subst (λ x. IsTold round pairs hints views x w) same told
+  told_later : (u v w : NumberedKqueue) → v ≡ u → Told v w → Told u w
+  told_later u v w same told = subst (λ x. Told x w) same told
 
   pub passed-twice : (u v w : NumberedKqueue) → Passed u v → Passed v w → Passed u w
   passed-twice u v w first second = record {
@@ -158,7 +155,7 @@ module _ (round : ℕ) (pairs : List Pair) (hints : List Posted) (views : Views)
         ∙ first.unseen (λ seen. unseen (ap (λ (x : NumberedKqueue). x.shown) (second.already seen) ∙ seen));
     already = λ seen. second.already (ap (λ (x : NumberedKqueue). x.shown) (first.already seen) ∙ seen)
         ∙ first.already seen;
-    told = λ fresh seen. by_test (λ b. nat_eq v.shown round ≡ b → IsTold round pairs hints views u w)
+    told = λ fresh seen. by_test (λ b. nat_eq v.shown round ≡ b → Told u w)
         (nat_eq v.shown round)
         (λ _ is. let shown = is_number v.shown round is in
         told_before u v w (second.already shown) (first.told fresh shown))
@@ -235,7 +232,7 @@ module _ (round : ℕ) (pairs : List Pair) (hints : List Posted) (views : Views)
   -- ---- some that are shown the record
 
   abbrev Shown : (ℕ → Bool) → Bool → Entries → Entries → Type 0
-  Shown = AreShown round pairs hints views
+  Shown = AreShown round Told
 
   or_false : (a b : Bool) → (a || b) ≡ false → (a ≡ false) × (b ≡ false)
   or_false true b is = absurd (cc)
@@ -299,3 +296,15 @@ module _ (round : ℕ) (pairs : List Pair) (hints : List Posted) (views : Views)
         ∙ shown;
     calm = λ none all. Each-set (λ place v. v.ended ≡ false) place es w all (λ j hit. none);
   }
+
+  -- one that ends at no record of this kind
+  pub shown-standing : (place : ℕ) (es : Entries) (v w : NumberedKqueue) → lookup (nat_eq place) es ≡ Some v → Passed v w
+      → w.shown ≡ round → w.ended ≡ v.ended → Shown (λ p. nat_eq p place) false es (set_value (nat_eq place) es w)
+  shown-standing place es v w found passed shown stands =
+      let one = shown-one place es v w found passed shown in
+      record {
+        passed = one.passed;
+        seen = one.seen;
+        calm = λ none all. Each-set (λ place v. v.ended ≡ false) place es w all (λ j hit.
+            stands ∙ Each-found (λ place v. v.ended ≡ false) place es v all found);
+      }

@@ -1,5 +1,5 @@
 -- What holds of the system after a record.
-use Rattle.std.proofs.Common.{◌≡◌, ◌∙◌, ◌+◌, ◌≤◌, ◌++◌, ◌||◌, ◌&&◌, ℕ, Bool, true, false, not, cond, List, [], ◌∷◌, map, length, nat_lt, nat_eq, Option, None, Some, Result, Ok, Err, IsOk, OnErr, is_some, refl, sym, ap, ap₂, subst, append-nil, arith}
+use Rattle.std.proofs.Common.{◌≡◌, ◌∙◌, ◌+◌, ◌++◌, ◌||◌, ℕ, Bool, true, false, not, cond, List, map, length, nat_lt, Option, None, Some, Result, Ok, Err, IsOk, OnErr, is_some, refl, sym, ap, subst, append-nil, arith}
 use Rattle.std.proofs.lemmas.List.Elements.{All-weaker}
 use Rattle.std.specs.Map.{keys_of}
 use Rattle.kq_model.specs.declared.change.Change.{Change}
@@ -7,13 +7,11 @@ use Rattle.kq_model.specs.declared.event.Event.{Event}
 use Rattle.kq_model.specs.declared.event.Event.TheVariants as event
 use Rattle.kq_model.specs.declared.object.Named.{Named}
 use Rattle.kq_model.specs.declared.object.Named.TheVariants as named
-use Rattle.kq_model.specs.declared.reply.Reply.{Reply}
 use Rattle.kq_model.specs.declared.reply.Reply.TheVariants as reply
 use Rattle.kq_model.specs.declared.why.Why.{Why}
 use Rattle.kq_model.specs.declared.why.Why.TheVariants.{NoProcess, UsedDescriptor, TooMany}
 use Rattle.kq_model.specs.Close.{Pair}
 use Rattle.kq_model.specs.CountedWorld.{IsCountedWorld, NamesBelow}
-use Rattle.kq_model.specs.Descriptors.{Descriptor}
 use Rattle.kq_model.specs.DescriptorPlans.{on_descriptor, on_named, plan_call, plan_kevent, plan_kqueue}
 use Rattle.kq_model.specs.Limits.{most_changes, most_room}
 use Rattle.kq_model.specs.LiveKqueues.{AreAllLive}
@@ -21,7 +19,6 @@ use Rattle.kq_model.specs.Plans.{plan}
 use Rattle.kq_model.specs.Processes.{is_live}
 use Rattle.kq_model.specs.System.{born}
 use Rattle.kq_model.specs.Tallied.{Live, System, World}
-use Rattle.kq_model.specs.Targets.{Posted}
 use Rattle.kq_model.specs.WatchedNumbers.{AllWatchTheirNumbers}
 use Rattle.kq_model.specs.World.{Call, Plan, Planned, Impossible, Possible, idle, named_by, views_of}
 use Rattle.kq_model.proofs.SeenWorld.{seen-counted}
@@ -29,9 +26,9 @@ use Rattle.kq_process.specs.declared.effect.Effect.{Effect}
 use Rattle.kq_process.specs.declared.world.World as code
 use Rattle.kq_process.specs.Effects.{IsEffectOf, IsPossible, pairs_in, world_after}
 use Rattle.kq_process.specs.World.{world_of}
-use Rattle.kq_system.specs.SystemState.{AreOfVersion, AreUpTo, HaveStayed, IsImpossible, IsLawful, IsPlain, IsStep, NumberedKqueue, call_plan, happened_to_all, live_of}
+use Rattle.kq_system.specs.SystemState.{HaveStayed, IsImpossible, IsLawful, IsPlain, IsStep, NumberedKqueue, call_plan, happened_to_all, live_of}
 use Rattle.kq_system.proofs.CallLemmas.{up_to_more}
-use Rattle.kq_system.proofs.SystemLemmas.{HasDone, done, impossible, told}
+use Rattle.kq_system.proofs.SystemLemmas.{done, impossible, told}
 
 -- ---- places rise
 

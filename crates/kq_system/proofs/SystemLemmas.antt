@@ -1,5 +1,5 @@
 -- One step of the system by its plan.
-use Rattle.std.proofs.Common.{◌≡◌, ◌∙◌, ℕ, List, [], ◌∷◌, ◌++◌, Option, None, Some, Result, Ok, Err, IsOk, refl, sym, ap, ap₂, subst, append-nil}
+use Rattle.std.proofs.Common.{◌≡◌, ◌∙◌, ℕ, List, ◌++◌, Option, None, Some, Result, Ok, Err, IsOk, refl, sym, ap, ap₂, subst, append-nil}
 use Rattle.kq_model.specs.declared.event.Event.{Event}
 use Rattle.kq_model.specs.declared.reply.Reply.{Reply}
 use Rattle.kq_model.specs.declared.reply.Reply.TheVariants as reply
@@ -8,15 +8,15 @@ use Rattle.kq_model.specs.Close.{Pair}
 use Rattle.kq_model.specs.CountedWorld.{IsCountedWorld}
 use Rattle.kq_model.specs.Descriptors.{Descriptor, IsRising, with_descriptors}
 use Rattle.kq_model.specs.LiveKqueues.{AreAllLive}
-use Rattle.kq_model.specs.Moment.{Moment, moment_of}
+use Rattle.kq_model.specs.Moment.{moment_of}
 use Rattle.kq_model.specs.Objects.{all_done}
 use Rattle.kq_model.specs.Plans.{plan}
 use Rattle.kq_model.specs.Processes.{with_process, without_process, with_disposition}
-use Rattle.kq_model.specs.System.{born, lived, reply_to, step, step_by}
+use Rattle.kq_model.specs.System.{born, reply_to, step, step_by}
 use Rattle.kq_model.specs.Tallied.{Live, System, World}
 use Rattle.kq_model.specs.Targets.{Posted}
 use Rattle.kq_model.specs.WatchedNumbers.{AllWatchTheirNumbers}
-use Rattle.kq_model.specs.World.{Call, Impossible, Plan, Planned, Possible, carried_out, clock_after, idle, views_of, seen_world, with_kqueue}
+use Rattle.kq_model.specs.World.{Call, Impossible, Plan, Planned, Possible, carried_out, clock_after, idle, views_of, with_kqueue}
 use Rattle.kq_model.proofs.LiveKqueues.{step-live}
 use Rattle.kq_model.proofs.SeenWorld.{seen-counted}
 use Rattle.kq_model.proofs.WatchedNumbers.{step-watched}
@@ -28,10 +28,10 @@ use Rattle.kq_system.proofs.QuietLemmas.{lived_none, none_closed}
 
 -- ---- steps by their plans
 
-abbrev StepsBy : ℕ → Planned → System → System → Reply → Type 0
+abbrev pub StepsBy : ℕ → Planned → System → System → Reply → Type 0
 StepsBy place p old new r = (new ≡ (step_by place p old).system) × (r ≡ (step_by place p old).reply)
 
-by_plan : (place : ℕ) (e : Event) (p : Planned) (old new : System) (r : Reply) → plan place e old.world ≡ p
+pub by_plan : (place : ℕ) (e : Event) (p : Planned) (old new : System) (r : Reply) → plan place e old.world ≡ p
     → StepsBy place p old new r → IsStep place e old new r
 unfolding step
 by_plan place e p old new r is steps =

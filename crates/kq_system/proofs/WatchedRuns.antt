@@ -8,7 +8,7 @@ use Rattle.kq_model.specs.Objects.{Keeping, counted}
 use Rattle.kq_model.specs.Plans.{plan}
 use Rattle.kq_model.specs.System.{System, empty_system, step, step_by}
 use Rattle.kq_model.specs.WatchedNumbers.{AllWatchTheirNumbers, AlwaysWatchTheirNumbers}
-use Rattle.kq_model.specs.World.{World, Planned, Impossible, Possible, carried_out, seen_world}
+use Rattle.kq_model.specs.World.{World, Planned, Impossible, Possible, seen_world}
 use Rattle.kq_model.proofs.CountedObjects.{CountsAll, listed-counts}
 use Rattle.kq_model.proofs.CountedSteps.{counted-empty}
 use Rattle.kq_model.proofs.SeenWorld.{seen-carried_out}

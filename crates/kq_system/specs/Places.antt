@@ -6,6 +6,10 @@ use Rattle.std.specs.HashMap.{HashMap, get}
 abbrev pub has_place : ℕ → List ℕ → Bool
 has_place place places = list_any (nat_eq place) places
 
+-- none of them is gone
+abbrev pub KeepsPlaces : List ℕ → List ℕ → Type 0
+KeepsPlaces old new = (place : ℕ) → has_place place old ≡ true → has_place place new ≡ true
+
 abbrev pub or_none : Option (List ℕ) → List ℕ
 or_none None = []
 or_none (Some places) = places

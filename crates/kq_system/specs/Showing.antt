@@ -1,6 +1,7 @@
--- A record is shown to the kqueues that it concerns: those of the processes in which it closes numbers, and those
--- that may watch what it has hints for. Each sees it once, since it keeps the round in which it was shown one.
-use Rattle.std.specs.Prelude.{◌≡◌, ◌<◌, ◌≤◌, ℕ, Bool, true, false, not, List, [], ◌∷◌, Option, Some, nat_eq}
+-- A record is shown to the kqueues that it concerns: those of the processes in which it closes numbers, those that
+-- may watch what it has hints for, and where it moves the clock those that may have timers. Each sees it once, since it
+-- keeps the round in which it was shown one.
+use Rattle.std.specs.Prelude.{◌≡◌, ◌<◌, ◌≤◌, ℕ, Bool, true, false, List, [], ◌∷◌, Option, Some, nat_eq}
 use Rattle.std.specs.List.{list_any}
 use Rattle.std.specs.Map.{lookup}
 use Rattle.std.specs.HashMap.{HashMap}
@@ -8,8 +9,10 @@ use Rattle.kq_model.specs.contracts.object.TargetPartialEq.TheImpl as target_equ
 use Rattle.kq_model.specs.declared.filter.Filter.{Filter}
 use Rattle.kq_model.specs.declared.object.Target.{Target}
 use Rattle.kq_model.specs.declared.object.Target.TheVariants.{Own}
+use Rattle.kq_model.specs.Clock.{Span, clocked}
 use Rattle.kq_model.specs.Close.{Pair, closed, has_pair}
 use Rattle.kq_model.specs.Hints.{notified}
+use Rattle.kq_model.specs.Knote.{is_timer}
 use Rattle.kq_model.specs.Subjects.{HaveSubjects}
 use Rattle.kq_model.specs.Targets.{Posted}
 use Rattle.kq_model.specs.Views.{Views}
@@ -29,11 +32,19 @@ abbrev pub Each : (ℕ → NumberedKqueue → Type 0) → List (ℕ × NumberedK
 Each P [] = Unit {0}
 Each P (e ∷ es) = P e.0 e.1 × Each P es
 
--- a knote of this target may be one of the kqueue of this place: it stands under the target, unless that is the
--- knote itself
+-- the places under a target
+abbrev pub places_of : {S : Type 0} → HashMap Target (List ℕ) S → Target → List ℕ
+places_of watching target = places_at target_equal.eq-value.it watching target
+
+-- a knote of this filter and target may be one of the kqueue of this place: it stands under the target, unless that is
+-- the knote itself, and for a timer under that too
+abbrev pub IsFound : {S : Type 0} → ℕ → HashMap Target (List ℕ) S → Filter → Option Target → Type 0
+IsFound place watching filter target =
+    ((t : Target) → target ≡ Some t → (t ≡ Own → ⊥) → has_place place (places_of watching t) ≡ true)
+    × (is_timer filter ≡ true → has_place place (places_of watching Own) ≡ true)
+
 abbrev pub IsListed : {S : Type 0} → ℕ → HashMap Target (List ℕ) S → Filter → ℕ → Option Target → Type 0
-IsListed place watching filter ident target =
-    (t : Target) → target ≡ Some t → (t ≡ Own → ⊥) → has_place place (places_at target_equal.eq-value.it watching t) ≡ true
+IsListed place watching filter ident target = IsFound place watching filter target
 
 -- How the live kqueues are found. The indexes may name more than there are.
 pub record AreFound {S T : Type 0} (entries : List (ℕ × NumberedKqueue)) (spare : ℕ) (prepared : Option (ℕ × ℕ))
@@ -47,12 +58,18 @@ pub record AreFound {S T : Type 0} (entries : List (ℕ × NumberedKqueue)) (spa
 
 -- ---- what it is to be shown a record
 
-module _ (round : ℕ) (pairs : List Pair) (hints : List Posted) (views : Views) where
-  -- it ends where its own number was closed; else its knotes of closed numbers are gone, and the others hear the hints
-  pub record IsTold (v w : NumberedKqueue) : Type 0 where
-    pub ended : w.ended ≡ has_pair v.kq.owner v.number pairs
-    pub kq : w.ended ≡ false → w.kq.kq ≡ notified views hints (closed v.kq.owner pairs v.kq.kq)
+-- it ends where its own number was closed; else its knotes of closed numbers are gone, and the others hear the hints
+pub record IsTold (pairs : List Pair) (hints : List Posted) (views : Views) (v w : NumberedKqueue) : Type 0 where
+  pub ended : w.ended ≡ has_pair v.kq.owner v.number pairs
+  pub kq : w.ended ≡ false → w.kq.kq ≡ notified views hints (closed v.kq.owner pairs v.kq.kq)
 
+-- its clock goes on by this span
+pub record IsRung (span : Span) (v w : NumberedKqueue) : Type 0 where
+  pub ended : w.ended ≡ v.ended
+  pub kq : w.kq.kq ≡ clocked (Some span) v.kq.kq
+
+-- where this is what the record does to a kqueue
+module _ (round : ℕ) (Told : NumberedKqueue → NumberedKqueue → Type 0) where
   -- the kqueue was shown the record in this round at most once
   pub record IsPassed (v w : NumberedKqueue) : Type 0 where
     pub number : w.number ≡ v.number
@@ -60,7 +77,7 @@ module _ (round : ℕ) (pairs : List Pair) (hints : List Posted) (views : Views)
     pub version : w.kq.version ≡ v.kq.version
     pub unseen : (w.shown ≡ round → ⊥) → w ≡ v
     pub already : v.shown ≡ round → w ≡ v
-    pub told : (v.shown ≡ round → ⊥) → w.shown ≡ round → IsTold v w
+    pub told : (v.shown ≡ round → ⊥) → w.shown ≡ round → Told v w
 
   -- so were all of them
   abbrev pub ArePassed : List (ℕ × NumberedKqueue) → List (ℕ × NumberedKqueue) → Type 0
@@ -84,4 +101,4 @@ asks_owned owned pairs place = list_any (λ (p : ℕ × ℕ). has_place place (p
 -- the places under the targets of these hints
 abbrev pub asks_watching : {S : Type 0} → HashMap Target (List ℕ) S → List Posted → ℕ → Bool
 asks_watching watching hints place =
-    list_any (λ (p : Posted). has_place place (places_at target_equal.eq-value.it watching p.0)) hints
+    list_any (λ (p : Posted). has_place place (places_of watching p.0)) hints

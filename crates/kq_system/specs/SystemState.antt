@@ -6,6 +6,7 @@ use Rattle.kq_kevent.specs.Owned.{OwnedKqueue}
 use Rattle.kq_model.specs.declared.event.Event.{Event}
 use Rattle.kq_model.specs.declared.reply.Reply.{Reply}
 use Rattle.kq_model.specs.declared.why.Why.{Why}
+use Rattle.kq_model.specs.Clock.{Span, clocked}
 use Rattle.kq_model.specs.Close.{Pair, closed, has_pair}
 use Rattle.kq_model.specs.CountedWorld.{IsCountedWorld}
 use Rattle.kq_model.specs.Hints.{notified}
@@ -99,6 +100,10 @@ pub record IsQuiet (m : Moment) : Type 0 where
 -- a kqueue that goes on and is not called: closes, then hints
 abbrev pub happened_to : List Pair → List Posted → Views → Live → Live
 happened_to pairs hints views l = record l { kq = notified views hints (closed l.owner pairs l.kq) }
+
+-- one whose clock goes on by this span
+abbrev pub ticked : Span → Live → Live
+ticked span l = record l { kq = clocked (Some span) l.kq }
 
 -- one whose own number is closed ends
 abbrev pub goes_on : List Pair → Live → Bool

@@ -4,13 +4,15 @@ ghost use Rattle.std.specs.Map.{keys_of, lookup};
 ghost use Rattle.kq_model.specs.declared.object.Target.TheVariants.{Own};
 ghost use Rattle.kq_model.specs.Moment.{Moment};
 ghost use Rattle.kq_model.specs.System.{born};
+ghost use Rattle.kq_model.specs.Ticks.{last_moment};
 ghost use Rattle.kq_process.specs.Effects.{pairs_in};
-ghost use Rattle.kq_system.specs.SystemState.{live_of, AreOfVersion, AreUpTo, HaveStayed, IsCalled, IsLive, IsQuiet, NumberedKqueue, happened_to_all};
+ghost use Rattle.kq_system.specs.SystemState.{live_of, AreOfVersion, AreUpTo, HaveStayed, IsCalled, IsLive, IsQuiet, NumberedKqueue, happened_to_all, ticked};
 
 use crate::kqueues::Kqueues;
 use crate::live::Live;
 use crate::renewing::renew;
 use crate::showing::{drop_ended, show_concerned};
+use crate::ticking::ring_timed;
 use crate::watching::watch_all;
 use indexmap::IndexMap;
 use kq_filters::Views;
@@ -68,6 +70,24 @@ fn next_round(live: usize, round: u64, hints: &[(Target, Hint)]) -> Option<u64>
         }
     }
     round.checked_add(1)
+}
+
+/// The clock goes on for all kqueues. It takes no memory; it costs the timers that expire, and a look at
+/// each kqueue that may have timers.
+pub fn tick_all(live: &mut Kqueues, from: u64, to: u64)
+    requires ordered { from ≤ to }
+    requires within { to ≤ last_moment }
+    ensures ticked { map live_of live.new.entries
+        ≡ map (ticked (record { from = from; to = to })) (map live_of live.old.entries) }
+    ensures stayed { HaveStayed live.old.entries live.new.entries }
+{
+    live.ready = None;
+    let Some(round) = next_round(live.live.len(), live.round, &[]) else {
+        live.live.retain(|_, one| one.tick(from, to));
+        return;
+    };
+    ring_timed(&mut live.live, &live.watching, round, from, to);
+    live.round = round;
 }
 
 /// Whether nothing is closed and nobody is told.

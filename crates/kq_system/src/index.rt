@@ -55,12 +55,22 @@ impl<K: Copy + Eq + Hash> Index<K> {
         }
     }
 
+    /// Whether a place is found under a key.
+    fn has(&self, key: K, place: u64) -> bool
+        ensures { result ≡ true → has_place place (places_at K.eq self.now.table key) ≡ true }
+    {
+        match self.table.get(&key) {
+            Some(places) => places.has(place),
+            None => false,
+        }
+    }
+
     /// Puts a place under a key, where it is not there. After `Memory` it may be there or not.
     pub fn add(&mut self, key: K, place: u64) -> Result<(), Memory>
         ensures grows { Grows K.eq self.old.table self.new.table }
         ensures added { OnOk result (has_place place (places_at K.eq self.new.table key) ≡ true) }
     {
-        if self.at(key).contains(&place) {
+        if self.has(key, place) {
             return Ok(());
         }
         self.added = self.added.saturating_add(1);

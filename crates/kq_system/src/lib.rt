@@ -11,6 +11,7 @@ mod places;
 mod renewing;
 mod showing;
 mod system;
+mod ticking;
 mod watching;
 
 pub use system::System;

@@ -1,8 +1,10 @@
-ghost use Rattle.std.specs.Prelude.{◌≡◌, ◌==◌, ◌&&◌, ◌∷◌, [], not, true};
+ghost use Rattle.std.specs.Prelude.{◌≡◌, ◌≤◌, ◌==◌, ◌&&◌, ◌∷◌, [], Some, not, true};
+ghost use Rattle.kq_model.specs.Clock.{clocked};
 ghost use Rattle.kq_model.specs.Close.{closed, has_pair};
 ghost use Rattle.kq_model.specs.Hints.{notified};
+ghost use Rattle.kq_model.specs.Ticks.{last_moment};
 ghost use Rattle.kq_process.specs.Effects.{pair_of, pairs_in};
-ghost use Rattle.kq_system.specs.Showing.{IsPassed};
+ghost use Rattle.kq_system.specs.Showing.{IsPassed, IsRung, IsTold};
 
 use kq_filters::Views;
 use kq_kevent::Kq;
@@ -63,7 +65,7 @@ impl Live {
         hints: &[(Target, Hint)],
         views: &V,
     ) -> bool
-        ensures passed { IsPassed round (pairs_in pairs.now) hints.now (V.sees views.now) self.old self.new }
+        ensures passed { IsPassed round (IsTold (pairs_in pairs.now) hints.now (V.sees views.now)) self.old self.new }
         ensures seen { self.new.shown ≡ round }
         ensures ended { result ≡ self.new.ended }
     {
@@ -74,6 +76,39 @@ impl Live {
         self.shown = round;
         self.ended = !goes_on;
         self.ended
+    }
+}
+
+impl Live {
+    /// The clock goes on from one moment to another, in nanoseconds; the kqueue stays.
+    pub fn tick(&mut self, from: u64, to: u64) -> bool
+        requires ordered { from ≤ to }
+        requires within { to ≤ last_moment }
+        ensures stays { result ≡ true }
+        ensures kq { self.new.kq.kq ≡ clocked (Some (record { from = from; to = to })) self.old.kq.kq }
+        ensures number { self.new.number ≡ self.old.number }
+        ensures owner { self.new.kq.owner ≡ self.old.kq.owner }
+        ensures version { self.new.kq.version ≡ self.old.kq.version }
+        ensures shown { self.new.shown ≡ self.old.shown }
+        ensures ended { self.new.ended ≡ self.old.ended }
+    {
+        self.kq.clock(from, to);
+        true
+    }
+
+    /// The same, where it was not told of the clock in this round.
+    pub fn ring(&mut self, round: u64, from: u64, to: u64)
+        requires ordered { from ≤ to }
+        requires within { to ≤ last_moment }
+        ensures passed { IsPassed round (IsRung (record { from = from; to = to })) self.old self.new }
+        ensures seen { self.new.shown ≡ round }
+        ensures ended { self.new.ended ≡ self.old.ended }
+    {
+        if self.shown == round {
+            return;
+        }
+        self.kq.clock(from, to);
+        self.shown = round;
     }
 }
 

@@ -1,10 +1,11 @@
-ghost use Rattle.std.specs.Prelude.{◌≡◌, ◌++◌, ◌∷◌, [], IfOk, OnOk, OnErr};
+ghost use Rattle.std.specs.Prelude.{◌≡◌, ◌∷◌, [], true, IfOk, OnOk};
+ghost use Rattle.kq_system.specs.Places.{KeepsPlaces, has_place};
 
 use kq_model::Memory;
 use std::alloc::Global;
 use std::marker::Model;
 
-/// Places of birth of kqueues.
+/// Places of birth of kqueues, rising, each once.
 #[derive(Drop)]
 pub struct Places {
     list: Vec<u64>,
@@ -34,11 +35,26 @@ impl Places {
         self.list.as_slice()
     }
 
-    /// One place more.
-    pub fn add(&mut self, place: u64) -> Result<(), Memory>
-        ensures added { OnOk result (self.new ≡ self.old ++ place ∷ []) }
-        ensures memory { OnErr result (self.new ≡ self.old) }
+    pub fn has(&self, place: u64) -> bool
+        ensures { result ≡ true → has_place place self.now ≡ true }
     {
-        self.list.push(place).map_err(|_| Memory)
+        match self.list.binary_search(&place) {
+            Ok(_) => true,
+            Err(_) => false,
+        }
+    }
+
+    /// One place more, where it is not there.
+    pub fn add(&mut self, place: u64) -> Result<(), Memory>
+        ensures kept { KeepsPlaces self.old self.new }
+        ensures added { OnOk result (has_place place self.new ≡ true) }
+    {
+        match self.list.binary_search(&place) {
+            Ok(_) => Ok(()),
+            Err(index) => {
+                self.list.insert(index, place).map_err(|_| Memory)?;
+                Ok(())
+            }
+        }
     }
 }

@@ -9,6 +9,7 @@ ghost use Rattle.kq_system.specs.Showing.{Each, IsListed};
 use crate::index::Index;
 use crate::kqueues::Kqueues;
 use crate::live::Live;
+use crate::watching::watch_subject;
 use indexmap::IndexMap;
 use kq_knote::{Knote, Knotes};
 use kq_model::{Memory, Target};
@@ -60,7 +61,7 @@ fn owners(alloc: Global, live: &IndexMap<u64, Live>) -> Result<Index<u32>, Memor
     Ok(owned)
 }
 
-/// The live kqueues by the targets of their knotes.
+/// The live kqueues by what their knotes are found by.
 fn watchers(alloc: Global, live: &IndexMap<u64, Live>) -> Result<Index<Target>, Memory>
     ensures { IfOk result (λ watching. Each
         (λ place v. HaveSubjects (IsListed place watching.table) v.kq.kq.knotes) live.now.entries) }
@@ -79,7 +80,7 @@ fn watchers(alloc: Global, live: &IndexMap<u64, Live>) -> Result<Index<Target>, 
     Ok(watching)
 }
 
-/// Puts a kqueue under the target of each of its knotes.
+/// Puts a kqueue where it is found for its knotes.
 fn watch_knotes(watching: &mut Index<Target>, place: u64, knotes: &Knotes) -> Result<(), Memory>
     requires { HaveOwnKeys knotes.now.knotes }
     ensures grows { Grows target_equal.eq-value.it watching.old.table watching.new.table }
@@ -96,14 +97,11 @@ fn watch_knotes(watching: &mut Index<Target>, place: u64, knotes: &Knotes) -> Re
     Ok(())
 }
 
-/// Puts a kqueue under the target of a knote of it, where that is not the knote itself.
+/// Puts a kqueue where it is found for a knote of it.
 fn watch_knote(watching: &mut Index<Target>, place: u64, knote: &Knote) -> Result<(), Memory>
     ensures grows { Grows target_equal.eq-value.it watching.old.table watching.new.table }
     ensures listed { OnOk result
         (IsListed place watching.new.table knote.now.key.filter knote.now.key.ident knote.now.target) }
 {
-    match knote.target {
-        None | Some(Target::Own) => Ok(()),
-        Some(target) => watching.add(target, place),
-    }
+    watch_subject(watching, place, knote.key.filter, knote.target)
 }

@@ -2,7 +2,7 @@
 ghost use Rattle.std.specs.Prelude.{◌≡◌, ◌||◌, false, filter, nat_eq, not};
 ghost use Rattle.kq_process.specs.Effects.{pairs_in};
 ghost use Rattle.kq_system.specs.Places.{has_place};
-ghost use Rattle.kq_system.specs.Showing.{AreShown, Each, asks_owned, asks_watching};
+ghost use Rattle.kq_system.specs.Showing.{AreShown, Each, IsTold, asks_owned, asks_watching};
 
 use crate::index::Index;
 use crate::live::Live;
@@ -25,7 +25,7 @@ fn show_one<V: Views>(
     hints: &[(Target, Hint)],
     views: &V,
 ) -> bool
-    ensures { AreShown round (pairs_in pairs.now) hints.now (V.sees views.now) (λ p. nat_eq p place) result
+    ensures { AreShown round (IsTold (pairs_in pairs.now) hints.now (V.sees views.now)) (λ p. nat_eq p place) result
         live.old.entries live.new.entries }
 {
     match live.get_mut(&place) {
@@ -43,7 +43,7 @@ fn show_each<V: Views>(
     hints: &[(Target, Hint)],
     views: &V,
 ) -> bool
-    ensures { AreShown round (pairs_in pairs.now) hints.now (V.sees views.now) (λ p. has_place p places.now) result
+    ensures { AreShown round (IsTold (pairs_in pairs.now) hints.now (V.sees views.now)) (λ p. has_place p places.now) result
         live.old.entries live.new.entries }
 {
     let mut any = false;
@@ -64,7 +64,7 @@ pub fn show_concerned<V: Views>(
     hints: &[(Target, Hint)],
     views: &V,
 ) -> bool
-    ensures { AreShown round (pairs_in pairs.now) hints.now (V.sees views.now)
+    ensures { AreShown round (IsTold (pairs_in pairs.now) hints.now (V.sees views.now))
         (λ p. asks_owned owned.now.table pairs.now p || asks_watching watching.now.table hints.now p) result
         live.old.entries live.new.entries }
 {
@@ -92,7 +92,7 @@ fn show_owned<V: Views>(
     hints: &[(Target, Hint)],
     views: &V,
 ) -> bool
-    ensures { AreShown round (pairs_in pairs.now) hints.now (V.sees views.now)
+    ensures { AreShown round (IsTold (pairs_in pairs.now) hints.now (V.sees views.now))
         (asks_owned owned.now.table pairs.now) result live.old.entries live.new.entries }
 {
     let mut any = false;
@@ -113,7 +113,7 @@ fn show_watching<V: Views>(
     hints: &[(Target, Hint)],
     views: &V,
 ) -> bool
-    ensures { AreShown round (pairs_in pairs.now) hints.now (V.sees views.now)
+    ensures { AreShown round (IsTold (pairs_in pairs.now) hints.now (V.sees views.now))
         (asks_watching watching.now.table hints.now) result live.old.entries live.new.entries }
 {
     let mut any = false;

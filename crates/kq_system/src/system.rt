@@ -1,7 +1,7 @@
 ghost use Rattle.std.specs.Prelude.{◌≡◌, ◌+◌, ◌-◌, ◌^◌, ◌<◌, ℕ, true, None, Some, IfOk, IfSome, IsOk, OnErr, OnOk};
 ghost use Rattle.kq_model.specs.declared.object.Named.TheVariants as named_as;
 
-use crate::all_live::{bear, call_on, happen_to_all, reserve_one};
+use crate::all_live::{bear, call_on, happen_to_all, reserve_one, tick_all};
 use crate::kqueues::Kqueues;
 use kq_model::{Change, Event, Memory, Named, Reply};
 use kq_process::World;
@@ -127,11 +127,34 @@ impl System {
                 changes,
                 room,
             } => self.call(*pid, *fd, changes.as_slice(), *room),
+            Event::Clock { ns } => self.tick(event, *ns),
             _ => self.happen(event),
         }
     }
 
-    /// A record that opens no kqueue and calls none.
+    /// The clock goes on to a moment, in nanoseconds, and the timers ring that expire until then.
+    fn tick(&mut self, event: &Event, moment: i64) -> Result<Reply, Memory>
+        requires applied { self.old.applied < 2 ^ 31 - 1 }
+        requires event { event.now ≡ event_of.Clock moment }
+        ensures reply { IfOk result
+            (IsStep (self.old.applied + 1) event.now (system_of self.old) (system_of self.new)) }
+        ensures applied { IfOk result (λ _. self.new.applied ≡ self.old.applied + 1) }
+        ensures memory { OnErr result (IsUnchanged self.old self.new) }
+        ensures possible { OnErr result (IsPossible (plan (self.old.applied + 1) event.now (world_of self.old.world))) }
+    {
+        let place = self.applied + 1;
+        let from = self.world.now();
+        let effect = self.world.apply(place, event)?;
+        self.applied = place;
+        if let Err(why) = effect.verdict {
+            return Ok(Reply::Impossible(why));
+        }
+        let to = self.world.now();
+        tick_all(&mut self.live, from, to);
+        Ok(Reply::Done)
+    }
+
+    /// A record that opens no kqueue, calls none and does not move the clock.
     fn happen(&mut self, event: &Event) -> Result<Reply, Memory>
         requires applied { self.old.applied < 2 ^ 31 - 1 }
         requires plain { IsPlain event.now }

@@ -1,2 +1,4 @@
-mod NextTick
+pub mod NextTick
 mod Counts
+pub mod TimerLaws
+pub mod Sorted

@@ -21,7 +21,7 @@ none_between t from base m positive e later earlier = by_base (cases_lt base m)
         let start : m ≡ 0 = omega (arith, ints, clamps) in
         rw start (never_at_zero t)
 
-next_is : (t : Ticking) (from : ℤ) (base : ℕ) → 0 < t.period → pos base ≡ int_max from (pos 0) → IsNextTick (is_tick t) from (moment_after t base)
+pub next_is : (t : Ticking) (from : ℤ) (base : ℕ) → 0 < t.period → pos base ≡ int_max from (pos 0) → IsNextTick (is_tick t) from (moment_after t base)
 next_is t from base positive e =
     let later = moment_after-later t base positive in
     record {
@@ -31,7 +31,7 @@ next_is t from base positive e =
     }
 
 -- what the code computes from `later`, the later of `base` and the start
-moment_after-code : (t : Ticking) (base later : ℕ) → later ≡ max base t.start → later - (later - t.start) % t.period + t.period ≡ moment_after t base
+pub moment_after-code : (t : Ticking) (base later : ℕ) → later ≡ max base t.start → later - (later - t.start) % t.period + t.period ≡ moment_after t base
 moment_after-code t base later e =
     let same : later - t.start ≡ base - t.start = omega arith in
     rw same (omega (arith, div-add-mod' (base - t.start) t.period))

@@ -5,6 +5,8 @@ mod period;
 #[cfg(test)]
 mod tests;
 mod ticker;
+mod timer;
 
 pub use period::Period;
 pub use ticker::Ticker;
+pub use timer::Timer;

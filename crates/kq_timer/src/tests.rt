@@ -1,4 +1,4 @@
-use crate::{Period, Ticker};
+use crate::{Period, Ticker, Timer};
 use kq_model::Errno;
 use std::test::Fail;
 
@@ -71,4 +71,43 @@ fn from_a_start(rt: HostRuntime) -> Result<(), Fail> {
     assert_eq!(rt; ticker.first_after(14), Some(15));
     assert_eq!(rt; ticker.first_after(15), Some(25));
     Ok(())
+}
+
+#[test]
+fn once(rt: HostRuntime) {
+    let timer = Timer {
+        start: 5,
+        period: 10,
+        once: true,
+    };
+    assert_eq!(rt; timer.ticks(0, 14), 0);
+    assert_eq!(rt; timer.ticks(0, 15), 1);
+    assert_eq!(rt; timer.ticks(14, 35), 1);
+    assert_eq!(rt; timer.ticks(15, 35), 0);
+    assert_eq!(rt; timer.next_after(0), 15);
+    assert_eq!(rt; timer.next_after(15), Timer::NEVER);
+}
+
+#[test]
+fn again_and_again(rt: HostRuntime) {
+    let last = i64::MAX as u64;
+    let timer = Timer {
+        start: 5,
+        period: 10,
+        once: false,
+    };
+    assert_eq!(rt; timer.ticks(0, 14), 0);
+    assert_eq!(rt; timer.ticks(14, 35), 3);
+    assert_eq!(rt; timer.ticks(15, 25), 1);
+    assert_eq!(rt; timer.ticks(0, last), 922_337_203_685_477_580);
+    assert_eq!(rt; timer.next_after(14), 15);
+    assert_eq!(rt; timer.next_after(15), 25);
+    assert_eq!(rt; timer.next_after(last), Timer::NEVER);
+    let long = Timer {
+        start: last,
+        period: last,
+        once: false,
+    };
+    assert_eq!(rt; long.ticks(0, last), 0);
+    assert_eq!(rt; long.next_after(0), Timer::NEVER);
 }

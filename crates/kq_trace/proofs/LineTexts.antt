@@ -24,6 +24,10 @@ number_text-of_integer : (z : ℤ) → number_text (of_integer z) ≡ signed_dec
 number_text-of_integer (pos n) = refl
 number_text-of_integer (negsuc n) = refl
 
+pub integer_text : (z : ℤ) → compact_text (integer z) ≡ signed_decimal z
+unfolding integer
+integer_text z = number_text-of_integer z
+
 -- a filter's name has nothing to escape
 escape-filter_name : (f : Filter) → escape (filter_name f) ≡ filter_name f
 unfolding escape_byte

@@ -51,7 +51,7 @@ record_means : (number : ℕ) (e : Event) → number ≤ 1000001 → FitsRecord 
     → record_on number (compact_text (record_data e)) ≡ Ok e
 unfolding record_on
 record_means number e early fits plain =
-    rw (le-ltb (2 ^ 20) (length (compact_text (record_data e))) plain.1, le-ltb 1000001 number early, record_reads_back e fits, event_again e fits plain.0) refl
+    rw (le-ltb (2 ^ 20) (length (compact_text (record_data e))) plain.2, le-ltb 1000001 number early, record_reads_back e fits, event_again e fits plain.0 plain.1) refl
 
 records_again : (version number : ℕ) (events : List Event) → number + length events ≤ 1000002 → FitRecords events → ArePlain events
     → read_records version number (lines_behind (records_text events)) ≡ Good version events

@@ -21,7 +21,7 @@ use Rattle.kq_model.specs.declared.event.Event.{Event}
 use Rattle.kq_model.specs.declared.event.Event.TheVariants as event
 use Rattle.kq_model.specs.Names.{names_of}
 use Rattle.kq_model.specs.Reading.{json_of}
-use Rattle.kq_model.specs.Spelling.{Changes, Name, Number, Value, change_data, flags_data, header_data, integer, members_data, members_of, natural, record_data, value_data}
+use Rattle.kq_model.specs.Spelling.{Changes, Integer, Name, Number, Truth, Value, change_data, flags_data, header_data, integer, members_data, members_of, natural, record_data, value_data}
 use Rattle.kq_trace.specs.Again.{FitMembers, FitsChange, FitsChanges, FitsInteger, FitsRecord, FitsValue}
 use Rattle.kq_trace.proofs.Visible.{header_visible, record_visible, visible_utf8}
 
@@ -109,14 +109,18 @@ changes_depth (c ∷ cs) = omega (arith, change_depth c, changes_depth cs)
 -- ---- records
 
 value_numbers : (v : Value) → FitsValue v → HasNumbers (outline (value_data v))
-unfolding natural
+unfolding natural integer
 value_numbers (Number n) fits = natural_is n (small n fits)
+value_numbers (Integer z) fits = integer_is z fits
+value_numbers (Truth b) fits = tt
 value_numbers (Name name) fits = tt
 value_numbers (Changes changes) fits = changes_numbers changes fits
 
 value_depth : (v : Value) → depth (outline (value_data v)) ≤ 3
-unfolding natural
+unfolding natural integer
 value_depth (Number n) = omega arith
+value_depth (Integer z) = omega arith
+value_depth (Truth b) = omega arith
 value_depth (Name name) = omega arith
 value_depth (Changes changes) = omega (arith, changes_depth changes)
 
@@ -160,6 +164,15 @@ record_read (event.Lowat pid fd side n) fits = rw (natural_read fd (small fd fit
 record_read (event.Pipe pid rfd wfd cap) fits = rw (natural_read cap (small cap fits.1), natural_read pid (small pid fits.2.2.1), natural_read rfd (small rfd fits.2.2.2.1), natural_read wfd (small wfd fits.2.2.2.2.1)) refl
 record_read (event.Read pid fd n) fits = rw (natural_read fd (small fd fits.1), natural_read n (small n fits.2.1), natural_read pid (small pid fits.2.2.2.1)) refl
 record_read (event.Write pid fd n) fits = rw (natural_read fd (small fd fits.1), natural_read n (small n fits.2.1), natural_read pid (small pid fits.2.2.2.1)) refl
+record_read (event.Exec pid) fits = rw (natural_read pid (small pid fits.2.1)) refl
+record_read (event.Sigset pid sig ignore) fits = rw (natural_read pid (small pid fits.2.2.1), natural_read sig (small sig fits.2.2.2.1)) refl
+record_read (event.Sig pid sig) fits = rw (natural_read pid (small pid fits.2.1), natural_read sig (small sig fits.2.2.1)) refl
+record_read (event.File file size) fits = rw (natural_read file (small file fits.1), integer_read size fits.2.2.1) refl
+record_read (event.Open pid fd file mode) fits = rw (natural_read fd (small fd fits.1), natural_read file (small file fits.2.1), natural_read pid (small pid fits.2.2.2.2.1)) refl
+record_read (event.Seek pid fd offset) fits = rw (natural_read fd (small fd fits.1), integer_read offset fits.2.1, natural_read pid (small pid fits.2.2.2.1)) refl
+record_read (event.Truncate file size) fits = rw (natural_read file (small file fits.1), integer_read size fits.2.2.1) refl
+record_read (event.Note file note) fits = rw (natural_read file (small file fits.1)) refl
+record_read (event.Clock ns) fits = rw (integer_read ns fits.1) refl
 record_read (event.Kevent pid fd changes room) fits = rw (changes_read changes fits.1, natural_read fd (small fd fits.2.1), natural_read pid (small pid fits.2.2.2.1), natural_read room (small room fits.2.2.2.2.1)) refl
 
 pub record_reads_back : (e : Event) → FitsRecord e → ReadsBack (record_data e)

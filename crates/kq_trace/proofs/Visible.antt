@@ -18,7 +18,7 @@ use Rattle.kq_model.specs.declared.filter.Filter.TheVariants.{Read, Write, Vnode
 use Rattle.kq_model.specs.Bits.{asks}
 use Rattle.kq_model.specs.FlagNames.{flag_table}
 use Rattle.kq_model.specs.Names.{filter_name, names_of}
-use Rattle.kq_model.specs.Spelling.{Changes, Name, Number, Value, change_data, flags_data, header_data, integer, members_data, members_of, natural, record_data, value_data}
+use Rattle.kq_model.specs.Spelling.{Changes, Integer, Name, Number, Truth, Value, change_data, flags_data, header_data, integer, members_data, members_of, natural, record_data, value_data}
 use Rattle.kq_trace.specs.Again.{FitMembers, FitsChange, FitsChanges, FitsInteger, FitsRecord, FitsValue}
 use Rattle.kq_trace.specs.Texts.{is_word}
 use Rattle.kq_trace.proofs.Words.{letter_range, word_text}
@@ -197,8 +197,10 @@ word_seen : (name : List ℕ) → is_word name ≡ true → name_seen name
 word_seen name is = ap are_visible (word_text name is) ∙ joined name (34 ∷ []) (letters_seen name is) refl
 
 value_seen : (v : Value) → FitsValue v → DataSeen (value_data v)
-unfolding natural
+unfolding natural integer
 value_seen (Number n) fits = natural_seen n (small n fits)
+value_seen (Integer z) fits = integer_seen z fits
+value_seen (Truth b) fits = tt
 value_seen (Name name) fits = word_seen name fits
 value_seen (Changes changes) fits = changes_seen changes fits
 

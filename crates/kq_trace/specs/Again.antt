@@ -1,14 +1,14 @@
 -- What is said of reading the canonical text of a trace again.
-use Rattle.std.specs.Prelude.{◌≡◌, ℕ, true, ◌^◌, ◌<◌, ◌≤◌, ℤ, pos, negsuc, List, [], ◌∷◌, length}
+use Rattle.std.specs.Prelude.{◌≡◌, ℕ, int_lt, false, true, ◌^◌, ◌<◌, ◌≤◌, ℤ, pos, negsuc, List, [], ◌∷◌, length}
 use Rattle.std.specs.Int.RustNames.{bit_and}
 use Rattle.bitflags.specs.Sets.{known_bits}
 use Rattle.serde_json.specs.Written.{compact_text}
 use Rattle.kq_model.specs.declared.change.Change.{Change}
 use Rattle.kq_model.specs.declared.event.Event.{Event}
-use Rattle.kq_model.specs.declared.event.Event.TheVariants.{Kevent}
+use Rattle.kq_model.specs.declared.event.Event.TheVariants.{Clock, Kevent}
 use Rattle.kq_model.specs.FlagNames.{flag_table}
 use Rattle.kq_model.specs.Limits.{most_line_bytes, most_records}
-use Rattle.kq_model.specs.Spelling.{Changes, Name, Number, Value, members_of, record_data}
+use Rattle.kq_model.specs.Spelling.{Changes, Integer, Name, Number, Truth, Value, members_of, record_data}
 use Rattle.kq_trace.specs.Texts.{is_word}
 
 -- ---- what a trace has to keep to be read again
@@ -25,9 +25,14 @@ abbrev pub NamesItsFlags : Event → Type 0
 NamesItsFlags (Kevent pid fd changes room) = HaveNamedFlags changes
 NamesItsFlags _ = Unit {0}
 
--- no flag without a name, and a line that is not too long
+-- no moment of the clock lies before its start
+abbrev pub IsFromTheStart : Event → Type 0
+IsFromTheStart (Clock ns) = int_lt ns (pos 0) ≡ false
+IsFromTheStart _ = Unit {0}
+
+-- no flag without a name, no moment before the start, and a line that is not too long
 abbrev pub IsPlain : Event → Type 0
-IsPlain e = NamesItsFlags e × (length (compact_text (record_data e)) ≤ most_line_bytes)
+IsPlain e = NamesItsFlags e × IsFromTheStart e × (length (compact_text (record_data e)) ≤ most_line_bytes)
 
 abbrev pub ArePlain : List Event → Type 0
 ArePlain [] = Unit {0}
@@ -56,6 +61,8 @@ FitsChanges (c ∷ cs) = FitsChange c × FitsChanges cs
 
 abbrev pub FitsValue : Value → Type 0
 FitsValue (Number n) = n < 2 ^ 32
+FitsValue (Integer z) = FitsInteger z
+FitsValue (Truth b) = Unit {0}
 FitsValue (Name name) = is_word name ≡ true
 FitsValue (Changes changes) = FitsChanges changes
 

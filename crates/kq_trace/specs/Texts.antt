@@ -4,7 +4,7 @@ use Rattle.std.specs.Prelude.{ℕ, Bool, true, ◌&&◌, List, [], ◌∷◌, �
 use Rattle.std.specs.List.{list_all}
 use Rattle.serde_json.specs.Written.{comma_if, compact_text, members_text}
 use Rattle.kq_model.specs.declared.change.Change.{Change}
-use Rattle.kq_model.specs.Spelling.{Changes, Name, Number, Value, change_data, members_data}
+use Rattle.kq_model.specs.Spelling.{Changes, Integer, Name, Number, Truth, Value, change_data, members_data}
 use Rattle.kq_trace.specs.declared.members.Spelled.{Spelled}
 use Rattle.kq_trace.specs.declared.members.Spelled.TheVariants as spelled
 
@@ -21,12 +21,16 @@ is_word name = list_all (λ b. nat_lt 96 b && nat_lt b 123) name
 
 abbrev pub value_of : Spelled → Value
 value_of (spelled.Number n) = Number n
+value_of (spelled.Integer z) = Integer z
+value_of (spelled.Truth b) = Truth b
 value_of (spelled.Name name) = Name name.now
 value_of (spelled.Changes changes) = Changes changes.now
 
 -- any name in it is a word
 abbrev pub is_spelled_by_words : Spelled → Bool
 is_spelled_by_words (spelled.Number n) = true
+is_spelled_by_words (spelled.Integer z) = true
+is_spelled_by_words (spelled.Truth b) = true
 is_spelled_by_words (spelled.Name name) = is_word name.now
 is_spelled_by_words (spelled.Changes changes) = true
 

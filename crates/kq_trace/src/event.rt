@@ -2,25 +2,14 @@
 
 ghost use Rattle.std.specs.Prelude.{◌≡◌, Some, IfOk, codes, option_and_then, option_map};
 ghost use Rattle.serde_json.specs.View.{view};
-ghost use Rattle.kq_model.specs.RecordText.{changes_at, event_as, side_at, with_pid_fd, with_u32};
+ghost use Rattle.kq_model.specs.RecordText.{changes_at, event_as, with_pid_fd, with_u32};
 
 use crate::changes::change_list;
-use crate::member::u32_at;
-use crate::shape::side_in;
-use kq_model::{Change, Event, Memory, RecordKind, Series, Side};
+use crate::member::{i64_at, moment_at, truth_at, u32_at};
+use crate::names::{mode_at, note_at, side_at};
+use kq_model::{Change, Event, Memory, RecordKind, Series};
 use serde_json::Value;
 use std::alloc::Global;
-
-/// The side that the member names.
-#[tactic(auto, unfolding(kq_model::specs::RecordText::side_at))]
-fn side_at(value: &Value, name: &str) -> Option<Side>
-    ensures { result ≡ side_at name.now (view value.now) }
-{
-    match value.get(name) {
-        Some(member) => side_in(member),
-        None => None,
-    }
-}
 
 /// The list of changes of the member, where all their numbers are in range.
 #[tactic(auto, unfolding(kq_model::specs::RecordText::changes_at))]
@@ -223,6 +212,94 @@ fn write(value: &Value) -> Option<Event>
     Some(Event::Write { pid, fd, n })
 }
 
+#[tactic(auto, unfolding(kq_model::specs::RecordText::event_as))]
+fn exec(value: &Value) -> Option<Event>
+    ensures { result ≡ event_as RecordKind.Exec (view value.now) }
+{
+    let pid = u32_at(value, "pid")?;
+    Some(Event::Exec { pid })
+}
+
+#[tactic(auto, unfolding(kq_model::specs::RecordText::event_as))]
+fn sigset(value: &Value) -> Option<Event>
+    ensures { result ≡ event_as RecordKind.Sigset (view value.now) }
+{
+    let pid = u32_at(value, "pid")?;
+    let sig = u32_at(value, "sig")?;
+    let ignore = truth_at(value, "ignore")?;
+    Some(Event::Sigset { pid, sig, ignore })
+}
+
+#[tactic(auto, unfolding(kq_model::specs::RecordText::event_as))]
+fn sig(value: &Value) -> Option<Event>
+    ensures { result ≡ event_as RecordKind.Sig (view value.now) }
+{
+    let pid = u32_at(value, "pid")?;
+    let sig = u32_at(value, "sig")?;
+    Some(Event::Sig { pid, sig })
+}
+
+#[tactic(auto, unfolding(kq_model::specs::RecordText::event_as))]
+fn file(value: &Value) -> Option<Event>
+    ensures { result ≡ event_as RecordKind.File (view value.now) }
+{
+    let file = u32_at(value, "file")?;
+    let size = i64_at(value, "size")?;
+    Some(Event::File { file, size })
+}
+
+#[tactic(auto, unfolding(kq_model::specs::RecordText::event_as))]
+fn open(value: &Value) -> Option<Event>
+    ensures { result ≡ event_as RecordKind.Open (view value.now) }
+{
+    let pid = u32_at(value, "pid")?;
+    let fd = u32_at(value, "fd")?;
+    let file = u32_at(value, "file")?;
+    let mode = mode_at(value, "mode")?;
+    Some(Event::Open {
+        pid,
+        fd,
+        file,
+        mode,
+    })
+}
+
+#[tactic(auto, unfolding(kq_model::specs::RecordText::event_as))]
+fn seek(value: &Value) -> Option<Event>
+    ensures { result ≡ event_as RecordKind.Seek (view value.now) }
+{
+    let pid = u32_at(value, "pid")?;
+    let fd = u32_at(value, "fd")?;
+    let offset = i64_at(value, "offset")?;
+    Some(Event::Seek { pid, fd, offset })
+}
+
+#[tactic(auto, unfolding(kq_model::specs::RecordText::event_as))]
+fn truncate(value: &Value) -> Option<Event>
+    ensures { result ≡ event_as RecordKind.Truncate (view value.now) }
+{
+    let file = u32_at(value, "file")?;
+    let size = i64_at(value, "size")?;
+    Some(Event::Truncate { file, size })
+}
+
+#[tactic(auto, unfolding(kq_model::specs::RecordText::event_as))]
+fn note(value: &Value) -> Option<Event>
+    ensures { result ≡ event_as RecordKind.Note (view value.now) }
+{
+    let file = u32_at(value, "file")?;
+    let note = note_at(value, "note")?;
+    Some(Event::Note { file, note })
+}
+
+#[tactic(auto, unfolding(kq_model::specs::RecordText::event_as))]
+fn clock(value: &Value) -> Option<Event>
+    ensures { result ≡ event_as RecordKind.Clock (view value.now) }
+{
+    let ns = moment_at(value, "ns")?;
+    Some(Event::Clock { ns })
+}
+
 /// The call with these changes, where they and the numbers are in range.
 fn with_changes(value: &Value, changes: Option<Vec<Change>>) -> Option<Event>
     ensures { result ≡ with_pid_fd (view value.now) (λ pid fd. with_u32 (codes "room") (view value.now)
@@ -272,6 +349,15 @@ pub fn event_as(alloc: Global, kind: RecordKind, value: &Value) -> Result<Option
         RecordKind::Pipe => Ok(pipe(value)),
         RecordKind::Read => Ok(read(value)),
         RecordKind::Write => Ok(write(value)),
+        RecordKind::Exec => Ok(exec(value)),
+        RecordKind::Sigset => Ok(sigset(value)),
+        RecordKind::Sig => Ok(sig(value)),
+        RecordKind::File => Ok(file(value)),
+        RecordKind::Open => Ok(open(value)),
+        RecordKind::Seek => Ok(seek(value)),
+        RecordKind::Truncate => Ok(truncate(value)),
+        RecordKind::Note => Ok(note(value)),
+        RecordKind::Clock => Ok(clock(value)),
         RecordKind::Kevent => kevent(alloc, value),
     }
 }

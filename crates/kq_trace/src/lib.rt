@@ -9,6 +9,7 @@ mod header;
 mod line;
 mod member;
 mod members;
+mod names;
 mod read;
 mod record;
 mod record_line;

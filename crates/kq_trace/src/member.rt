@@ -4,8 +4,8 @@ ghost use Rattle.std.specs.Prelude.{◌≡◌, map, option_and_then, pos};
 ghost use Rattle.std.specs.List.{list_all};
 ghost use Rattle.serde_json.specs.Find.{get};
 ghost use Rattle.serde_json.specs.View.{view};
-ghost use Rattle.kq_model.specs.Members.{has_just, has_member, is_whole, i64_in, optional, or_else, required, u32_in, u64_in, width};
-ghost use Rattle.kq_model.specs.RecordText.{u32_at};
+ghost use Rattle.kq_model.specs.Members.{has_just, has_member, is_whole, i64_in, moment_in, optional, or_else, required, u32_in, u64_in, width};
+ghost use Rattle.kq_model.specs.RecordText.{i64_at, moment_at, truth_at, u32_at};
 
 use serde_json::Value;
 
@@ -76,6 +76,17 @@ pub fn i64_in(value: &Value) -> Option<i64>
     value.as_i64()
 }
 
+/// A moment of the clock, in ns: a whole number from 0 to 2^63 - 1.
+#[tactic(auto, unfolding(kq_model::specs::Members::moment_in, kq_model::specs::Members::from_zero))]
+fn moment_in(value: &Value) -> Option<i64>
+    ensures { result ≡ moment_in (view value.now) }
+{
+    match i64_in(value) {
+        Some(moment) => { if moment < 0 { None } else { Some(moment) } }
+        None => None,
+    }
+}
+
 /// Whether the member is there and a whole number.
 #[tactic(auto, unfolding(kq_model::specs::Members::required))]
 pub fn is_whole_at(value: &Value, name: &str) -> bool
@@ -94,6 +105,39 @@ pub fn u32_at(value: &Value, name: &str) -> Option<u32>
 {
     match value.get(name) {
         Some(member) => u32_in(member),
+        None => None,
+    }
+}
+
+/// The member, where it is a whole number of 64 bits with a sign.
+#[tactic(auto, unfolding(kq_model::specs::RecordText::i64_at))]
+pub fn i64_at(value: &Value, name: &str) -> Option<i64>
+    ensures { result ≡ i64_at name.now (view value.now) }
+{
+    match value.get(name) {
+        Some(member) => i64_in(member),
+        None => None,
+    }
+}
+
+/// The member, where it is a moment of the clock.
+#[tactic(auto, unfolding(kq_model::specs::RecordText::moment_at))]
+pub fn moment_at(value: &Value, name: &str) -> Option<i64>
+    ensures { result ≡ moment_at name.now (view value.now) }
+{
+    match value.get(name) {
+        Some(member) => moment_in(member),
+        None => None,
+    }
+}
+
+/// The member, where it is true or false.
+#[tactic(auto, unfolding(kq_model::specs::RecordText::truth_at))]
+pub fn truth_at(value: &Value, name: &str) -> Option<bool>
+    ensures { result ≡ truth_at name.now (view value.now) }
+{
+    match value.get(name) {
+        Some(member) => member.as_bool(),
         None => None,
     }
 }

@@ -1,22 +1,25 @@
 //! The members of a record, as they are spelled.
 
 ghost use Rattle.std.specs.Prelude.{◌≡◌, ◌∷◌, ◌++◌, [], codes, false, map, true, OnOk};
-ghost use Rattle.serde_json.specs.Data.{array, object, string};
+ghost use Rattle.serde_json.specs.Data.{array, boolean, object, string};
 ghost use Rattle.serde_json.specs.View.{items_of};
 ghost use Rattle.serde_json.specs.Written.{comma_if, compact_text};
-ghost use Rattle.kq_model.specs.Spelling.{change_data, line_text, members_data, value_data};
+ghost use Rattle.kq_model.specs.Spelling.{change_data, integer, line_text, members_data, value_data};
 ghost use Rattle.kq_text.specs.Adds.{Adds};
-ghost use Rattle.kq_trace.specs.Again.{FitsChanges, FitsValue, FitMembers};
+ghost use Rattle.kq_trace.specs.Again.{FitsChanges, FitsInteger, FitsValue, FitMembers};
 ghost use Rattle.kq_trace.specs.Texts.{is_word, are_words, is_spelled_by_words, member_of, members_rest, value_of};
 
 use crate::spell::{end_line, put_changes};
 use kq_model::{Change, Memory};
-use kq_text::{put, put_u32};
+use kq_text::{put, put_i64, put_u32};
 
 /// The value of a member of a record.
 #[derive(Drop, Clone, Copy)]
 pub enum Spelled<'a> {
     Number(u32),
+    /// A number with a sign.
+    Integer(i64),
+    Truth(bool),
     /// A name of small letters.
     Name(&'a str),
     Changes(&'a [Change]),
@@ -30,6 +33,25 @@ fn put_name(out: &mut Vec<u8>, name: &str) -> Result<(), Memory>
     put(out, "\"")?;
     put(out, name)?;
     put(out, "\"")
+}
+
+/// Adds a number with a sign.
+fn put_integer(out: &mut Vec<u8>, number: i64) -> Result<(), Memory>
+    ensures text { OnOk result (Adds out.old.items (compact_text (integer number)) out.new.items) }
+    ensures fits { FitsInteger number }
+{
+    put_i64(out, number)
+}
+
+/// Adds true or false.
+fn put_truth(out: &mut Vec<u8>, truth: bool) -> Result<(), Memory>
+    ensures { OnOk result (Adds out.old.items (compact_text (boolean truth)) out.new.items) }
+{
+    if truth {
+        put(out, "true")
+    } else {
+        put(out, "false")
+    }
 }
 
 /// Adds a list of changes.
@@ -51,6 +73,8 @@ fn put_value(out: &mut Vec<u8>, value: Spelled) -> Result<(), Memory>
 {
     match value {
         Spelled::Number(number) => put_u32(out, number),
+        Spelled::Integer(integer) => put_integer(out, integer),
+        Spelled::Truth(truth) => put_truth(out, truth),
         Spelled::Name(name) => put_name(out, name),
         Spelled::Changes(changes) => put_list(out, changes),
     }

@@ -5,7 +5,7 @@ ghost use Rattle.kq_model.specs.Spelling.{line_text, record_data};
 ghost use Rattle.kq_text.specs.Adds.{Adds};
 ghost use Rattle.kq_trace.specs.Again.{FitsRecord};
 
-use crate::members::Spelled::{Changes, Name, Number};
+use crate::members::Spelled::{Changes, Integer, Name, Number, Truth};
 use crate::members::put_line;
 use kq_model::{Event, Memory};
 
@@ -181,6 +181,73 @@ pub fn put_record(out: &mut Vec<u8>, event: &Event) -> Result<(), Memory>
                 ("pid", Number(*pid)),
             ],
         ),
+        Event::Exec { pid } => put_line(out, &[("op", Name("exec")), ("pid", Number(*pid))]),
+        Event::Sigset { pid, sig, ignore } => put_line(
+            out,
+            &[
+                ("ignore", Truth(*ignore)),
+                ("op", Name("sigset")),
+                ("pid", Number(*pid)),
+                ("sig", Number(*sig)),
+            ],
+        ),
+        Event::Sig { pid, sig } => put_line(
+            out,
+            &[
+                ("op", Name("sig")),
+                ("pid", Number(*pid)),
+                ("sig", Number(*sig)),
+            ],
+        ),
+        Event::File { file, size } => put_line(
+            out,
+            &[
+                ("file", Number(*file)),
+                ("op", Name("file")),
+                ("size", Integer(*size)),
+            ],
+        ),
+        Event::Open {
+            pid,
+            fd,
+            file,
+            mode,
+        } => put_line(
+            out,
+            &[
+                ("fd", Number(*fd)),
+                ("file", Number(*file)),
+                ("mode", Name(mode.name())),
+                ("op", Name("open")),
+                ("pid", Number(*pid)),
+            ],
+        ),
+        Event::Seek { pid, fd, offset } => put_line(
+            out,
+            &[
+                ("fd", Number(*fd)),
+                ("offset", Integer(*offset)),
+                ("op", Name("seek")),
+                ("pid", Number(*pid)),
+            ],
+        ),
+        Event::Truncate { file, size } => put_line(
+            out,
+            &[
+                ("file", Number(*file)),
+                ("op", Name("truncate")),
+                ("size", Integer(*size)),
+            ],
+        ),
+        Event::Note { file, note } => put_line(
+            out,
+            &[
+                ("file", Number(*file)),
+                ("note", Name(note.name())),
+                ("op", Name("note")),
+            ],
+        ),
+        Event::Clock { ns } => put_line(out, &[("ns", Integer(*ns)), ("op", Name("clock"))]),
         Event::Kevent {
             pid,
             fd,

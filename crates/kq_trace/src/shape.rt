@@ -1,18 +1,18 @@
 //! Which members a record has, and of which types they are.
 
-ghost use Rattle.std.specs.Prelude.{◌≡◌, map, option_and_then};
+ghost use Rattle.std.specs.Prelude.{◌≡◌, map};
 ghost use Rattle.std.specs.List.{list_all};
 ghost use Rattle.serde_json.specs.Find.{get};
 ghost use Rattle.serde_json.specs.View.{view};
 ghost use Rattle.kq_model.specs.Kinds.{kind_named, members_besides_op};
 ghost use Rattle.kq_model.specs.Members.{required};
-ghost use Rattle.kq_model.specs.Names.{side_named};
-ghost use Rattle.kq_model.specs.RecordText.{is_of, is_record, side_in};
+ghost use Rattle.kq_model.specs.RecordText.{is_of, is_record};
 
 use crate::changes::is_change_list;
 use crate::member::{is_whole, width};
-use kq_model::MemberType::{self, ChangeList, SideName, Whole};
-use kq_model::{RecordKind, Side};
+use crate::names::{mode_in, note_in, side_in};
+use kq_model::MemberType::{self, ChangeList, ModeName, NoteName, SideName, Truth, Whole};
+use kq_model::RecordKind;
 use serde_json::Value;
 
 /// The kind of record of this name.
@@ -39,31 +39,17 @@ pub fn kind_named(name: &str) -> Option<RecordKind>
         "pipe" => Some(RecordKind::Pipe),
         "read" => Some(RecordKind::Read),
         "write" => Some(RecordKind::Write),
+        "exec" => Some(RecordKind::Exec),
+        "sigset" => Some(RecordKind::Sigset),
+        "sig" => Some(RecordKind::Sig),
+        "file" => Some(RecordKind::File),
+        "open" => Some(RecordKind::Open),
+        "seek" => Some(RecordKind::Seek),
+        "truncate" => Some(RecordKind::Truncate),
+        "note" => Some(RecordKind::Note),
+        "clock" => Some(RecordKind::Clock),
         "kevent" => Some(RecordKind::Kevent),
         _ => None,
-    }
-}
-
-/// The side of this name.
-#[tactic(auto, unfolding(kq_model::specs::Names::side_named))]
-fn side_named(name: &str) -> Option<Side>
-    ensures { result ≡ side_named name.now }
-{
-    match name {
-        "read" => Some(Side::Read),
-        "write" => Some(Side::Write),
-        _ => None,
-    }
-}
-
-/// The side that a value names.
-#[tactic(auto, unfolding(kq_model::specs::RecordText::side_in))]
-pub fn side_in(value: &Value) -> Option<Side>
-    ensures { result ≡ side_in (view value.now) }
-{
-    match value.as_str() {
-        Some(name) => side_named(name),
-        None => None,
     }
 }
 
@@ -74,7 +60,10 @@ fn is_of(member_type: MemberType, value: &Value) -> bool
 {
     match member_type {
         Whole => is_whole(value),
+        Truth => value.is_boolean(),
         SideName => side_in(value).is_some(),
+        ModeName => mode_in(value).is_some(),
+        NoteName => note_in(value).is_some(),
         ChangeList => is_change_list(value),
     }
 }
@@ -171,6 +160,26 @@ pub fn is_of_kind(value: &Value, kind: RecordKind) -> bool
         ),
         RecordKind::Read => is_record(value, &[("pid", Whole), ("fd", Whole), ("n", Whole)]),
         RecordKind::Write => is_record(value, &[("pid", Whole), ("fd", Whole), ("n", Whole)]),
+        RecordKind::Exec => is_record(value, &[("pid", Whole)]),
+        RecordKind::Sigset => is_record(
+            value,
+            &[("pid", Whole), ("sig", Whole), ("ignore", Truth)],
+        ),
+        RecordKind::Sig => is_record(value, &[("pid", Whole), ("sig", Whole)]),
+        RecordKind::File => is_record(value, &[("file", Whole), ("size", Whole)]),
+        RecordKind::Open => is_record(
+            value,
+            &[
+                ("pid", Whole),
+                ("fd", Whole),
+                ("file", Whole),
+                ("mode", ModeName),
+            ],
+        ),
+        RecordKind::Seek => is_record(value, &[("pid", Whole), ("fd", Whole), ("offset", Whole)]),
+        RecordKind::Truncate => is_record(value, &[("file", Whole), ("size", Whole)]),
+        RecordKind::Note => is_record(value, &[("file", Whole), ("note", NoteName)]),
+        RecordKind::Clock => is_record(value, &[("ns", Whole)]),
         RecordKind::Kevent => is_record(
             value,
             &[

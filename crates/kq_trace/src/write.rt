@@ -14,7 +14,7 @@ use std::alloc::Global;
 /// in the order of their names' bytes, each line ended by a line feed.
 ///
 /// Reading the text gives the trace again if the trace has at most 1,000,000 records, no line of its
-/// text is longer than 2^20 bytes, and each bit of its flags has a name.
+/// text is longer than 2^20 bytes, each bit of its flags has a name, and no moment of the clock is below 0.
 pub fn write_trace(alloc: Global, trace: &Trace) -> Result<Vec<u8>, Memory>
     ensures text { IfOk result (λ text. text.items ≡ spelling trace.now.version trace.now.events) }
     ensures read_again { IfOk result

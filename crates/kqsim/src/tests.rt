@@ -1,3 +1,4 @@
+mod hints;
 mod library;
 mod merging;
 mod objects;
@@ -5,4 +6,5 @@ mod program;
 mod streams;
 mod system;
 mod text;
+mod timers;
 mod world;

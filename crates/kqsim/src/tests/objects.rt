@@ -3,7 +3,7 @@ ghost use Rattle.std.specs.Prelude.{◌≡◌, true};
 ghost use Rattle.kq_model.specs.Objects.{IsFree};
 ghost use Rattle.kq_objects.specs.Objects.{objects_of};
 
-use kq_model::{Act, Mode, Named, Note, Side, Target, View};
+use kq_model::{Act, Hint, Mode, Named, Note, Side, Target, View};
 use kq_objects::{Objects, PlanError};
 use std::alloc::Global;
 use std::process::Abort;
@@ -46,16 +46,6 @@ fn socket(receive_buffer: u32, send_buffer: u32) -> Act {
         receive_buffer,
         send_buffer,
     }
-}
-
-#[test]
-fn a_socket_is_planned(rt: HostRuntime) -> Result<(), Fail> {
-    let mut objects = Objects::new(rt.alloc())?;
-    assert!(rt; is_free(&objects, 1));
-    let plan = objects.plan(1, &socket(100, 100))?;
-    assert_eq!(rt; plan.hints().len(), 0);
-    assert_eq!(rt; objects.view(Target::Socket(1)), None);
-    Ok(())
 }
 
 #[test]
@@ -112,11 +102,14 @@ fn a_connection(rt: HostRuntime) -> Result<(), Fail> {
 }
 
 #[test]
-fn a_socket_that_connects(rt: HostRuntime) -> Result<(), Fail> {
-    let connect = Act::Connect {
-        on: Named::Socket(1),
-    };
-    let objects = played(&rt, rt.alloc(), &[socket(100, 100), connect])?;
+fn a_socket_connects(rt: HostRuntime) -> Result<(), Fail> {
+    let mut objects = played(&rt, rt.alloc(), &[socket(100, 100)])?;
+    assert!(rt; is_free(&objects, 2));
+    let on = Named::Socket(1);
+    let plan = objects.plan(2, &Act::Connect { on })?;
+    let hint = (Target::Socket(1), Hint::Writable);
+    assert_eq!(rt; plan.hints(), [hint].as_slice());
+    objects.commit(plan);
     let view = objects.view(Target::Socket(1));
     assert!(rt;
         matches!(

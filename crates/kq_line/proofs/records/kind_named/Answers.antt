@@ -79,3 +79,39 @@ returns-then-is-18 c = known_alike kind_named c.args.name.now _ _ _ c.if-is-18.t
 pub returns-then-is-19 : goal.returns-then-is-19
 unfolding kind_among kind_named
 returns-then-is-19 c = known_alike kind_named c.args.name.now _ _ _ c.if-is-19.true c.is-else-is-18.ensures refl
+
+pub returns-then-is-20 : goal.returns-then-is-20
+unfolding kind_among kind_named
+returns-then-is-20 c = known_alike kind_named c.args.name.now _ _ _ c.if-is-20.true c.is-else-is-19.ensures refl
+
+pub returns-then-is-21 : goal.returns-then-is-21
+unfolding kind_among kind_named
+returns-then-is-21 c = known_alike kind_named c.args.name.now _ _ _ c.if-is-21.true c.is-else-is-20.ensures refl
+
+pub returns-then-is-22 : goal.returns-then-is-22
+unfolding kind_among kind_named
+returns-then-is-22 c = known_alike kind_named c.args.name.now _ _ _ c.if-is-22.true c.is-else-is-21.ensures refl
+
+pub returns-then-is-23 : goal.returns-then-is-23
+unfolding kind_among kind_named
+returns-then-is-23 c = known_alike kind_named c.args.name.now _ _ _ c.if-is-23.true c.is-else-is-22.ensures refl
+
+pub returns-then-is-24 : goal.returns-then-is-24
+unfolding kind_among kind_named
+returns-then-is-24 c = known_alike kind_named c.args.name.now _ _ _ c.if-is-24.true c.is-else-is-23.ensures refl
+
+pub returns-then-is-25 : goal.returns-then-is-25
+unfolding kind_among kind_named
+returns-then-is-25 c = known_alike kind_named c.args.name.now _ _ _ c.if-is-25.true c.is-else-is-24.ensures refl
+
+pub returns-then-is-26 : goal.returns-then-is-26
+unfolding kind_among kind_named
+returns-then-is-26 c = known_alike kind_named c.args.name.now _ _ _ c.if-is-26.true c.is-else-is-25.ensures refl
+
+pub returns-then-is-27 : goal.returns-then-is-27
+unfolding kind_among kind_named
+returns-then-is-27 c = known_alike kind_named c.args.name.now _ _ _ c.if-is-27.true c.is-else-is-26.ensures refl
+
+pub returns-then-is-28 : goal.returns-then-is-28
+unfolding kind_among kind_named
+returns-then-is-28 c = known_alike kind_named c.args.name.now _ _ _ c.if-is-28.true c.is-else-is-27.ensures refl

@@ -1,13 +1,12 @@
-use Rattle.std.proofs.Common.{◌≡◌, ◌∙◌, ℕ, List, true, None, Some, nat_eq, map, sym, refl, ap, subst}
+use Rattle.std.proofs.Common.{◌≡◌, ◌∙◌, true, None, Some, nat_eq, map, sym, refl, ap, subst}
 use Rattle.std.proofs.lemmas.Result.{IfOk-weaker, on_err_weaker}
-use Rattle.std.specs.Map.{lookup, set_value}
+use Rattle.std.specs.Map.{lookup}
 use Rattle.std.specs.HashMap.{spare}
 use Rattle.std.specs.Prelude.{All}
 use Rattle.kq_kevent.specs.Owned.{caller}
 use Rattle.kq_model.specs.declared.change.Change.{Change}
 use Rattle.kq_model.specs.Bits.{add, asks}
 use Rattle.kq_model.specs.Targets.{target_of}
-use Rattle.kq_model.specs.Tallied.{Live}
 use Rattle.kq_model.specs.World.{Call}
 use Rattle.kq_system.specs.Showing.{AreFound, IsListed, LiveKqueues}
 use Rattle.kq_system.specs.SystemState.{AreOfVersion, AreUpTo, HaveStayed, IsCalled, IsLive, NumberedKqueue, live_of}

@@ -1,11 +1,12 @@
-use Rattle.std.proofs.Common.{◌≡◌, ◌∙◌, None, map, rules, ap, sym, subst}
+use Rattle.std.proofs.Common.{◌∙◌, None, map, rules, ap, sym, subst}
 use Rattle.std.specs.HashMap.{spare}
 use Rattle.kq_process.specs.Effects.{pairs_in}
-use Rattle.kq_system.specs.Showing.{AreFound, LiveKqueues}
+use Rattle.kq_system.specs.Showing.{AreFound, IsTold, LiveKqueues}
 use Rattle.kq_system.specs.SystemState.{HaveStayed, happened_to_all, live_of}
-use Rattle.kq_system.proofs.ConcernedLemmas.{concerned, found_after, of_others, shown_stayed}
+use Rattle.kq_system.proofs.ConcernedLemmas.{concerned, of_others, told_subjects}
 use Rattle.kq_system.proofs.FoundLemmas.{found_walked}
 use Rattle.kq_system.proofs.HappenLemmas.{all_stayed, all_written, nothing_happened, stayed_same}
+use Rattle.kq_system.proofs.PassedLemmas.{found_after, shown_stayed}
 use Rattle.kq_system.proofs.ShowLemmas.{Entries}
 use Rattle.kq_system.proofs.all_live.happen_to_all.Goals as goal
 
@@ -83,7 +84,7 @@ returns-clause-stayed g c =
     let views = g.V.Views.sees c.args.views.now in
     subst (λ (v : LiveKqueues). HaveStayed v.entries c.drop_ended.new.live.entries) c.live.view_is
     (subst (HaveStayed c.live.inside.live.entries) (sym c.drop_ended.ensures)
-    (shown_stayed c.in-Some.round pairs hints views c.live.inside.live.entries _ c.show_concerned-any.ensures.passed))
+    (shown_stayed c.in-Some.round (IsTold pairs hints views) c.live.inside.live.entries _ c.show_concerned-any.ensures.passed))
 
 pub invariant_of-live-2 : goal.invariant_of-live-2
 invariant_of-live-2 g c =
@@ -93,7 +94,7 @@ invariant_of-live-2 g c =
     let old = c.live.inside in
     subst (λ (es : Entries). AreFound es (spare c.drop_ended.new.live) None old.owned.table old.watching.table c.in-Some.round)
     (sym c.drop_ended.ensures)
-    (found_after c.in-Some.round pairs hints views old.owned.table old.watching.table old.round c.in-Some.ensures.later
+    (found_after c.in-Some.round (IsTold pairs hints views) (told_subjects pairs hints views) old.owned.table old.watching.table old.round c.in-Some.ensures.later
     old.live.entries _ (spare old.live) (spare c.drop_ended.new.live) old.ready c.live.invariant c.show_concerned-any.ensures.passed)
 
 pub drop_ended-requires : goal.drop_ended-requires

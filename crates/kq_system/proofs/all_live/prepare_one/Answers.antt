@@ -1,4 +1,4 @@
-use Rattle.std.proofs.Common.{◌≡◌, ◌<◌, None, Some, rules, sym, subst}
+use Rattle.std.proofs.Common.{◌<◌, None, Some, rules, sym, subst}
 use Rattle.std.specs.HashMap.{spare}
 use Rattle.kq_system.specs.Showing.{AreFound}
 use Rattle.kq_system.proofs.FoundLemmas.{found_owned, ready_room}

@@ -1,4 +1,4 @@
-use Rattle.std.proofs.Common.{◌∙◌, refl, slice_index_or}
+use Rattle.std.proofs.Common.{◌∙◌}
 use Rattle.kq_system.proofs.HappenLemmas.{closed_end, closed_next}
 use Rattle.kq_system.proofs.live.close.Goals as goal
 

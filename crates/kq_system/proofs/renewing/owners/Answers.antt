@@ -1,4 +1,4 @@
-use Rattle.std.proofs.Common.{◌≡◌, ◌∙◌, ◌≤◌, true, None, Some, length, nat_eq, sym, ap, subst, arith}
+use Rattle.std.proofs.Common.{◌≡◌, ◌∙◌, ◌≤◌, true, length, nat_eq, sym, ap, subst, arith}
 use Rattle.kq_system.specs.Places.{has_place, places_at}
 use Rattle.kq_system.specs.Showing.{Each}
 use Rattle.kq_system.specs.SystemState.{NumberedKqueue}

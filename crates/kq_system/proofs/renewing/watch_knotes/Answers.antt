@@ -1,6 +1,6 @@
-use Rattle.std.proofs.Common.{◌≡◌, ◌∙◌, ◌≤◌, Some, add-one, length, take, slice_get, sym, ap, arith}
+use Rattle.std.proofs.Common.{◌≡◌, ◌∙◌, Some, add-one, take, slice_get, sym, ap, arith}
 use Rattle.kq_model.specs.Knote.{key_eq}
-use Rattle.kq_model.specs.Subjects.{HasSubject, HaveSubjects}
+use Rattle.kq_model.specs.Subjects.{HasSubject}
 use Rattle.kq_model.specs.Tallied.{Knote}
 use Rattle.kq_table.specs.Rows.{row_after}
 use Rattle.kq_system.specs.Showing.{IsListed}

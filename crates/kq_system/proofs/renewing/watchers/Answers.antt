@@ -1,9 +1,8 @@
-use Rattle.std.proofs.Common.{◌≡◌, ◌∙◌, ◌≤◌, true, None, Some, length, sym, ap, subst, arith}
+use Rattle.std.proofs.Common.{◌∙◌, ◌≤◌, length, sym, ap, subst, arith}
 use Rattle.kq_model.specs.Kqueue.{HaveOwnKeys}
 use Rattle.kq_model.specs.Subjects.{HaveSubjects}
 use Rattle.kq_system.specs.Showing.{Each, IsListed}
 use Rattle.kq_system.specs.SystemState.{NumberedKqueue}
-use Rattle.kq_model.specs.Tallied.{Knote}
 use Rattle.kq_system.proofs.FoundLemmas.{listed_more}
 use Rattle.kq_system.proofs.RenewLemmas.{Each-end, Each-next, Each-none}
 use Rattle.kq_system.proofs.ShowLemmas.{Each-weaker}

@@ -1,6 +1,6 @@
 use Rattle.std.proofs.Common.{not, rules, sym}
 use Rattle.indexmap.proofs.CallerLemmas.{filter-RetainsPairs}
-use Rattle.kq_system.proofs.ConcernedLemmas.{all_standing}
+use Rattle.kq_system.proofs.PassedLemmas.{all_standing}
 use Rattle.kq_system.proofs.showing.drop_ended.Goals as goal
 
 pub returns-then-any : goal.returns-then-any

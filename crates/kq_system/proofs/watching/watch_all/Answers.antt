@@ -1,4 +1,4 @@
-use Rattle.std.proofs.Common.{◌≡◌, ◌+◌, ◌<◌, true, take, get_or, pos, subst, sym}
+use Rattle.std.proofs.Common.{◌≡◌, true, take, get_or, pos, subst, sym}
 use Rattle.std.proofs.lemmas.List.{take_all, take_more}
 use Rattle.std.proofs.lemmas.List.Elements.{All-push, All-weaker}
 use Rattle.std.specs.Prelude.{All}
@@ -7,6 +7,7 @@ use Rattle.kq_model.specs.declared.filter.Filter.TheVariants.{Read}
 use Rattle.kq_model.specs.Bits.{add, asks}
 use Rattle.kq_model.specs.Targets.{target_of}
 use Rattle.kq_system.specs.Showing.{IsListed}
+use Rattle.kq_system.proofs.FoundLemmas.{found_among}
 use Rattle.kq_system.proofs.watching.watch_all.Goals as goal
 
 -- the change that stands for none, behind the end of a list
@@ -31,7 +32,8 @@ loop-change-preserved g c =
           (All-weaker (λ (x : Change). asks x.flags add ≡ true → IsListed c.args.place before x.filter x.ident
           (target_of views c.args.owner x.filter x.ident)) (λ (x : Change). asks x.flags add ≡ true
           → IsListed c.args.place after x.filter x.ident (target_of views c.args.owner x.filter x.ident))
-          (λ x listed adds t is other. grows.grows t c.args.place (listed adds t is other)) (take i changes)
+          (λ x listed adds. found_among c.args.place before after grows x.filter
+          (target_of views c.args.owner x.filter x.ident) (listed adds)) (take i changes)
           c.loop-change.invariant.listed) c.in_ok-watch_one.ensures.listed);
     }
 

@@ -1,4 +1,4 @@
-use Rattle.std.proofs.Common.{◌≡◌, sym, subst, ap, ◌∙◌}
+use Rattle.std.proofs.Common.{sym, subst, ap, ◌∙◌}
 use Rattle.kq_model.specs.declared.filter.Filter.TheVariants.{Read, Write, Vnode}
 use Rattle.kq_model.specs.Registration.{with_removed}
 use Rattle.kq_model.specs.Hearing.{tallying}

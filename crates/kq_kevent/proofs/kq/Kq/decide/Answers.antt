@@ -1,4 +1,4 @@
-use Rattle.std.proofs.Common.{◌≡◌, true, false, Option, sym, ap, ◌∙◌}
+use Rattle.std.proofs.Common.{Option, sym, ap, ◌∙◌}
 use Rattle.kq_model.specs.Caller.{Caller}
 use Rattle.kq_model.specs.ChangedKnote.{key_of}
 use Rattle.kq_model.specs.Knote.{find_knote}
@@ -6,7 +6,7 @@ use Rattle.kq_model.specs.Refusals.{is_unopened}
 use Rattle.kq_model.specs.Registration.{decided}
 use Rattle.kq_model.specs.Tallied.{Knote}
 use Rattle.kq_kevent.specs.Owned.{OwnedKqueue, caller}
-use Rattle.kq_kevent.proofs.RegisterLaws.{formed-no_timer, decision-unopened, decision-opened}
+use Rattle.kq_kevent.proofs.RegisterLaws.{decision-unopened, decision-opened}
 use Rattle.kq_kevent.proofs.kq.Kq.decide.Goals as goal
 
 pub returns-then-is_unopened-clause-decision : goal.returns-then-is_unopened-clause-decision
@@ -17,9 +17,6 @@ returns-then-is_unopened-clause-decision g c =
     let unopened = sym (ap (λ (v : OwnedKqueue). is_unopened (caller views v) change) c.self.view_is)
     ∙ sym (c.is_unopened.ensures c.self.inside.version) ∙ c.if-is_unopened.true in
     sym (decision-unopened (caller views c.args.self.now) (find_knote (key_of change) c.args.self.now.kq.knotes) change good unopened)
-
-pub decided-requires : goal.decided-requires
-decided-requires g c = formed-no_timer c.args.change.now (sym c.is_malformed.ensures ∙ c.if-is_malformed.false)
 
 pub returns-clause-decision : goal.returns-clause-decision
 returns-clause-decision g c =

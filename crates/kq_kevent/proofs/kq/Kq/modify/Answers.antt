@@ -10,26 +10,26 @@ use Rattle.kq_knote.proofs.CountLaws.{length-with_knote}
 use Rattle.kq_model.proofs.RegistrationLaws.{modified-key}
 use Rattle.kq_kevent.proofs.KeepLaws.{keeps-target, modified-target, found_here}
 use Rattle.kq_kevent.proofs.KnoteSteps.{modified-active}
-use Rattle.kq_kevent.proofs.RegisterLaws.{same_kqueue, IsSound-at, modified-by, modified-queue}
-use Rattle.kq_kevent.proofs.SoundLaws.{IsSound-modified, length-queue_besides, waiting-present}
+use Rattle.kq_kevent.proofs.RegisterLaws.{same_kqueue, IsSound-at, modified-by}
+use Rattle.kq_kevent.proofs.SoundLaws.{IsSound-modified, length-queue, length-queue_besides, waiting-present}
 use Rattle.kq_kevent.proofs.kq.Kq.modify.Goals as goal
 
-pub place-requires-clause-waits : goal.place-requires-clause-waits
-place-requires-clause-waits g c =
+pub renew-requires-clause-waits : goal.renew-requires-clause-waits
+renew-requires-clause-waits g c =
     let by = caller (g.V.Views.sees c.args.views.now) c.args.self.now in
     let kq : Kqueue = record { knotes = c.self.inside.knotes.knotes; queue = c.self.inside.queue.keys } in
     let change = c.args.change.now in
     let found = ap (λ (v : OwnedKqueue). find_knote (key_of change) v.kq.knotes) c.self.view_is ∙ c.requires.present in
-    let is = modified-by by change c.args.present c.replace.new.self c.control.new.self c.switch.new.self
-    c.attend.new.knote c.requires.no_timer c.replace.ensures c.control.ensures c.switch.ensures c.attend.ensures in
+    let is = modified-by by change c.args.present c.replace.new.self c.restart.new.self c.control.new.self c.switch.new.self
+    c.attend.new.knote c.replace.ensures (c.restart.ensures by c.now-moment.ensures) c.control.ensures c.switch.ensures c.attend.ensures in
     let same : c.attend.new.knote.key ≡ key_of change = ap (λ (k : Knote). k.key) is
     ∙ modified-key tallying by change c.args.present
     ∙ sym (find_knote-key (key_of change) kq.knotes c.args.present found) in
     waiting-present kq c.self.invariant.sound c.attend.new.knote.key c.args.present
     (ap (λ key. find_knote key kq.knotes) same ∙ found) ∙ sym c.is_waiting-waits.ensures
 
-pub place-requires-clause-room : goal.place-requires-clause-room
-place-requires-clause-room g c = λ idle.
+pub renew-requires-clause-room : goal.renew-requires-clause-room
+renew-requires-clause-room g c = λ idle.
     let by = caller (g.V.Views.sees c.args.views.now) c.args.self.now in
     let kq : Kqueue = record { knotes = c.self.inside.knotes.knotes; queue = c.self.inside.queue.keys } in
     let change = c.args.change.now in
@@ -48,14 +48,14 @@ invariant_of-self g c =
     let change = c.args.change.now in
     let k = c.attend.new.knote in
     let found = ap (λ (v : OwnedKqueue). find_knote (key_of change) v.kq.knotes) c.self.view_is ∙ c.requires.present in
-    let is = modified-by by change c.args.present c.replace.new.self c.control.new.self c.switch.new.self
-    c.attend.new.knote c.requires.no_timer c.replace.ensures c.control.ensures c.switch.ensures c.attend.ensures in
+    let is = modified-by by change c.args.present c.replace.new.self c.restart.new.self c.control.new.self c.switch.new.self
+    c.attend.new.knote c.replace.ensures (c.restart.ensures by c.now-moment.ensures) c.control.ensures c.switch.ensures c.attend.ensures in
     let same : k.key ≡ key_of change = ap (λ (k : Knote). k.key) is ∙ modified-key tallying by change c.args.present
     ∙ sym (find_knote-key (key_of change) kq.knotes c.args.present found) in
     record {
-      sound = IsSound-at c.modify.new.self.knotes c.place.new.self.keys
+      sound = IsSound-at c.modify.new.self.knotes c.renew.new.self.keys
           (with_modified change k kq) c.modify.ensures.knotes
-          (c.place.ensures.keys ∙ modified-queue change k kq c.requires.no_timer)
+          c.renew.ensures.keys
           (IsSound-modified kq change k c.args.present c.self.invariant.sound same
           (ap (λ key. find_knote key kq.knotes) same ∙ found)
           (λ stays idle. modified-active by change c.args.present stays (ap (λ (k : Knote). k.active) (sym is)
@@ -65,7 +65,7 @@ invariant_of-self g c =
         ap (length {A = Knote}) c.modify.ensures.knotes,
         length-with_knote k kq.knotes,
         c.modify.ensures.room,
-        c.place.ensures.capacity,
+        c.renew.ensures.capacity,
         c.self.invariant.capacity,
       );
     }
@@ -76,10 +76,10 @@ returns-clause-kq g c =
     let kq : Kqueue = record { knotes = c.self.inside.knotes.knotes; queue = c.self.inside.queue.keys } in
     let change = c.args.change.now in
     let k = c.attend.new.knote in
-    let is = modified-by by change c.args.present c.replace.new.self c.control.new.self c.switch.new.self
-    c.attend.new.knote c.requires.no_timer c.replace.ensures c.control.ensures c.switch.ensures c.attend.ensures in
-    same_kqueue c.modify.new.self.knotes c.place.new.self.keys (with_modified change k kq) c.modify.ensures.knotes
-    (c.place.ensures.keys ∙ modified-queue change k kq c.requires.no_timer)
+    let is = modified-by by change c.args.present c.replace.new.self c.restart.new.self c.control.new.self c.switch.new.self
+    c.attend.new.knote c.replace.ensures (c.restart.ensures by c.now-moment.ensures) c.control.ensures c.switch.ensures c.attend.ensures in
+    same_kqueue c.modify.new.self.knotes c.renew.new.self.keys (with_modified change k kq) c.modify.ensures.knotes
+    c.renew.ensures.keys
     ∙ ap (λ k. with_modified change k kq) is
     ∙ ap (λ (v : OwnedKqueue). with_modified change (modified by change c.args.present) v.kq) c.self.view_is
 
@@ -89,9 +89,28 @@ modify-requires g c =
     let kq : Kqueue = record { knotes = c.self.inside.knotes.knotes; queue = c.self.inside.queue.keys } in
     let change = c.args.change.now in
     let found = ap (λ (v : OwnedKqueue). find_knote (key_of change) v.kq.knotes) c.self.view_is ∙ c.requires.present in
-    let is = modified-by by change c.args.present c.replace.new.self c.control.new.self c.switch.new.self
-    c.attend.new.knote c.requires.no_timer c.replace.ensures c.control.ensures c.switch.ensures c.attend.ensures in
+    let is = modified-by by change c.args.present c.replace.new.self c.restart.new.self c.control.new.self c.switch.new.self
+    c.attend.new.knote c.replace.ensures (c.restart.ensures by c.now-moment.ensures) c.control.ensures c.switch.ensures c.attend.ensures in
     keeps-target c.args.present c.attend.new.knote kq.knotes
     (ap (λ (k : Knote). k.key) is ∙ modified-key tallying by change c.args.present)
     (ap (λ (k : Knote). k.target) is ∙ modified-target by change c.args.present)
     (found_here (key_of change) kq.knotes c.args.present found)
+
+pub renew-requires-clause-key : goal.renew-requires-clause-key
+renew-requires-clause-key g c =
+    let by = caller (g.V.Views.sees c.args.views.now) c.args.self.now in
+    let kq : Kqueue = record { knotes = c.self.inside.knotes.knotes; queue = c.self.inside.queue.keys } in
+    let change = c.args.change.now in
+    let found = ap (λ (v : OwnedKqueue). find_knote (key_of change) v.kq.knotes) c.self.view_is ∙ c.requires.present in
+    let is = modified-by by change c.args.present c.replace.new.self c.restart.new.self c.control.new.self c.switch.new.self
+    c.attend.new.knote c.replace.ensures (c.restart.ensures by c.now-moment.ensures) c.control.ensures c.switch.ensures c.attend.ensures in
+    ap (λ (k : Knote). k.key) is ∙ modified-key tallying by change c.args.present
+    ∙ sym (find_knote-key (key_of change) kq.knotes c.args.present found)
+
+pub renew-requires-clause-once : goal.renew-requires-clause-once
+renew-requires-clause-once g c = c.self.invariant.sound.once
+
+pub renew-requires-clause-fits : goal.renew-requires-clause-fits
+renew-requires-clause-fits g c =
+    let kq : Kqueue = record { knotes = c.self.inside.knotes.knotes; queue = c.self.inside.queue.keys } in
+    omega (arith, length-queue kq c.self.invariant.sound, c.self.invariant.capacity)

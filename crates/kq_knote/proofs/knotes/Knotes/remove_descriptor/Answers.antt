@@ -1,5 +1,5 @@
-use Rattle.std.proofs.Common.{◌≡◌, ℕ, List, sym, ap, ◌∙◌}
-use Rattle.kq_model.specs.declared.filter.Filter.TheVariants.{Read, Write, Vnode}
+use Rattle.std.proofs.Common.{List, ap, ◌∙◌}
+use Rattle.kq_model.specs.declared.filter.Filter.TheVariants.{Write, Vnode}
 use Rattle.kq_model.specs.Knote.{without_knote}
 use Rattle.kq_model.specs.Tallied.{Knote}
 use Rattle.kq_model.proofs.NumberLaws.{without-number, three}

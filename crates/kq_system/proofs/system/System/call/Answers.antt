@@ -1,23 +1,20 @@
-use Rattle.std.proofs.Common.{◌≡◌, ◌∙◌, ◌+◌, ℕ, IsOk, Some, map, refl, rules, sym, ap, subst}
+use Rattle.std.proofs.Common.{◌∙◌, ◌+◌, IsOk, map, refl, sym, subst}
 use Rattle.kq_model.specs.declared.event.Event.{Event}
 use Rattle.kq_model.specs.declared.event.Event.TheVariants.{Kevent}
-use Rattle.kq_model.specs.declared.object.Named.TheVariants as named
-use Rattle.kq_model.specs.declared.reply.Reply.{Reply}
 use Rattle.kq_model.specs.declared.reply.Reply.TheVariants as reply
 use Rattle.kq_model.specs.DescriptorPlans.{plan_kevent}
-use Rattle.kq_model.specs.Moment.{Moment, moment_of}
+use Rattle.kq_model.specs.Moment.{moment_of}
 use Rattle.kq_model.specs.Plans.{plan}
-use Rattle.kq_model.specs.Tallied.{Live, System, World}
-use Rattle.kq_model.specs.World.{Call, Plan, Possible, named_by}
+use Rattle.kq_model.specs.World.{Call, named_by}
 use Rattle.kq_model.proofs.LiveKqueues.{named_among-live}
 use Rattle.kq_process.specs.Effects.{IsPossible}
 use Rattle.kq_process.specs.World.{world_of}
 use Rattle.kq_process.proofs.Planned.{held_anyway}
-use Rattle.kq_system.specs.SystemState.{AreOfVersion, IsLawful, IsLive, IsStep, SystemState, call_plan, live_of, state_of, system_of}
+use Rattle.kq_system.specs.SystemState.{AreOfVersion, IsStep, SystemState, call_plan, live_of, state_of, system_of}
 use Rattle.kq_system.proofs.CallLemmas.{live_by_place}
 use Rattle.kq_system.proofs.HappenLemmas.{stayed_same}
-use Rattle.kq_system.proofs.StepLemmas.{IsOn, call_planned, call_possible, counted_later, kevent_plan, lawful_after, lawful_same, possible_call}
-use Rattle.kq_system.proofs.SystemLemmas.{HasDone, call_of, called, called_views, done, impossible, quiet_call, refused, stays_live, stays_watched, version_of}
+use Rattle.kq_system.proofs.StepLemmas.{call_planned, call_possible, counted_later, kevent_plan, lawful_after, lawful_same, possible_call}
+use Rattle.kq_system.proofs.SystemLemmas.{call_of, called, called_views, done, impossible, quiet_call, refused, stays_live, stays_watched, version_of}
 use Rattle.kq_system.proofs.system.System.call.Goals as goal
 
 pub invariant_of-self : goal.invariant_of-self

@@ -1,10 +1,8 @@
-use Rattle.std.proofs.Common.{◌≡◌, ◌∙◌, ◌+◌, ℕ, List, IsOk, map, refl, sym, ap, ap₂, subst}
+use Rattle.std.proofs.Common.{◌∙◌, ◌+◌, ℕ, List, IsOk, map, refl, sym, ap₂, subst}
 use Rattle.kq_model.specs.declared.reply.Reply.TheVariants as reply
-use Rattle.kq_model.specs.LiveKqueues.{AreAllLive}
 use Rattle.kq_model.specs.Plans.{plan}
-use Rattle.kq_model.specs.Tallied.{Live, System}
 use Rattle.kq_model.specs.Targets.{Posted}
-use Rattle.kq_model.specs.World.{Planned, views_of}
+use Rattle.kq_model.specs.World.{views_of}
 use Rattle.kq_process.specs.Effects.{pairs_in}
 use Rattle.kq_process.specs.World.{world_of}
 use Rattle.kq_system.specs.SystemState.{IsStep, SystemState, happened_to_all, live_of, state_of, system_of}

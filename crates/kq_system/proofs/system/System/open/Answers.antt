@@ -1,20 +1,19 @@
-use Rattle.std.proofs.Common.{◌≡◌, ◌∙◌, ◌+◌, ◌++◌, ◌<◌, ℕ, List, IsOk, Some, None, nat_eq, map, refl, sym, ap, subst, arith}
+use Rattle.std.proofs.Common.{◌≡◌, ◌∙◌, ◌+◌, ◌++◌, ℕ, List, IsOk, Some, None, nat_eq, map, refl, sym, ap, subst, arith}
 use Rattle.std.specs.Map.{keys_of, lookup}
 use Rattle.kq_model.specs.declared.event.Event.{Event}
 use Rattle.kq_model.specs.declared.reply.Reply.TheVariants as reply
 use Rattle.kq_model.specs.DescriptorPlans.{plan_kqueue}
 use Rattle.kq_model.specs.Plans.{plan}
 use Rattle.kq_model.specs.System.{born}
-use Rattle.kq_model.specs.Tallied.{Live, System, World}
-use Rattle.kq_model.specs.World.{Plan, Planned, Possible}
+use Rattle.kq_model.specs.World.{Planned, Possible}
 use Rattle.kq_process.specs.Effects.{IsPossible, world_after}
 use Rattle.kq_process.specs.World.{world_of}
 use Rattle.kq_process.proofs.Planned.{held_anyway}
 use Rattle.kq_system.specs.SystemState.{AreOfVersion, AreUpTo, IsLawful, IsStep, NumberedKqueue, SystemState, live_of, state_of, system_of}
 use Rattle.kq_system.proofs.CallLemmas.{not_born, up_to_more}
 use Rattle.kq_system.proofs.HappenLemmas.{stayed_same}
-use Rattle.kq_system.proofs.StepLemmas.{Opens, kqueue_plan, kqueue_possible, lawful_after, lawful_unchanged, possible_kqueue, refused_step}
-use Rattle.kq_system.proofs.SystemLemmas.{HasDone, done, opened, refused, stays_live, stays_watched}
+use Rattle.kq_system.proofs.StepLemmas.{kqueue_plan, kqueue_possible, lawful_after, lawful_unchanged, possible_kqueue, refused_step}
+use Rattle.kq_system.proofs.SystemLemmas.{done, opened, refused, stays_live, stays_watched}
 use Rattle.kq_system.proofs.system.System.open.Goals as goal
 
 pub invariant_of-self-in_err-effect : goal.invariant_of-self-in_err-effect

@@ -5,5 +5,6 @@ pub happen-requires : goal.happen-requires
 happen-requires c = record {
   applied = c.requires;
   plain = other-plain c.args.event.now (other c.args.event.now c.in_default.not-Kqueue
-      (λ pid fd changes room is. c.in_default.not-Kevent pid fd changes room is));
+      (λ pid fd changes room is. c.in_default.not-Kevent pid fd changes room is)
+      (λ ns is. c.in_default.not-Clock ns is));
 }

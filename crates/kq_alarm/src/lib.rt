@@ -1,0 +1,10 @@
+//! Alarms: moments at which something is due, each with what is due, and the earliest of them.
+#![tactic(auto)]
+
+mod alarm;
+mod alarms;
+#[cfg(test)]
+mod tests;
+
+pub use alarm::Alarm;
+pub use alarms::Alarms;

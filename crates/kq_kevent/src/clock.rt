@@ -1,0 +1,227 @@
+ghost use Rattle.std.specs.Prelude.{◌≡◌, ℕ, ◌<◌, ◌≤◌, ◌+◌, ◌∷◌, Some, [], map, min, nat_le, if◌then◌else◌, MatchOption};
+ghost use Rattle.kq_model.specs.Clock.{clocked};
+ghost use Rattle.kq_model.specs.Hearing.{listed};
+ghost use Rattle.kq_model.specs.Knote.{find_knote};
+ghost use Rattle.kq_model.specs.Kqueue.{IsSound, Kqueue};
+ghost use Rattle.kq_model.specs.Recast as recast;
+ghost use Rattle.kq_model.specs.Ticks.{last_moment};
+ghost use Rattle.kq_model.specs.Views as world;
+ghost use Rattle.kq_model.specs.WatchedNumbers.{WatchTheirNumbers};
+ghost use Rattle.kq_knote.specs.Expiring.{expiring};
+ghost use Rattle.kq_kevent.specs.Owned.{limit};
+ghost use Rattle.kq_kevent.specs.Ringing.{AreOutside, IsClocked, firsts_at, rung_each, with_rung};
+
+use crate::Kq;
+use kq_knote::Knote;
+use kq_model::Key;
+
+/// The last moment of the clock.
+const LAST_MOMENT: u64 = i64::MAX as u64;
+
+/// The lesser of two moments, where the first is after `low`; else the second.
+fn nearer(low: u64, first: u64, least: u64) -> u64
+    ensures { result ≡ (if nat_le first low then least else min least first) }
+{
+    if first <= low {
+        least
+    } else {
+        least.min(first)
+    }
+}
+
+impl Kq {
+    /// The clock goes on from the moment `from` to the moment `to`, in nanoseconds: each timer gets an
+    /// expiration for each time that it expires after `from` and not after `to` and becomes active,
+    /// and those that are enabled and not in the queue go to its back in the order of their first
+    /// expirations, of two at one moment the one first that was registered first (kqueue(2),
+    /// EVFILT_TIMER; the order is this project's choice). It takes no memory.
+    pub fn clock(&mut self, from: u64, to: u64)
+        requires ordered { from ≤ to }
+        requires within { to ≤ last_moment }
+        ensures kq { self.new.kq ≡ clocked (Some (record { from = from; to = to })) self.old.kq }
+
+        // What this comes to for a user: each knote has its expirations and stays as it is otherwise,
+        // and the queue keeps what it has.
+        ensures laws { IsClocked from to self.old.kq self.new.kq }
+
+        // Any moment between may be stopped at: so the expirations of many steps add up.
+        ensures steps { (between : ℕ) → from ≤ between → between ≤ to
+            → self.new.kq ≡ clocked (Some (record { from = between; to = to }))
+            (clocked (Some (record { from = from; to = between })) self.old.kq) }
+
+        // The same in the words of the definitions, which keep all that was heard.
+        ensures model { (m : Kqueue listed) → self.old.kq ≡ recast.tallied m
+            → self.new.kq ≡ recast.tallied (clocked (Some (record { from = from; to = to })) m) }
+
+        // Where the READ, WRITE and VNODE knotes watch what their numbers name, they still do.
+        ensures named { (views : world.Views) → WatchTheirNumbers views self.old.owner self.old.kq
+            → WatchTheirNumbers views self.old.owner self.new.kq }
+
+        ensures owner { self.new.owner ≡ self.old.owner }
+        ensures version { self.new.version ≡ self.old.version }
+        ensures room { self.new.room ≡ self.old.room }
+        ensures limit { limit self.new ≡ limit self.old }
+    {
+        if self.knotes.is_quiet(from, to) {
+            return;
+        }
+        self.ring_due(from, to);
+    }
+
+    /// All timers ring that expire, in the order of their first expirations: those that the alarms tell, or
+    /// else by walks over all knotes.
+    fn ring_due(&mut self, from: u64, to: u64)
+        requires ordered { from ≤ to }
+        requires within { to ≤ last_moment }
+        ensures kq { self.new.kq ≡ clocked (Some (record { from = from; to = to })) self.old.kq }
+        ensures owner { self.new.owner ≡ self.old.owner }
+        ensures version { self.new.version ≡ self.old.version }
+        ensures room { self.new.room ≡ self.old.room }
+        ensures limit { limit self.new ≡ limit self.old }
+    {
+        let Some(due) = self.knotes.take_expiring(from, to) else {
+            self.ring_all(from, to);
+            self.foresee(to);
+            return;
+        };
+        self.ring_each(due.as_slice(), from, to);
+        self.knotes.give_back_expiring(due);
+    }
+
+    /// The timers ring of which these are the keys, one after the other: all that expire.
+    fn ring_each(&mut self, keys: &[Key], from: u64, to: u64)
+        requires keys { keys.now ≡ map (λ k. k.key) (expiring from to self.old.kq.knotes) }
+        requires sound { IsSound self.old.kq }
+        requires ordered { from ≤ to }
+        requires within { to ≤ last_moment }
+        ensures kq { self.new.kq ≡ clocked (Some (record { from = from; to = to })) self.old.kq }
+        ensures owner { self.new.owner ≡ self.old.owner }
+        ensures version { self.new.version ≡ self.old.version }
+        ensures room { self.new.room ≡ self.old.room }
+        ensures limit { limit self.new ≡ limit self.old }
+    {
+        for key in keys {
+            self.ring_key(*key, from, to);
+        }
+    }
+
+    /// The knote of a key rings, where there is one.
+    fn ring_key(&mut self, key: Key, from: u64, to: u64)
+        requires ordered { from ≤ to }
+        requires within { to ≤ last_moment }
+        ensures kq { MatchOption (find_knote key self.old.kq.knotes) (self.new.kq ≡ self.old.kq)
+            (λ knote. self.new.kq ≡ with_rung from to knote self.old.kq) }
+        ensures owner { self.new.owner ≡ self.old.owner }
+        ensures version { self.new.version ≡ self.old.version }
+        ensures room { self.new.room ≡ self.old.room }
+        ensures limit { limit self.new ≡ limit self.old }
+    {
+        let Some(knote) = self.knotes.find(key) else {
+            return;
+        };
+        self.ring(knote, from, to);
+    }
+
+    /// Notes when the next timer expires after the moment `since`, so that until then the clock need
+    /// not look at the knotes. It changes nothing.
+    fn foresee(&mut self, since: u64)
+        requires { since ≤ last_moment }
+        ensures { self.new ≡ self.old }
+    {
+        let soonest = self.next_moment(since, since, LAST_MOMENT);
+        self.knotes.note_quiet(since, soonest);
+    }
+
+    /// The same by walks over all knotes, two for each moment at which one expires first.
+    fn ring_all(&mut self, from: u64, to: u64)
+        requires sound { IsSound self.old.kq }
+        requires ordered { from ≤ to }
+        requires within { to ≤ last_moment }
+        ensures kq { self.new.kq ≡ clocked (Some (record { from = from; to = to })) self.old.kq }
+        ensures owner { self.new.owner ≡ self.old.owner }
+        ensures version { self.new.version ≡ self.old.version }
+        ensures room { self.new.room ≡ self.old.room }
+        ensures limit { limit self.new ≡ limit self.old }
+    {
+        let mut moment = self.next_moment(from, from, to);
+        while moment <= to {
+            self.ring_at(moment, from, to);
+            moment = self.next_moment(from, moment, to);
+        }
+    }
+
+    /// A moment after `low`, and not after the one behind `to`, before which no timer expires that did
+    /// not expire up to `low`; of each timer its first expiration after `from` counts alone.
+    fn next_moment(&self, from: u64, low: u64, to: u64) -> u64
+        requires begun { from ≤ low }
+        requires ordered { low ≤ to }
+        requires within { to ≤ last_moment }
+        ensures later { low < result }
+        ensures bounded { result ≤ to + 1 }
+        ensures none { AreOutside from low result self.now.kq.knotes }
+    {
+        let mut least = to + 1;
+        let mut next = self.knotes.first();
+        for _step in 0..self.knotes.len() {
+            let Some(knote) = next else {
+                return least;
+            };
+            let first = knote.first_after(from);
+            least = nearer(low, first, least);
+            next = self.knotes.next_after(knote.key);
+        }
+        least
+    }
+
+    /// The timers ring that expire first after `from` at this moment, in order of registration.
+    fn ring_at(&mut self, moment: u64, from: u64, to: u64)
+        requires ordered { from ≤ to }
+        requires within { to ≤ last_moment }
+        ensures kq { self.new.kq ≡ rung_each from to (firsts_at from moment self.old.kq.knotes) self.old.kq }
+        ensures owner { self.new.owner ≡ self.old.owner }
+        ensures version { self.new.version ≡ self.old.version }
+        ensures room { self.new.room ≡ self.old.room }
+        ensures limit { limit self.new ≡ limit self.old }
+    {
+        let mut next = self.knotes.first();
+        for _step in 0..self.knotes.len() {
+            let Some(knote) = next else {
+                return;
+            };
+            next = self.knotes.next_after(knote.key);
+            self.ring_if_first(knote, moment, from, to);
+        }
+    }
+
+    /// A knote rings where it expires first after `from` at this moment.
+    fn ring_if_first(&mut self, knote: Knote, moment: u64, from: u64, to: u64)
+        requires there { find_knote knote.key self.old.kq.knotes ≡ Some knote }
+        requires ordered { from ≤ to }
+        requires within { to ≤ last_moment }
+        ensures kq { self.new.kq ≡ rung_each from to (firsts_at from moment (knote ∷ [])) self.old.kq }
+        ensures owner { self.new.owner ≡ self.old.owner }
+        ensures version { self.new.version ≡ self.old.version }
+        ensures room { self.new.room ≡ self.old.room }
+        ensures limit { limit self.new ≡ limit self.old }
+    {
+        if knote.first_after(from) == moment {
+            self.ring(knote, from, to);
+        }
+    }
+
+    /// A knote gets its expirations, and its key goes where it belongs.
+    fn ring(&mut self, knote: Knote, from: u64, to: u64)
+        requires there { find_knote knote.key self.old.kq.knotes ≡ Some knote }
+        requires ordered { from ≤ to }
+        requires within { to ≤ last_moment }
+        ensures kq { self.new.kq ≡ with_rung from to knote self.old.kq }
+        ensures owner { self.new.owner ≡ self.old.owner }
+        ensures version { self.new.version ≡ self.old.version }
+        ensures room { self.new.room ≡ self.old.room }
+        ensures limit { limit self.new ≡ limit self.old }
+    {
+        let mut rung = knote;
+        rung.ring(from, to);
+        self.put_back(rung);
+    }
+}

@@ -1,0 +1,10 @@
+pub mod Lists
+pub mod Counting
+pub mod Told
+pub mod ToldByChange
+pub mod ToldByCall
+pub mod ToldOverLife
+pub mod Awake
+pub mod Returned
+pub mod Settled
+pub mod LifeRows

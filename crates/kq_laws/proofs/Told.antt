@@ -1,0 +1,159 @@
+-- What a timer was told so far is its expirations since it was last returned: one operation after the other.
+use Rattle.std.proofs.Common.{◌≡◌, ℕ, zero, suc, ◌+◌, ◌-◌, ◌≤◌, Bool, true, false, cond, not, List, [], ◌∷◌, map, Option, Some, None, refl, sym, ap, ◌∙◌, subst, arith}
+use Rattle.std.proofs.lemmas.Bool.{true≢false}
+use Rattle.std.proofs.lemmas.List.Elements.{All-nil, All-cons, All-head, All-tail, All-append, All-filter}
+use Rattle.std.specs.List.{All, filter}
+use Rattle.kq_model.specs.declared.filter.Filter.{Filter}
+use Rattle.kq_model.specs.declared.filter.Filter.TheVariants.{Timer}
+use Rattle.kq_model.specs.declared.key.Key.{Key}
+use Rattle.kq_model.specs.declared.object.Hint.{Hint}
+use Rattle.kq_model.specs.declared.object.Target.{Target}
+use Rattle.kq_model.specs.Clock.{expires_at, expired, timers, waiting_of, clock_from, clocked}
+use Rattle.kq_model.specs.Close.{Pair, is_closed, closed}
+use Rattle.kq_model.specs.Hearing.{tallying}
+use Rattle.kq_model.specs.Hints.{takes, hints_for, noticed, if_there, knotes_noticing, notified}
+use Rattle.kq_model.specs.Knote.{key_eq}
+use Rattle.kq_model.specs.Tallied.{Knote, Kqueue}
+use Rattle.kq_model.specs.Targets.{Posted, is_target}
+use Rattle.kq_model.specs.Ticks.{last_moment, ticks_between}
+use Rattle.kq_model.specs.TimerWalk.{Waiting, rung_at, walked}
+use Rattle.kq_model.specs.Views.{Views}
+use Rattle.kq_model.proofs.KeyLaws.{same_key}
+use Rattle.kq_model.proofs.KnoteLaws.{by_test}
+use Rattle.kq_model.proofs.SubjectsCall.{noticed-subject}
+use Rattle.kq_model.proofs.TimerWalkQueue.{filter-none}
+use Rattle.kq_laws.specs.Timers.{timer}
+use Rattle.kq_laws.proofs.Counting.{ticks-next, ticks-most}
+
+-- the knote was told its expirations, and forgets them when it is returned
+pub record Told (since now : ℕ) (k : Knote) : Type 0 where
+  pub clear : k.clear ≡ true
+  pub count : k.seen.count ≡ ticks_between (expires_at k) since now
+
+module _ (ident : ℕ) where
+  -- the knote, if it is the timer of this number
+  abbrev pub IsTold : ℕ → ℕ → Knote → Type 0
+  IsTold since now k = key_eq (timer ident) k.key ≡ true → Told since now k
+
+  abbrev pub AreTold : ℕ → ℕ → List Knote → Type 0
+  AreTold since now ks = All (IsTold since now) ks
+
+  -- ---- closes
+
+  pub closed-told : (since now owner : ℕ) (pairs : List Pair) (kq : Kqueue) → AreTold since now kq.knotes
+      → AreTold since now (closed owner pairs kq).knotes
+  unfolding closed
+  closed-told since now owner pairs kq all =
+      All-filter (λ (k : Knote). not (is_closed owner pairs k.key)) (IsTold since now) kq.knotes all
+
+  -- ---- hints
+
+  takes-timer : (hint : Hint) → takes Timer hint ≡ false
+  unfolding takes
+  takes-timer hint = refl
+
+  -- a timer hears no hints
+  hints-timer : (k : Knote) (posted : List Posted) → key_eq (timer ident) k.key ≡ true → hints_for k posted ≡ []
+  hints-timer k posted same =
+      let of : Timer ≡ k.key.filter = ap (λ (x : Key). x.filter) (same_key (timer ident) k.key same) in
+      let hints = map (λ (p : Posted). p.1) (filter (λ (p : Posted). is_target k.target p.0) posted) in
+      subst (λ (f : Filter). filter (takes f) hints ≡ []) of (filter-none (takes Timer) takes-timer hints)
+
+  abbrev Others : Filter → ℕ → Option Target → Type 0
+  Others f i target = key_eq (timer ident) (record { ident = i; filter = f }) ≡ false
+
+  abbrev Stays : ℕ → ℕ → Option Knote → Type 0
+  Stays since now None = Unit {0}
+  Stays since now (Some k) = IsTold since now k
+
+  abbrev IsOther : Option Knote → Type 0
+  IsOther None = Unit {0}
+  IsOther (Some k) = key_eq (timer ident) k.key ≡ false
+
+  other-told : (since now : ℕ) (found : Option Knote) → IsOther found → Stays since now found
+  other-told since now None other = tt
+  other-told since now (Some k) other = λ same. absurd (true≢false (sym same ∙ other))
+
+  noticed-none : (views : Views) (k : Knote) → noticed views [] k ≡ Some k
+  unfolding noticed
+  noticed-none views k = refl
+
+  noticed-told : (since now : ℕ) (views : Views) (posted : List Posted) (k : Knote) → IsTold since now k
+      → Stays since now (noticed views (hints_for k posted) k)
+  noticed-told since now views posted k told =
+      by_test (λ b. key_eq (timer ident) k.key ≡ b → Stays since now (noticed views (hints_for k posted) k))
+      (key_eq (timer ident) k.key)
+      (λ _ same. subst (λ (hints : List Hint). Stays since now (noticed views hints k)) (sym (hints-timer k posted same))
+      (subst (Stays since now) (sym (noticed-none views k)) told))
+      (λ _ other. other-told since now (noticed views (hints_for k posted) k)
+      (noticed-subject tallying Others views (hints_for k posted) k other)) refl
+
+  there-told : (since now : ℕ) (found : Option Knote) → Stays since now found → AreTold since now (if_there found)
+  unfolding if_there
+  there-told since now None told = All-nil (IsTold since now)
+  there-told since now (Some k) told = All-cons (IsTold since now) k [] told (All-nil (IsTold since now))
+
+  noticing-told : (since now : ℕ) (views : Views) (posted : List Posted) (ks : List Knote) → AreTold since now ks
+      → AreTold since now (knotes_noticing views posted ks)
+  unfolding knotes_noticing
+  noticing-told since now views posted [] all = All-nil (IsTold since now)
+  noticing-told since now views posted (k ∷ ks) all =
+      let found = noticed views (hints_for k posted) k in
+      All-append (IsTold since now) (if_there found) (knotes_noticing views posted ks)
+      (there-told since now found (noticed-told since now views posted k (All-head (IsTold since now) k ks all)))
+      (noticing-told since now views posted ks (All-tail (IsTold since now) k ks all))
+
+  pub notified-told : (since now : ℕ) (views : Views) (posted : List Posted) (kq : Kqueue) → AreTold since now kq.knotes
+      → AreTold since now (notified views posted kq).knotes
+  unfolding notified
+  notified-told since now views posted kq all = noticing-told since now views posted kq.knotes all
+
+  -- ---- the clock
+
+  at_moment : (since now : ℕ) (k : Knote) → since ≤ now → suc now ≤ last_moment → Told since now k → (b : Bool)
+      → expires_at k (suc now) ≡ b → Told since (suc now) (cond b (expired k) k)
+  at_moment since now k ordered within told true rings =
+      let next = ticks-next (expires_at k) since now ordered in
+      let one = rw rings at next in
+      record {
+        clear = told.clear;
+        count = omega (arith, told.count, one, ticks-most (expires_at k) since now);
+      }
+  at_moment since now k ordered within told false rings =
+      let next = ticks-next (expires_at k) since now ordered in
+      let none = rw rings at next in
+      record { clear = told.clear; count = omega (arith, told.count, none) }
+
+  key-at_moment : (k : Knote) (b : Bool) → (cond b (expired k) k).key ≡ k.key
+  key-at_moment k true = refl
+  key-at_moment k false = refl
+
+  rung-told : (since now : ℕ) (ks : List Knote) → since ≤ now → suc now ≤ last_moment → AreTold since now ks
+      → AreTold since (suc now) (map (rung_at timers (suc now)) ks)
+  rung-told since now [] ordered within all = All-nil (IsTold since (suc now))
+  rung-told since now (k ∷ ks) ordered within all =
+      All-cons (IsTold since (suc now)) (rung_at timers (suc now) k) (map (rung_at timers (suc now)) ks)
+      (λ same. at_moment since now k ordered within
+      (All-head (IsTold since now) k ks all
+      (ap (key_eq (timer ident)) (sym (key-at_moment k (expires_at k (suc now)))) ∙ same)) (expires_at k (suc now)) refl)
+      (rung-told since now ks ordered within (All-tail (IsTold since now) k ks all))
+
+  walked-told : (since from n : ℕ) (w : Waiting Knote Key) → since ≤ from → from + n ≤ last_moment
+      → AreTold since from w.items → AreTold since (from + n) (walked timers from n w).items
+  unfolding walked
+  walked-told since from zero w ordered within all =
+      subst (λ (m : ℕ). AreTold since m w.items) (omega arith) all
+  walked-told since from (suc n) w ordered within all =
+      let at : suc (from + n) ≡ from + suc n = omega arith in
+      subst (λ (m : ℕ). AreTold since m (map (rung_at timers m) (walked timers from n w).items)) at
+      (rung-told since (from + n) (walked timers from n w).items (omega arith) (omega arith)
+      (walked-told since from n w ordered (omega arith) all))
+
+  pub clocked-told : (since now to : ℕ) (kq : Kqueue) → since ≤ now → now ≤ to → to ≤ last_moment
+      → AreTold since now kq.knotes
+      → AreTold since to (clocked (Some (record { from = now; to = to })) kq).knotes
+  unfolding clocked clock_from
+  clocked-told since now to kq begun ordered within all =
+      let there : now + (to - now) ≡ to = omega arith in
+      subst (λ (m : ℕ). AreTold since m (walked timers now (to - now) (waiting_of kq)).items) there
+      (walked-told since now (to - now) (waiting_of kq) begun (omega arith) all)

@@ -1,0 +1,3 @@
+pub mod Life
+pub mod Timers
+pub mod Wakes

@@ -1,0 +1,8 @@
+//! Laws of kqueue(2) over the whole life of a kqueue, in a user's words.
+#![tactic(auto)]
+
+mod calling;
+mod polling;
+
+pub use calling::call;
+pub use polling::poll;
