@@ -6,6 +6,7 @@ use Rattle.std.proofs.lemmas.List.Elements.{All-nil, All-cons, All-weaker}
 use Rattle.std.specs.Prelude.{All}
 use Rattle.kq_model.specs.declared.event.Event.{Event}
 use Rattle.kq_model.specs.declared.reply.Reply.{Reply}
+use Rattle.kq_model.specs.declared.reply.Reply.TheVariants.{Done}
 use Rattle.kq_model.specs.Close.{Pair, has_pair}
 use Rattle.kq_model.specs.Moment.{Moment, moment_of, called_at}
 use Rattle.kq_model.specs.Plans.{plan}
@@ -86,7 +87,7 @@ another a b c later first second = omega (arith, later, eqb-true c a first, eqb-
 answers-all : (m : Moment) (c : Call) (low high : ℕ) (ls : List Live) → Rise low high ls
     → All (IsAnswered m (answer m c ls) (Some c)) ls
 unfolding answer
-answers-all m c low high [] rise = All-nil (IsAnswered m (answer m c []) (Some c))
+answers-all m c low high [] rise = All-nil (IsAnswered m Done (Some c))
 answers-all m c low high (l ∷ ls) rise =
     by_test (λ b. (c.kqueue == l.place) ≡ b → All (IsAnswered m (cond b (called_at l.owner m c l.kq).reply (answer m c ls)) (Some c)) (l ∷ ls))
     (c.kqueue == l.place)
