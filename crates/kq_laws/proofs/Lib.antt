@@ -22,4 +22,10 @@ pub mod HoldWakes
 pub mod WorldWakes
 pub mod Announced
 pub mod Listed
+pub mod Sound
 pub mod Runs
+pub mod Lives
+pub mod RunCalls
+pub mod RunPlaces
+pub mod RunTold
+pub mod RunRows

@@ -61,7 +61,7 @@ pub record IsRun (place : ℕ) (s : System) : Type 0 where
   pub world : IsRunWorld place (seen_world s.world)
   pub watched : AllWatchTheirNumbers s
 
-run-empty : (version : ℕ) → IsRun 1 (empty_system version)
+pub run-empty : (version : ℕ) → IsRun 1 (empty_system version)
 run-empty version = record {
   world = subst (λ (w : World). IsRunWorld 1 w) (sym (seen-counted (empty_world counted))) world-empty;
   watched = empty-watched tallying counted version;
@@ -74,7 +74,7 @@ module _ (place : ℕ) (e : Event) (s : System) (run : IsRun place s) where
   world-by (Possible p) is =
       subst (λ (w : World). IsRunWorld (place + 1) w) (seen-after place p s.world) (possible-world place e (seen_world s.world) run.world p is)
 
-  run-step : IsRun (place + 1) (step place e s).system
+  pub run-step : IsRun (place + 1) (step place e s).system
   unfolding step
   run-step =
       let world = world-by (plan place e (seen_world s.world)) refl in
@@ -114,7 +114,7 @@ module _ (place : ℕ) (e : Event) (s : System) (p : Plan) (is : plan place e (s
       All-weaker (HasSubject (IsNamed before l.owner)) (IsAnnounced before p.hints (views_of (seen_world (step place e s).system.world)))
       (knote-told l) l.kq.knotes watch
 
-  all-told : All (IsToldBy p s (step place e s).system) s.live
+  pub all-told : All (IsToldBy p s (step place e s).system) s.live
   all-told =
       All-weaker (λ (l : Live). WatchTheirNumbers before l.owner l.kq) (IsToldBy p s (step place e s).system) kqueue-told s.live run.watched
 
