@@ -1,5 +1,5 @@
 -- The lines of a batch one by one, and the batches that all lines are cut into.
-use Rattle.std.proofs.Common.{Bor, Vec, Global, ◌≡◌, ℕ, suc, ◌+◌, ◌<◌, ◌≤◌, List, [], ◌∷◌, ◌++◌, length, map, drop, get_or, Ok, Err, refl, sym, ap, subst, ◌∙◌, append_assoc, append-nil, add-one, arith}
+use Rattle.std.proofs.Common.{Bor, Vec, Global, ◌≡◌, ℕ, suc, ◌+◌, ◌<◌, ◌≤◌, List, [], ◌∷◌, ◌++◌, length, map, drop, get_or, Ok, Err, refl, sym, ap, ◌∙◌, append_assoc, add-one, arith}
 use Rattle.std.proofs.Math.Seq.{drop-cons}
 use Rattle.std.proofs.lemmas.List.{drop_all, length-map, map-append}
 use Rattle.std.proofs.lemmas.List.Folds.{flat_map-map}
@@ -11,7 +11,7 @@ use Rattle.rayon.proofs.ToStd.{chunks_of-concat, slice-AllZip}
 use Rattle.kq_model.specs.declared.event.Event.{Event}
 use Rattle.kq_model.specs.declared.line_fault.LineFault.{LineFault}
 use Rattle.kq_model.specs.Limits.{most_records}
-use Rattle.kq_model.specs.Reading.{Outcome, Good, Bad, joined, read_records, record_on}
+use Rattle.kq_model.specs.Reading.{Bad, joined, read_records, record_on}
 use Rattle.kq_trace.specs.declared.batches.Batch.{Batch}
 use Rattle.kq_trace.specs.declared.batches.Batch.TheVariants as batch
 use Rattle.kq_trace.specs.Batches.{AreReadAs, IsReadAs}

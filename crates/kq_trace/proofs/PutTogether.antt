@@ -1,5 +1,5 @@
 -- Lines that are read in parts are read as one list.
-use Rattle.std.proofs.Common.{Vec, Global, ◌≡◌, ℕ, zero, suc, ◌+◌, ◌<◌, ◌≤◌, List, [], ◌∷◌, ◌++◌, length, Result, Ok, Err, refl, sym, ap, subst, ◌∙◌, append_assoc, append-nil, arith, length-append}
+use Rattle.std.proofs.Common.{Vec, Global, ◌≡◌, ℕ, suc, ◌+◌, ◌<◌, ◌≤◌, List, [], ◌∷◌, ◌++◌, length, Result, Ok, Err, refl, sym, ap, subst, ◌∙◌, append_assoc, append-nil, arith, length-append}
 use Rattle.std.specs.Prelude.{flat_map}
 use Rattle.std.specs.List.{AllZip}
 use Rattle.kq_model.specs.declared.event.Event.{Event}
@@ -8,10 +8,7 @@ use Rattle.kq_model.specs.Limits.{most_records}
 use Rattle.kq_model.specs.Reading.{Outcome, Good, Bad, joined, read_records, record_on, with_event}
 use Rattle.kq_trace.specs.declared.batches.Batch.{Batch}
 use Rattle.kq_trace.specs.declared.batches.Batch.TheVariants as batch
-use Rattle.kq_trace.specs.declared.fault.TraceError.{TraceError}
-use Rattle.kq_trace.specs.declared.fault.TraceError.TheVariants.{Memory as NoMemory, Bad as BadTrace}
 use Rattle.kq_trace.specs.Batches.{AreReadAs, IsReadAs}
-use Rattle.kq_trace.specs.Unread.{IsFaultAhead}
 use Rattle.kq_trace.proofs.TraceLines.{behind_events, behind_none}
 
 -- ---- lines one behind the other

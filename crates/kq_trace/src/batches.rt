@@ -55,8 +55,8 @@ fn batch_of(alloc: Global, lines: &[&[u8]]) -> Batch
     Batch::Records(events)
 }
 
-/// Decodes the lines in batches, on as many threads as there are processors. A batch whose thread does not start
-/// is decoded on the calling thread.
+/// Decodes the lines in batches, on several threads where there are several processors. Batches whose thread does
+/// not start are decoded on the thread that would have started it.
 fn batches_of<R: Threads + Sync>(
     rt: &R,
     alloc: Global,

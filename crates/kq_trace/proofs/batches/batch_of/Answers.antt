@@ -1,5 +1,5 @@
 -- A line at a time.
-use Rattle.std.proofs.Common.{rules, ◌≡◌, ◌+◌, ◌++◌, ◌∷◌, [], length, Ok, Err, ap, sym, ◌∙◌, length-append, arith}
+use Rattle.std.proofs.Common.{rules, ◌≡◌, ◌++◌, ◌∷◌, [], length, Ok, Err, ap, ◌∙◌, length-append, arith}
 use Rattle.kq_trace.proofs.BatchLines.{line_bad, line_read, lines_read}
 use Rattle.kq_trace.proofs.batches.batch_of.Goals as goal
 

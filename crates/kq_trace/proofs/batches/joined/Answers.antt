@@ -1,5 +1,5 @@
 -- The next batch is put behind those so far, or has the bad line.
-use Rattle.std.proofs.Common.{rules, ◌≡◌, ◌≤◌, ◌++◌, ◌∷◌, [], length, sym, ap, subst, ◌∙◌, arith}
+use Rattle.std.proofs.Common.{rules, ◌≡◌, ◌++◌, ◌∷◌, [], length, sym, ap, subst, ◌∙◌, arith}
 use Rattle.kq_model.specs.Limits.{most_records}
 use Rattle.kq_trace.specs.declared.batches.Batch.TheVariants as batch
 use Rattle.kq_trace.specs.Batches.{AreReadAs}
