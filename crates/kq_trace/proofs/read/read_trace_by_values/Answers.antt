@@ -2,10 +2,10 @@
 use Rattle.std.proofs.Common.{◌≡◌, ◌++◌, ◌∷◌, ◌∙◌, [], arith, rules, ap, length, length-append}
 use Rattle.kq_trace.specs.Unread.{IsReadOff}
 use Rattle.kq_trace.proofs.TraceLines.{one_further}
-use Rattle.kq_trace.proofs.read.read.Goals as goal
+use Rattle.kq_trace.proofs.read.read_trace_by_values.Goals as goal
 
 pub records-preserved : goal.records-preserved
-records-preserved c =
+records-preserved g c =
     let off : IsReadOff c.in-Some.event c.records.reader c.next_event.new.self = rw c.in-Some.is at c.in_ok-event.ensures.next in
     let added : c.push.new.self.items ≡ c.records.events.items ++ c.in-Some.event ∷ [] = search rules in
     record {
@@ -16,7 +16,7 @@ records-preserved c =
     }
 
 pub invariant_of-result : goal.invariant_of-result
-invariant_of-result c = record {
+invariant_of-result g c = record {
   version_one = c.version.ensures.known;
   countable = omega (arith, ap length c.from_vec.ensures, c.records.invariant.counted, c.records.invariant.in_limit);
 }
