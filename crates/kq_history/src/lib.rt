@@ -1,0 +1,19 @@
+//! What was seen of the world at every place of a trace, and what the trace says to each kqueue: so
+//! that each kqueue can be replayed alone.
+#![tactic(auto)]
+
+mod item;
+mod kqueues;
+mod log;
+mod shelves;
+mod sources;
+mod timeline;
+mod timelines;
+
+pub use item::{Item, Source, What};
+pub use kqueues::{Concerned, Kqueues};
+pub use log::Log;
+pub use shelves::{Shelf, Shelves};
+pub use sources::Sources;
+pub use timeline::{Mark, Timeline};
+pub use timelines::Timelines;
