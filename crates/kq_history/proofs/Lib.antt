@@ -5,3 +5,17 @@ mod Known
 mod Places
 mod Sourced
 mod PickedPrivate
+mod Following
+mod Altering
+mod AccountedActs
+mod AccountedHolds
+mod RisingTables
+mod WithinRecords
+mod AnyWithin
+mod TouchedKeys
+mod UntouchedRecords
+mod NotedKeys
+mod ListedRecords
+mod TracedWorlds
+mod TrackedRecords
+mod TrackedNext

@@ -6,3 +6,11 @@ pub mod Log
 pub mod Sources
 pub mod Kqueues
 pub mod Concerned
+pub mod Spoken
+pub mod Touched
+pub mod Accounts
+pub mod Within
+pub mod Seen
+pub mod Noted
+pub mod Traced
+pub mod Tracked

@@ -2,17 +2,24 @@
 //! that each kqueue can be replayed alone.
 #![tactic(auto)]
 
+mod at;
 mod item;
 mod kqueues;
 mod log;
+mod seen;
 mod shelves;
 mod sources;
+mod spoken;
 mod timeline;
 mod timelines;
+mod touched;
+mod tracking;
 
+pub use at::HistoryAt;
 pub use item::{Item, Source, What};
 pub use kqueues::{Concerned, Kqueues};
 pub use log::Log;
+pub use seen::Seen;
 pub use shelves::{Shelf, Shelves};
 pub use sources::Sources;
 pub use timeline::{Mark, Timeline};

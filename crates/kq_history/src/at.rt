@@ -1,0 +1,28 @@
+use crate::seen::Seen;
+use kq_filters::Views;
+use kq_model::{Named, Target, View};
+
+/// The world after the record of a place, as kqueues see it.
+#[derive(Drop, Clone, Copy)]
+pub struct HistoryAt<'s> {
+    pub(crate) seen: &'s Seen,
+    pub(crate) place: u64,
+}
+
+impl<'s> Views for HistoryAt<'s> {
+    ghost use Rattle.kq_history.specs.Seen.{seen_by};
+
+    ghost sees = { λ h. seen_by h.seen.now h.place };
+
+    fn view(&self, target: Target) -> Option<View> {
+        self.seen.view(self.place, target)
+    }
+
+    fn descriptor(&self, pid: u32, number: u32) -> Option<Named> {
+        self.seen.descriptor(self.place, pid, number)
+    }
+
+    fn now(&self) -> u64 {
+        self.seen.now(self.place)
+    }
+}
