@@ -19,3 +19,5 @@ mod ListedRecords
 mod TracedWorlds
 mod TrackedRecords
 mod TrackedNext
+mod Sayings
+mod FirstTracked

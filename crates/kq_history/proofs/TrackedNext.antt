@@ -1,6 +1,7 @@
 -- The world and what was seen of it are those of the trace with the record that was applied and followed.
 use Rattle.std.proofs.Common.{◌≡◌, ◌+◌, ◌≤◌, ℕ, Bool, true, false, length, List, [], ◌∷◌, ◌++◌, map, Result, Ok, Err, refl, sym, ap, subst, ◌∙◌, arith}
 use Rattle.std.specs.Prelude.{IsOk}
+use Rattle.std.proofs.lemmas.Bool.{false≢true}
 use Rattle.std.proofs.lemmas.List.{length-append}
 use Rattle.std.proofs.lemmas.List.Elements.{All-weaker}
 use Rattle.kq_model.specs.declared.event.Event.{Event}
@@ -27,7 +28,7 @@ use Rattle.kq_history.specs.Tracked.{IsFollowed, IsFollowedBy, IsNoted, IsTracke
 use Rattle.kq_history.proofs.TracedWorlds.{end, next, now, world-longer}
 use Rattle.kq_history.proofs.TrackedRecords.{next-is, next-listed, next-stays, next-world, shows-still}
 
-up-later : (n m : ℕ) (s : Seen) → n ≤ m → AreAllUpTo n s → AreAllUpTo m s
+pub up-later : (n m : ℕ) (s : Seen) → n ≤ m → AreAllUpTo n s → AreAllUpTo m s
 up-later n m s later up = record {
   numbers = λ key. marks-later n m later (marks_at pair_eq s.numbers.table key) (up.numbers key);
   views = λ key. marks-later n m later (marks_at target_key s.views.table key) (up.views key);
@@ -57,7 +58,7 @@ module _ (t : Traced) (e : Event) (old new : World) (s s' : Seen) (effect : Effe
   followed_done : (v : Result (Unit {0}) Why) → IsOk v → IsFollowedBy (end t e) e v effect.closed effect.hints (world_of new) s s'
       → AreAllUpTo (end t e) s' × IsNoted (end t e) e effect.closed effect.hints (world_of new) s s'
   followed_done (Ok done) is followed = followed
-  followed_done (Err why) is followed = absurd is
+  followed_done (Err why) is followed = absurd (false≢true is)
 
   tracked-by : (q : Planned) → plan (end t e) e (now t e) ≡ q → IsEffectOf q effect → world_of new ≡ world_after (end t e) q (now t e)
       → IsFollowed (end t e) e effect (world_of new) s s' → IsTracked (longer t e) new s'

@@ -14,3 +14,4 @@ pub mod Seen
 pub mod Noted
 pub mod Traced
 pub mod Tracked
+pub mod Sayings

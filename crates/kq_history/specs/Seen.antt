@@ -1,5 +1,5 @@
 -- What was seen of a world after each place, by its marks; and when that is what a trace's worlds show.
-use Rattle.std.specs.Prelude.{◌≡◌, ◌&&◌, ◌==◌, ℕ, Bool, None}
+use Rattle.std.specs.Prelude.{◌≡◌, ◌&&◌, ◌==◌, ℕ, Bool, [], None}
 use Rattle.kq_model.specs.contracts.object.TargetPartialEq.TheImpl as target_equal
 use Rattle.kq_model.specs.declared.object.Target.{Target}
 use Rattle.kq_model.specs.Views.{Views}
@@ -26,3 +26,9 @@ pub record Shows (worlds : ℕ → Views) (s : Seen) : Type 0 where
   pub view : (place : ℕ) (t : Target) → (seen_by s place).view t ≡ (worlds place).view t
   pub descriptor : (place pid number : ℕ) → (seen_by s place).descriptor pid number ≡ (worlds place).descriptor pid number
   pub now : (place : ℕ) → (seen_by s place).now ≡ (worlds place).now
+
+-- nothing was seen yet
+pub record IsBlank (s : Seen) : Type 0 where
+  pub numbers : (key : ℕ × ℕ) → marks_at pair_eq s.numbers.table key ≡ []
+  pub views : (t : Target) → marks_at target_key s.views.table t ≡ []
+  pub clock : s.clock ≡ []

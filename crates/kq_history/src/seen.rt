@@ -1,7 +1,7 @@
 ghost use Rattle.std.specs.Prelude.{◌≡◌, ℕ, ◌&&◌, nat_le, None, OnOk, if◌then◌else◌};
 ghost use Rattle.kq_model.specs.Views as model;
 ghost use Rattle.kq_history.specs.Noted.{AreAllUpTo, IsNextWorld};
-ghost use Rattle.kq_history.specs.Seen.{pair_eq, seen_by, target_key, Shows};
+ghost use Rattle.kq_history.specs.Seen.{pair_eq, IsBlank, seen_by, target_key, Shows};
 ghost use Rattle.kq_history.specs.Timeline.{value_at};
 ghost use Rattle.kq_history.specs.Timelines.{marks_at, AreUpTo};
 ghost use Rattle.kq_history.specs.Touched.{has_number, has_target};
@@ -23,7 +23,9 @@ pub struct Seen {
 
 impl Seen {
     /// Of no record: the empty world.
-    pub fn new(alloc: Global) -> Self {
+    pub fn new(alloc: Global) -> Self
+        ensures { IsBlank result }
+    {
         Seen {
             numbers: Timelines::new(alloc),
             views: Timelines::new(alloc),

@@ -7,7 +7,7 @@ ghost use Rattle.kq_history.specs.Noted.{AreAllUpTo};
 ghost use Rattle.kq_history.specs.Traced.{longer, Traced};
 ghost use Rattle.kq_history.specs.Tracked.{IsFollowed, IsNoted, IsTracked};
 
-use crate::at::HistoryAt;
+use crate::at::SeenAt;
 use crate::seen::Seen;
 use crate::touched::{touched_numbers, touched_targets};
 use kq_model::{Event, Memory};
@@ -67,7 +67,7 @@ fn note(
         seen.old seen.new) }
 {
     let numbers = touched_numbers(alloc, event, effect.closed.as_slice(), world)?;
-    let before = HistoryAt { seen: &*seen, place };
+    let before = SeenAt { seen: &*seen, place };
     let hints = effect.hints.as_slice();
     let targets = touched_targets(alloc, event, hints, &before, world, numbers.as_slice())?;
     seen.note(place, numbers.as_slice(), targets.as_slice(), world)

@@ -1,0 +1,6 @@
+use Rattle.std.proofs.Common.{take}
+use Rattle.kq_history.specs.Tracked.{IsTracked}
+use Rattle.kq_history.proofs.split.Split.of.Given as goal
+
+abbrev pub invariant-loop-before : goal.invariant-loop-before
+invariant-loop-before l = IsTracked (record { version = l.trace.version; events = take l.before l.events }) l.world l.seen
