@@ -8,6 +8,7 @@ use Rattle.kq_model.specs.Descriptors.{named_among}
 use Rattle.kq_model.specs.ListedFiles.{AreListed}
 use Rattle.kq_model.specs.Moments.{plans_from, world_after, world_at}
 use Rattle.kq_model.specs.Objects.{counted, quantities, view_of}
+use Rattle.kq_model.specs.OwnedRows.{plain_from}
 use Rattle.kq_model.specs.Processes.{process_of}
 use Rattle.kq_model.specs.World as model
 use Rattle.kq_model.specs.World.{empty_world, named_by, process_view, view_in, views_of}
@@ -21,7 +22,7 @@ use Rattle.kq_history.specs.Noted.{AreAllUpTo}
 use Rattle.kq_history.specs.Seen.{pair_eq, seen_by, target_key, IsBlank, Shows}
 use Rattle.kq_history.specs.Timeline.{value_at, IsUpTo}
 use Rattle.kq_history.specs.Timelines.{marks_at}
-use Rattle.kq_history.specs.Traced.{Traced, seen_at}
+use Rattle.kq_history.specs.Traced.{Traced, plain_rows_of, seen_at}
 use Rattle.kq_history.specs.Tracked.{IsTracked}
 
 no-view : (t : Target) → view_in (empty_world counted) t ≡ None
@@ -54,6 +55,10 @@ first-tracked version w s is blank = record {
     clock = none-later s.clock blank.clock;
   };
 }
+
+pub first-plain : (version : ℕ) → [] ≡ plain_rows_of (record { version = version; events = [] })
+unfolding plans_from plain_from
+first-plain version = refl
 
 -- ---- a part of the records
 

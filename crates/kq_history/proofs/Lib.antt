@@ -21,3 +21,4 @@ mod TrackedRecords
 mod TrackedNext
 mod Sayings
 mod FirstTracked
+mod PlainRows

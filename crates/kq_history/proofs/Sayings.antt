@@ -81,11 +81,11 @@ module _ (w : World counted) where
   close-silent pid fd = on_descriptor-holds Silent refused w pid fd _ (λ n _ _. silent _ refl refl refl)
 
   shared : (pid fd to : ℕ) (n : Named) → Silent (if fd == to then Possible idle else Possible (record idle {
-        closed = closes pid to (named_by pid to w);
-        opened = record { pid = pid; number = to; named = n } ∷ [];
-        doings = close_doings (named_by pid to w) w.objects ++ hold_doings n;
-        hints = close_hints (named_by pid to w) w.objects;
-      }))
+    closed = closes pid to (named_by pid to w);
+    opened = record { pid = pid; number = to; named = n } ∷ [];
+    doings = close_doings (named_by pid to w) w.objects ++ hold_doings n;
+    hints = close_hints (named_by pid to w) w.objects;
+  }))
   shared pid fd to n =
       by_test (λ b. Silent (if b then Possible idle else Possible (record idle {
         closed = closes pid to (named_by pid to w);

@@ -45,13 +45,13 @@ module _ (t : Traced) (e : Event) where
   abbrev pub next : World counted
   next = world_by end (plan end e now) now
 
-  abbrev past : List Planned
+  abbrev pub past : List Planned
   past = plans counted t.version t.events
 
-  reached : 1 + length past ≡ end
+  pub reached : 1 + length past ≡ end
   reached = let count = plans-length 1 (empty_world counted) t.events in omega (arith, count)
 
-  pushed : plans counted t.version (t.events ++ e ∷ []) ≡ past ++ plan end e now ∷ []
+  pub pushed : plans counted t.version (t.events ++ e ∷ []) ≡ past ++ plan end e now ∷ []
   pushed =
       plans-push 1 end (empty_world counted) t.events e (omega arith)
       ∙ ap (λ (w : World counted). past ++ plan end e w ∷ []) (seen-counted now)

@@ -214,11 +214,11 @@ module _ (numbers : List (ℕ × ℕ)) (targets : List Target) (w : World counte
   before pid to (Some n) has is names told = released pid to n has is names told
 
   shared : (pid fd to : ℕ) (n : Named) → has_number pid to numbers ≡ true → Stays (if fd == to then Possible idle else Possible (record idle {
-        closed = closes pid to (named_by pid to w);
-        opened = record { pid = pid; number = to; named = n } ∷ [];
-        doings = close_doings (named_by pid to w) w.objects ++ hold_doings n;
-        hints = close_hints (named_by pid to w) w.objects;
-      }))
+    closed = closes pid to (named_by pid to w);
+    opened = record { pid = pid; number = to; named = n } ∷ [];
+    doings = close_doings (named_by pid to w) w.objects ++ hold_doings n;
+    hints = close_hints (named_by pid to w) w.objects;
+  }))
   unfolding starts ends named_by
   shared pid fd to n there =
       by_test (λ b. Stays (if b then Possible idle else Possible (record idle {

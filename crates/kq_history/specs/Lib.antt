@@ -15,3 +15,5 @@ pub mod Noted
 pub mod Traced
 pub mod Tracked
 pub mod Sayings
+pub mod Plain
+pub mod Split

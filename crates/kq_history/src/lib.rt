@@ -26,3 +26,6 @@ pub use sources::Sources;
 pub use split::Split;
 pub use timeline::{Mark, Timeline};
 pub use timelines::Timelines;
+
+#[cfg(test)]
+mod tests;

@@ -87,8 +87,8 @@ fn note_numbers<V: Views>(
     ensures noted { OnOk result ((pid number at : ℕ) →
         value_at at None (marks_at pair_eq timelines.new.table (pid, number))
         ≡ (if has_number pid number numbers.now && nat_le place at
-            then (V.sees views.now).descriptor pid number
-            else value_at at None (marks_at pair_eq timelines.old.table (pid, number)))) }
+        then (V.sees views.now).descriptor pid number
+        else value_at at None (marks_at pair_eq timelines.old.table (pid, number)))) }
 {
     for number in numbers {
         timelines.mark(*number, place, views.descriptor(number.0, number.1))?;
@@ -108,8 +108,8 @@ fn note_targets<V: Views>(
     ensures noted { OnOk result ((t : Target) (at : ℕ) →
         value_at at None (marks_at target_key timelines.new.table t)
         ≡ (if has_target t targets.now && nat_le place at
-            then (V.sees views.now).view t
-            else value_at at None (marks_at target_key timelines.old.table t))) }
+        then (V.sees views.now).view t
+        else value_at at None (marks_at target_key timelines.old.table t))) }
 {
     for target in targets {
         timelines.mark(*target, place, views.view(*target))?;

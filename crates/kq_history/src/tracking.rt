@@ -67,7 +67,10 @@ fn note(
         seen.old seen.new) }
 {
     let numbers = touched_numbers(alloc, event, effect.closed.as_slice(), world)?;
-    let before = SeenAt { seen: &*seen, place };
+    let before = SeenAt {
+        seen: &*seen,
+        place,
+    };
     let hints = effect.hints.as_slice();
     let targets = touched_targets(alloc, event, hints, &before, world, numbers.as_slice())?;
     seen.note(place, numbers.as_slice(), targets.as_slice(), world)

@@ -16,7 +16,7 @@ loop-number-preserved g c =
     let p : ℕ × ℕ = get_or ns i (0, 0) in
     let here : Option Named = c.descriptor.result in
     let put : (other : ℕ × ℕ) → marks_at pair_eq c.mark.new.self.table other
-        ≡ marks_at pair_eq c.loop-number.timelines.table other ++ marked (pair_eq p other) c.args.place here = c.in_ok-mark.ensures in
+    ≡ marks_at pair_eq c.loop-number.timelines.table other ++ marked (pair_eq p other) c.args.place here = c.in_ok-mark.ensures in
     record {
       up_to = λ key. subst (IsUpTo c.args.place) (sym (put key))
           (up_to-marked (pair_eq p key) c.args.place here (marks_at pair_eq c.loop-number.timelines.table key) (c.loop-number.invariant.up_to key));

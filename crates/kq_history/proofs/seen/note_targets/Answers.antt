@@ -20,9 +20,9 @@ loop-target-preserved g c =
     let x : Target = get_or ts i (Socket 0) in
     let here : Option View = c.view.result in
     let came : (t : Target) → marks_at target_key c.mark.new.self.table t
-        ≡ marks_at target_key c.loop-target.timelines.table t ++ marked (target_key x t) c.args.place here = c.in_ok-mark.ensures in
+    ≡ marks_at target_key c.loop-target.timelines.table t ++ marked (target_key x t) c.args.place here = c.in_ok-mark.ensures in
     let put : (t : Target) → marks_at target_key c.mark.new.self.table t
-        ≡ marks_at target_key c.loop-target.timelines.table t ++ marked (target_eq x t) c.args.place here =
+    ≡ marks_at target_key c.loop-target.timelines.table t ++ marked (target_eq x t) c.args.place here =
     λ t. came t ∙ ap (λ b. marks_at target_key c.loop-target.timelines.table t ++ marked b c.args.place here) (as_target x t) in
     record {
       up_to = λ t. subst (IsUpTo c.args.place) (sym (put t))
