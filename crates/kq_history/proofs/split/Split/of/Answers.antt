@@ -19,7 +19,7 @@ loop-before-init c =
       tracked = subst (λ (es : List Event). IsTracked (record { version = version; events = es }) c.in_ok-world.world c.new-seen.result)
           (sym (none-taken c.as_slice-events.result.now))
           (first-tracked version c.in_ok-world.world c.new-seen.result c.in_ok-world.ensures c.new-seen.ensures);
-      plain = first-plain version ∙ ap (λ (es : List Event). plain_rows_of (record { version = version; events = es })) (sym (none-taken c.as_slice-events.result.now));
+      plain = c.new-plain.ensures.items ∙ first-plain version ∙ ap (λ (es : List Event). plain_rows_of (record { version = version; events = es })) (sym (none-taken c.as_slice-events.result.now));
     }
 
 pub track-requires-clause-counted : goal.track-requires-clause-counted
