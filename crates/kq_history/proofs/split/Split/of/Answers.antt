@@ -1,0 +1,61 @@
+use Rattle.std.proofs.Common.{◌≡◌, ◌∙◌, ◌+◌, ◌<◌, ◌≤◌, ◌++◌, ◌∷◌, [], ℕ, List, length, take, sym, ap, subst, arith}
+use Rattle.std.proofs.lemmas.List.{length-take-le, take_all, take_more}
+use Rattle.kq_model.specs.declared.event.Event.{Event}
+use Rattle.kq_model.specs.CountedWorld.{IsCountedWorld}
+use Rattle.kq_process.specs.World.{world_of}
+use Rattle.kq_history.specs.Plain.{plain_row}
+use Rattle.kq_history.specs.Split.{IsSplit}
+use Rattle.kq_history.specs.Traced.{Traced, plain_rows_of}
+use Rattle.kq_history.specs.Tracked.{IsTracked}
+use Rattle.kq_history.proofs.FirstTracked.{first-plain, first-tracked, none-taken}
+use Rattle.kq_history.proofs.PlainRows.{plain-longer}
+use Rattle.kq_history.proofs.TrackedNext.{up-later}
+use Rattle.kq_history.proofs.split.Split.of.Goals as goal
+
+pub loop-before-init : goal.loop-before-init
+loop-before-init c =
+    let version = c.args.trace.now.version in
+    record {
+      tracked = subst (λ (es : List Event). IsTracked (record { version = version; events = es }) c.in_ok-world.world c.new-seen.result)
+          (sym (none-taken c.as_slice-events.result.now))
+          (first-tracked version c.in_ok-world.world c.new-seen.result c.in_ok-world.ensures c.new-seen.ensures);
+      plain = c.new-plain.ensures.items ∙ first-plain version ∙ ap (λ (es : List Event). plain_rows_of (record { version = version; events = es })) (sym (none-taken c.as_slice-events.result.now));
+    }
+
+pub track-requires-clause-counted : goal.track-requires-clause-counted
+track-requires-clause-counted c =
+    let es = c.as_slice-events.result.now in
+    let n = c.loop-before.before in
+    subst (λ k. IsCountedWorld (k + 1) (world_of c.loop-before.world)) (length-take-le n es c.loop-before.auto.before-end) c.loop-before.invariant.tracked.counted
+
+pub track-requires-clause-up_to : goal.track-requires-clause-up_to
+track-requires-clause-up_to c =
+    let es = c.as_slice-events.result.now in
+    let n = c.loop-before.before in
+    let count : length (take n es) ≡ n = length-take-le n es c.loop-before.auto.before-end in
+    up-later (length (take n es)) (n + 1) c.loop-before.seen (omega (arith, count)) c.loop-before.invariant.tracked.up_to
+
+pub loop-before-preserved : goal.loop-before-preserved
+loop-before-preserved c =
+    let es = c.as_slice-events.result.now in
+    let n = c.loop-before.before in
+    let event : Event = c.index-events-before.result in
+    let t : Traced = record { version = c.args.trace.now.version; events = take n es } in
+    let count : length (take n es) + 1 ≡ n + 1 = ap (λ k. k + 1) (length-take-le n es c.loop-before.auto.before-end) in
+    let more : take (n + 1) es ≡ take n es ++ event ∷ [] =
+    take_more es n event c.loop-before-test.true ∙ ap (λ (x : Event). take n es ++ x ∷ []) (sym c.index-events-before.is) in
+    record {
+      tracked = subst (λ (xs : List Event). IsTracked (record { version = c.args.trace.now.version; events = xs }) c.track.new.world c.track.new.seen)
+          (sym more) (c.in_ok-effect.ensures.tracked t count c.loop-before.invariant.tracked);
+      plain = c.in_ok-put_plain.ensures ∙ ap (λ rows. rows ++ plain_row (n + 1) c.in_ok-effect.effect.verdict) c.loop-before.invariant.plain
+          ∙ sym (plain-longer t event (n + 1) c.loop-before.world c.in_ok-effect.effect count c.loop-before.invariant.tracked.world c.in_ok-effect.ensures.effect)
+          ∙ ap (λ (xs : List Event). plain_rows_of (record { version = c.args.trace.now.version; events = xs })) (sym more);
+    }
+
+pub invariant_of-result : goal.invariant_of-result
+invariant_of-result c =
+    let es = c.as_slice-events.result.now in
+    let n = c.loop-before.before in
+    let past : length es ≤ n = omega arith in
+    subst (λ (xs : List Event). IsSplit (record { version = c.args.trace.now.version; events = xs }) c.loop-before.seen c.loop-before.plain.items)
+    (take_all n es past) (record { shows = c.loop-before.invariant.tracked.shows; plain_is = c.loop-before.invariant.plain })

@@ -1,0 +1,31 @@
+//! What was seen of the world at every place of a trace, and what the trace says to each kqueue: so
+//! that each kqueue can be replayed alone.
+#![tactic(auto)]
+
+mod at;
+mod item;
+mod kqueues;
+mod log;
+mod seen;
+mod shelves;
+mod sources;
+mod split;
+mod spoken;
+mod timeline;
+mod timelines;
+mod touched;
+mod tracking;
+
+pub use at::HistoryAt;
+pub use item::{Item, Source, What};
+pub use kqueues::{Concerned, Kqueues};
+pub use log::Log;
+pub use seen::Seen;
+pub use shelves::{Shelf, Shelves};
+pub use sources::Sources;
+pub use split::Split;
+pub use timeline::{Mark, Timeline};
+pub use timelines::Timelines;
+
+#[cfg(test)]
+mod tests;

@@ -1,0 +1,105 @@
+ghost use Rattle.std.specs.Prelude.{◌≡◌, ◌++◌, IfOk, OnOk};
+ghost use Rattle.kq_history.specs.Plain.{plain_row};
+
+use crate::at::HistoryAt;
+use crate::seen::Seen;
+use crate::tracking::track;
+use kq_model::{Event, Memory, Named, Reply, Row, Target, Trace, View, Why};
+use kq_process::World;
+use std::alloc::Global;
+use std::marker::Model;
+
+/// A trace with what was seen of the world after each of its records, and the rows of those that
+/// are impossible.
+#[derive(Drop)]
+pub struct Split<'a> {
+    version: u32,
+    events: &'a [Event],
+    seen: Seen,
+    plain: Vec<Row>,
+}
+
+impl<'a> Model for Split<'a> {
+    ghost use Rattle.kq_history.specs.Split.{IsSplit};
+    ghost use Rattle.kq_history.specs.Traced.{Traced};
+
+    ghost Value = { Traced };
+
+    ghost view = { λ s. record { version = s.version; events = s.events.now } };
+
+    ghost invariant = { λ s. IsSplit (record { version = s.version; events = s.events.now }) s.seen s.plain.items };
+}
+
+impl<'a> Split<'a> {
+    ghost use Rattle.kq_history.specs.Traced.{plain_rows_of, seen_at, traced};
+
+    /// One pass of the world over the trace. Its cost is that of the trace.
+    pub fn of(alloc: Global, trace: &'a Trace) -> Result<Self, Memory>
+        ensures { IfOk result (λ s. s ≡ traced trace.now) }
+    {
+        let events = trace.events.as_slice();
+        let mut world = World::new(alloc)?;
+        let mut seen = Seen::new(alloc);
+        let mut plain = Vec::new(alloc);
+        for (before, event) in events.iter().enumerate() {
+            let place = before as u64 + 1;
+            let effect = track(alloc, place, event, &mut world, &mut seen)?;
+            put_plain(&mut plain, place, &effect.verdict)?;
+        }
+        Ok(Split {
+            version: trace.version,
+            events,
+            seen,
+            plain,
+        })
+    }
+
+    /// The rows of all impossible records, by rising place.
+    pub fn plain_rows(&self) -> &[Row]
+        ensures { result.now ≡ plain_rows_of self.now }
+    {
+        self.plain.as_slice()
+    }
+
+    /// The world after the record of a place, as kqueues see it; the empty one at place 0.
+    pub fn at<'s>(&'s self, place: u64) -> HistoryAt<'s, 'a>
+        ensures split { result.split.now ≡ self.now }
+        ensures place { result.place ≡ place }
+    {
+        HistoryAt { split: self, place }
+    }
+
+    /// What is seen of a target after a place.
+    pub(crate) fn view(&self, place: u64, target: Target) -> Option<View>
+        ensures { result ≡ (seen_at self.now place).view target }
+    {
+        self.seen.view(place, target)
+    }
+
+    /// What a number of a process names after a place.
+    pub(crate) fn descriptor(&self, place: u64, pid: u32, number: u32) -> Option<Named>
+        ensures { result ≡ (seen_at self.now place).descriptor pid number }
+    {
+        self.seen.descriptor(place, pid, number)
+    }
+
+    /// The clock after a place, in ns.
+    pub(crate) fn now(&self, place: u64) -> u64
+        ensures { result ≡ (seen_at self.now place).now }
+    {
+        self.seen.now(place)
+    }
+}
+
+/// Adds the row of the record at a place, if it is impossible.
+fn put_plain(plain: &mut Vec<Row>, at: u64, verdict: &Result<(), Why>) -> Result<(), Memory>
+    ensures { OnOk result (plain.new.items ≡ plain.old.items ++ plain_row at verdict.now) }
+{
+    match verdict {
+        Ok(()) => Ok(()),
+        Err(why) => {
+            let reply = Reply::Impossible(*why);
+            plain.push(Row { at, reply }).map_err(|_| Memory)
+        }
+    }
+}
