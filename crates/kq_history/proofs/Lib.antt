@@ -22,3 +22,7 @@ mod TrackedNext
 mod Sayings
 mod FirstTracked
 mod PlainRows
+mod NamedKqueues
+mod SaidItems
+mod SaidNext
+mod PrivateOf

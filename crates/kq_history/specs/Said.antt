@@ -1,9 +1,9 @@
 -- What the records of a trace say to kqueues, as far as it was gone through.
-use Rattle.std.specs.Prelude.{◌≡◌, ◌<◌, ℕ, ◌+◌, List, [], ◌∷◌, ◌++◌, length, All, Option, Some, None}
+use Rattle.std.specs.Prelude.{◌≡◌, ◌<◌, ℕ, ◌+◌, List, [], ◌∷◌, ◌++◌, length, map, All, Option, Some, None}
 use Rattle.kq_model.specs.Births.{Birth}
 use Rattle.kq_model.specs.Clock.{Span}
 use Rattle.kq_model.specs.Close.{Pair}
-use Rattle.kq_model.specs.Items.{What, all_items, items_at, whats}
+use Rattle.kq_model.specs.Items.{What, Closed, Told, all_items, clock_whats, items_at}
 use Rattle.kq_model.specs.Moment.{Moment}
 use Rattle.kq_model.specs.References.{references}
 use Rattle.kq_model.specs.Targets.{Posted}
@@ -11,6 +11,7 @@ use Rattle.kq_model.specs.Views.{Views}
 use Rattle.kq_model.specs.World.{Call}
 use Rattle.kq_process.specs.Effects.{pairs_in}
 use Rattle.kq_history.specs.declared.item.Item.{Item}
+use Rattle.kq_history.specs.declared.item.What.TheVariants as what
 use Rattle.kq_history.specs.declared.item.Source.{Source}
 use Rattle.kq_history.specs.declared.kqueues.Concerned.{Concerned}
 use Rattle.kq_history.specs.declared.kqueues.Kqueues.{Kqueues}
@@ -27,9 +28,15 @@ use Rattle.kq_history.specs.Traced.{Traced, births_of, moments_of, places_of}
 abbrev pub said_whats : ℕ → List What → List Item
 said_whats place ws = bare_items (items_at place ws)
 
--- all that the record of a place says, in the record's order
-abbrev pub said_at : ℕ → List (ℕ × ℕ) → List Posted → Option Span → Option Call → List Item
-said_at place closed hints clock call = said_whats place (whats (pairs_in closed) hints clock call)
+abbrev pub called_items : ℕ → Option ℕ → List Item
+called_items place None = []
+called_items place (Some kqueue) = record { place = place; what = what.Called kqueue } ∷ []
+
+-- all that the record of a place says, in the record's order, part by part
+abbrev pub said_items : ℕ → List (ℕ × ℕ) → List Posted → Option Span → Option ℕ → List Item
+said_items place closed hints clock kqueue =
+    said_whats place (map Closed (pairs_in closed))
+    ++ (said_whats place (map Told hints) ++ (said_whats place (clock_whats clock) ++ called_items place kqueue))
 
 -- a kqueue is born, or one is called; the views are those of the world after the record
 abbrev pub AreHeard : ℕ → Option Pair → Option Call → Views → Kqueues → Kqueues → Type 0

@@ -1,13 +1,12 @@
 ghost use Rattle.std.specs.Prelude.{◌≡◌, ◌++◌, [], length, map, OnOk};
 ghost use Rattle.std.specs.List.Sorted.{IsStrictlyIncreasing};
-ghost use Rattle.std.specs.Option.{option_map};
-ghost use Rattle.kq_model.specs.Items.{call_whats, clock_whats, Closed, Told};
-ghost use Rattle.kq_model.specs.World.{views_of, Call};
+ghost use Rattle.kq_model.specs.Items.{clock_whats, Closed, Told};
+ghost use Rattle.kq_model.specs.World.{views_of};
 ghost use Rattle.kq_process.specs.Effects.{pairs_in};
 ghost use Rattle.kq_process.specs.World.{world_of};
 ghost use Rattle.kq_history.specs.Log.{AreShelved};
-ghost use Rattle.kq_history.specs.Said.{said_at, said_whats, AreHeard};
-ghost use Rattle.kq_history.specs.Sayings.{born_of, call_of, clock_of};
+ghost use Rattle.kq_history.specs.Said.{called_items, said_items, said_whats, AreHeard};
+ghost use Rattle.kq_history.specs.Sayings.{born_of, call_by, clock_of, kqueue_of};
 
 use crate::item::{Item, What};
 use crate::kqueues::Kqueues;
@@ -21,6 +20,39 @@ use std::alloc::Global;
 pub struct Said {
     pub(crate) log: Log,
     pub(crate) kqueues: Kqueues,
+}
+
+/// What is asked of the world before a record: the clock, and which kqueue the record calls.
+#[derive(Drop, Clone, Copy)]
+pub struct Before {
+    pub clock: u64,
+    pub kqueue: Option<u64>,
+}
+
+impl Before {
+    pub fn of(event: &Event, world: &World) -> Self
+        ensures clock { result.clock ≡ (world_of world.now).now }
+        ensures kqueue { result.kqueue ≡ kqueue_of event.now (world_of world.now) }
+    {
+        Before {
+            clock: world.now(),
+            kqueue: called(event, world),
+        }
+    }
+}
+
+/// Which kqueue a record calls, if it is possible.
+#[tactic(auto, unfolding(crate::specs::Sayings::kqueue_of, crate::specs::Sayings::kqueue_named))]
+fn called(event: &Event, world: &World) -> Option<u64>
+    ensures { result ≡ kqueue_of event.now (world_of world.now) }
+{
+    match event {
+        Event::Kevent { pid, fd, .. } => match world.descriptor(*pid, *fd) {
+            Some(Named::Kqueue(kqueue)) => Some(kqueue),
+            _ => None,
+        },
+        _ => None,
+    }
 }
 
 impl Said {
@@ -37,31 +69,30 @@ impl Said {
         }
     }
 
-    /// What a possible record says. The world is that after the record, and `from` the clock before
-    /// it. After Memory nothing is known.
+    /// What a possible record says. The world is that after the record. After Memory nothing is
+    /// known.
     pub fn hear(
         &mut self,
         place: u64,
         event: &Event,
         effect: &Effect,
-        from: u64,
+        before: Before,
         world: &World,
     ) -> Result<(), Memory>
         requires rising { IsStrictlyIncreasing self.old.kqueues.places.items }
         requires one_each { length self.old.kqueues.concerned.items ≡ length self.old.kqueues.places.items }
         ensures items { OnOk result (self.new.log.items.items ≡ self.old.log.items.items
-            ++ said_at place effect.now.closed effect.now.hints (clock_of event.now from)
-            (call_of event.now (world_of world.now))) }
+            ++ said_items place effect.now.closed effect.now.hints (clock_of event.now before.clock) before.kqueue) }
         ensures shelved { OnOk result (AreShelved self.old.log.items.items self.old.log.shelves.table
             → AreShelved self.new.log.items.items self.new.log.shelves.table) }
-        ensures kqueues { OnOk result (AreHeard place (born_of event.now) (call_of event.now (world_of world.now))
+        ensures kqueues { OnOk result (AreHeard place (born_of event.now) (call_by event.now before.kqueue)
             (views_of (world_of world.now)) self.old.kqueues self.new.kqueues) }
     {
         push_closed(&mut self.log, place, effect.closed.as_slice())?;
         push_told(&mut self.log, place, effect.hints.as_slice())?;
-        push_clock(&mut self.log, place, event, from)?;
-        push_call(&mut self.log, place, event, world)?;
-        hear_kqueue(&mut self.kqueues, place, event, world)
+        push_clock(&mut self.log, place, event, before.clock)?;
+        push_call(&mut self.log, place, before.kqueue)?;
+        hear_kqueue(&mut self.kqueues, place, event, before.kqueue, world)
     }
 }
 
@@ -119,14 +150,12 @@ fn push_clock(log: &mut Log, place: u64, event: &Event, from: u64) -> Result<(),
     }
 }
 
-#[tactic(auto, unfolding(kq_model::specs::Items::call_whats))]
-fn push_call(log: &mut Log, place: u64, event: &Event, world: &World) -> Result<(), Memory>
-    ensures items { OnOk result (log.new.items.items
-        ≡ log.old.items.items ++ said_whats place (call_whats (call_of event.now (world_of world.now)))) }
+fn push_call(log: &mut Log, place: u64, kqueue: Option<u64>) -> Result<(), Memory>
+    ensures items { OnOk result (log.new.items.items ≡ log.old.items.items ++ called_items place kqueue) }
     ensures shelved { OnOk result (AreShelved log.old.items.items log.old.shelves.table
         → AreShelved log.new.items.items log.new.shelves.table) }
 {
-    match called(event, world) {
+    match kqueue {
         None => Ok(()),
         Some(kqueue) => {
             let what = What::Called { kqueue };
@@ -135,36 +164,23 @@ fn push_call(log: &mut Log, place: u64, event: &Event, world: &World) -> Result<
     }
 }
 
-/// The kqueue of a call.
-#[tactic(auto, unfolding(crate::specs::Sayings::call_of, crate::specs::Sayings::call_on))]
-fn called(event: &Event, world: &World) -> Option<u64>
-    ensures { result ≡ option_map (λ (c : Call). c.kqueue) (call_of event.now (world_of world.now)) }
-{
-    match event {
-        Event::Kevent { pid, fd, .. } => match world.descriptor(*pid, *fd) {
-            Some(Named::Kqueue(kqueue)) => Some(kqueue),
-            _ => None,
-        },
-        _ => None,
-    }
-}
-
 /// The birth or the call of a kqueue.
-#[tactic(auto, unfolding(crate::specs::Sayings::born_of, crate::specs::Sayings::call_of, crate::specs::Sayings::call_on))]
+#[tactic(auto, unfolding(crate::specs::Sayings::born_of, crate::specs::Sayings::call_by))]
 fn hear_kqueue(
     kqueues: &mut Kqueues,
     place: u64,
     event: &Event,
+    kqueue: Option<u64>,
     world: &World,
 ) -> Result<(), Memory>
     requires rising { IsStrictlyIncreasing kqueues.old.places.items }
     requires one_each { length kqueues.old.concerned.items ≡ length kqueues.old.places.items }
-    ensures { OnOk result (AreHeard place (born_of event.now) (call_of event.now (world_of world.now))
+    ensures { OnOk result (AreHeard place (born_of event.now) (call_by event.now kqueue)
         (views_of (world_of world.now)) kqueues.old kqueues.new) }
 {
     match event {
         Event::Kqueue { pid, .. } => kqueues.bear(place, *pid),
-        Event::Kevent { changes, .. } => match called(event, world) {
+        Event::Kevent { changes, .. } => match kqueue {
             None => Ok(()),
             Some(kqueue) => kqueues.call(kqueue, changes.as_slice(), world),
         },

@@ -2,11 +2,14 @@ ghost use Rattle.std.specs.Prelude.{◌≡◌, ◌++◌, length, IfOk, OnOk};
 ghost use Rattle.kq_process.specs.World.{world_of};
 ghost use Rattle.kq_history.specs.Heard.{IsHeard};
 ghost use Rattle.kq_history.specs.Plain.{plain_row};
+ghost use Rattle.kq_history.specs.Sayings.{kqueue_of};
+ghost use Rattle.kq_model.specs.Objects.{counted};
+ghost use Rattle.kq_model.specs.World as model;
 ghost use Rattle.std.specs.List.Sorted.{IsStrictlyIncreasing};
 
 use crate::at::HistoryAt;
 use crate::private::Private;
-use crate::said::Said;
+use crate::said::{Before, Said};
 use crate::seen::Seen;
 use crate::tracking::track;
 use kq_model::{Event, Memory, Named, Reply, Row, Target, Trace, View, Why};
@@ -50,9 +53,9 @@ impl<'a> Split<'a> {
         let mut plain = Vec::new(alloc);
         for (before, event) in events.iter().enumerate() {
             let place = before as u64 + 1;
-            let from = world.now();
+            let before_it = Before::of(event, &world);
             let effect = track(alloc, place, event, &mut world, &mut seen)?;
-            hear(&mut said, place, event, &effect, from, &world)?;
+            hear(&mut said, place, event, &effect, before_it, &world)?;
             put_plain(&mut plain, place, &effect.verdict)?;
         }
         Ok(Split {
@@ -130,16 +133,17 @@ fn hear(
     place: u64,
     event: &Event,
     effect: &Effect,
-    from: u64,
+    before: Before,
     world: &World,
 ) -> Result<(), Memory>
     requires rising { IsStrictlyIncreasing said.old.kqueues.places.items }
     requires one_each { length said.old.kqueues.concerned.items ≡ length said.old.kqueues.places.items }
-    ensures { OnOk result (IsHeard place event.now effect.now from (world_of world.now) said.old said.new) }
+    ensures { OnOk result ((old : model.World counted) → before.clock ≡ old.now → before.kqueue ≡ kqueue_of event.now old
+        → IsHeard place event.now effect.now old (world_of world.now) said.old said.new) }
 {
     match effect.verdict {
         Err(_) => Ok(()),
-        Ok(()) => said.hear(place, event, effect, from, world),
+        Ok(()) => said.hear(place, event, effect, before, world),
     }
 }
 
