@@ -26,3 +26,4 @@ mod NamedKqueues
 mod SaidItems
 mod SaidNext
 mod PrivateOf
+mod SplitNext

@@ -114,7 +114,7 @@ fn find(places: &[u64], place: u64) -> Option<usize>
     ensures there { IfSome result (IsAlone place places.now) }
     ensures absent { result ≡ None → IsAbsent place places.now }
 {
-    let index = places.partition_point(|made| *made < place);
+    let index = places.partition_point(|made| place > *made);
     if index < places.len() && places[index] == place {
         return Some(index);
     }
