@@ -15,8 +15,10 @@ pub record AreAllUpTo (place : ℕ) (s : Seen) : Type 0 where
   pub clock : IsUpTo place s.clock
 
 -- from `place` on the world is another one, which differs from the last one in these keys at most
-pub record IsNextWorld (place : ℕ) (after : Views) (pairs : List (ℕ × ℕ)) (targets : List Target) (worlds next : ℕ → Views) : Type 0 where
+pub record IsNextWorld (place : ℕ) (after : Views) (pairs : List (ℕ × ℕ)) (targets : List Target)
+    (worlds next : ℕ → Views) : Type 0 where
   pub earlier : (at : ℕ) → next at ≡ (if nat_lt at place then worlds at else after)
   pub same_numbers : (at pid number : ℕ) → nat_lt at place ≡ false → has_number pid number pairs ≡ false
       → after.descriptor pid number ≡ (worlds at).descriptor pid number
-  pub same_views : (at : ℕ) (t : Target) → nat_lt at place ≡ false → has_target t targets ≡ false → after.view t ≡ (worlds at).view t
+  pub same_views : (at : ℕ) (t : Target) → nat_lt at place ≡ false → has_target t targets ≡ false
+      → after.view t ≡ (worlds at).view t

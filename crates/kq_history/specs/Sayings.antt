@@ -1,5 +1,5 @@
--- What a possible record says of itself: a kqueue that it makes, its call, the step of the clock. Other records say none
--- of these.
+-- What a possible record says of itself: a kqueue that it makes, its call, the step of the clock. Other records say
+-- none of these.
 use Rattle.std.specs.Prelude.{◌≡◌, ℕ, ℤ, pos, negsuc, List, Option, Some, None}
 use Rattle.kq_model.specs.declared.change.Change.{Change}
 use Rattle.kq_model.specs.declared.event.Event.{Event}

@@ -24,7 +24,8 @@ seen_by s place = record {
 -- at every place what was seen is what these worlds show
 pub record Shows (worlds : ℕ → Views) (s : Seen) : Type 0 where
   pub view : (place : ℕ) (t : Target) → (seen_by s place).view t ≡ (worlds place).view t
-  pub descriptor : (place pid number : ℕ) → (seen_by s place).descriptor pid number ≡ (worlds place).descriptor pid number
+  pub descriptor : (place pid number : ℕ)
+      → (seen_by s place).descriptor pid number ≡ (worlds place).descriptor pid number
   pub now : (place : ℕ) → (seen_by s place).now ≡ (worlds place).now
 
 -- nothing was seen yet

@@ -35,9 +35,11 @@ IsNoted place e closed hints after old new =
     (touched_targets e hints (seen_by old place) (views_of after) (touched_numbers e closed after)) worlds next
     → Shows worlds old → Shows next new
 
-abbrev pub IsFollowedBy : ℕ → Event → Result (Unit {0}) Why → List (ℕ × ℕ) → List Posted → model.World counted → Seen → Seen → Type 0
+abbrev pub IsFollowedBy : ℕ → Event → Result (Unit {0}) Why → List (ℕ × ℕ) → List Posted → model.World counted
+    → Seen → Seen → Type 0
 IsFollowedBy place e (Err why) closed hints after old new = new ≡ old
-IsFollowedBy place e (Ok done) closed hints after old new = AreAllUpTo place new × IsNoted place e closed hints after old new
+IsFollowedBy place e (Ok done) closed hints after old new =
+    AreAllUpTo place new × IsNoted place e closed hints after old new
 
 -- of an impossible record nothing is noted
 abbrev pub IsFollowed : ℕ → Event → Effect → model.World counted → Seen → Seen → Type 0

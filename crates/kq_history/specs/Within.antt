@@ -23,13 +23,16 @@ module _ (numbers : List (ℕ × ℕ)) (targets : List Target) (w : World counte
     pub told : HasEach has (told_targets p.hints)
     pub spoken : HasEach has targets
     pub opened : All (λ (d : Descriptor). HasEach has (targets_named (Some d.named))) p.opened
-    pub numbered : (pid number : ℕ) → has_number pid number numbers ≡ true → HasEach has (targets_named (named_among pid number w.table))
-    pub closed : (pid number : ℕ) → has_pair pid number p.closed ≡ true → HasEach has (targets_named (named_among pid number w.table))
+    pub numbered : (pid number : ℕ) → has_number pid number numbers ≡ true
+        → HasEach has (targets_named (named_among pid number w.table))
+    pub closed : (pid number : ℕ) → has_pair pid number p.closed ≡ true
+        → HasEach has (targets_named (named_among pid number w.table))
 
   pub record IsWithin (p : Plan) : Type 0 where
     pub opened : All (λ (d : Descriptor). (has_number d.pid d.number numbers || starts d.pid p.started) ≡ true) p.opened
     pub born : (x : Pair) → p.born ≡ Some x → has_number x.pid x.number numbers ≡ true
-    pub process : (pid : ℕ) → (starts pid p.started || ends pid p.ended) ≡ true → has_target (Process pid) targets ≡ true
+    pub process : (pid : ℕ) → (starts pid p.started || ends pid p.ended) ≡ true
+        → has_target (Process pid) targets ≡ true
     pub doings : (has : Target → Bool) → PassesAll has p → All (Accounts has w.objects) p.doings
 
   abbrev pub StaysWithin : Planned → Type 0

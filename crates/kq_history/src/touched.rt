@@ -3,7 +3,8 @@
 ghost use Rattle.std.specs.Prelude.{◌≡◌, ◌++◌, ◌∷◌, [], IfOk, OnOk};
 ghost use Rattle.std.specs.List.{flat_map};
 ghost use Rattle.kq_history.specs.Spoken.{file_targets, option_list, process_targets};
-ghost use Rattle.kq_history.specs.Touched.{keys_of, open_numbers, targets_named, targets_of, told_targets, touched_numbers, touched_targets};
+ghost use Rattle.kq_history.specs.Touched.{keys_of, open_numbers, touched_numbers};
+ghost use Rattle.kq_history.specs.Touched.{targets_named, targets_of, told_targets, touched_targets};
 ghost use Rattle.kq_process.specs.Processes.{descriptors_in};
 ghost use Rattle.kq_process.specs.World.{world_of};
 
