@@ -48,6 +48,10 @@ is-private t said is place c (index, inside, here, stands) items picked =
     let count : length places ≡ length bs = ap (λ (ps : List ℕ). length ps) is.births ∙ length-places bs in
     let within : index < length bs = omega (arith, inside, count) in
     let made : b.place ≡ place = place-at bs index no_birth within ∙ ap (λ (ps : List ℕ). get_or ps index 0) (sym is.births) ∙ here in
-    let named : IsNamedBy (moments_of t) b c = subst (IsNamedBy (moments_of t) b) (sym stands) (named-at (moments_of t) bs said.kqueues.concerned.items is.concerned index no_birth c within) in
-    (b, (index, within, other-none bs index b no_birth within), made, sym named.owner_is,
-    picked ∙ ap (filter (is_from c.sources.list.items)) is.log ∙ picked-private (moments_of t) b c.owner c.sources.list.items (concerned-by (moments_of t) b c named))
+    let named : IsNamedBy (moments_of t) b c = subst (IsNamedBy (moments_of t) b) (sym stands) (named-at (moments_of t) bs said.kqueues.concerned.items is.concerned index no_birth c within) in (
+      b,
+      (index, within, other-none bs index b no_birth within),
+      made,
+      sym named.owner_is,
+      picked ∙ ap (filter (is_from c.sources.list.items)) is.log ∙ picked-private (moments_of t) b c.owner c.sources.list.items (concerned-by (moments_of t) b c named),
+    )

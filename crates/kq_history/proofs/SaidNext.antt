@@ -181,8 +181,7 @@ module _ (t : Traced) (e : Event) (counts : IsCountedWorld (end t e) (now t e)) 
     kqueues-next s s' said (Some x) call born calls heard =
         let c = heard.1.0 in
         let b : Birth = record { place = end t e; owner = x.pid; number = x.number } in
-        let none : m.call ≡ None = m-call ∙ sym (call-known e (now t e)) ∙ none-called e x (kqueue_of e (now t e)) born in
-        (
+        let none : m.call ≡ None = m-call ∙ sym (call-known e (now t e)) ∙ none-called e x (kqueue_of e (now t e)) born in (
           heard.0 ∙ ap (λ ps. ps ++ end t e ∷ []) said.births
               ∙ sym (map-append (λ (b : Birth). b.place) (births_of t) (b ∷ []))
               ∙ ap (λ bs. map (λ (b : Birth). b.place) bs) (sym (same_births ∙ ap (λ x. births_of t ++ birth_at (end t e) x) born)),

@@ -11,10 +11,12 @@ use Rattle.kq_history.specs.Said.{said_items, AreHeard}
 use Rattle.kq_history.specs.Sayings.{born_of, call_by, clock_of, kqueue_of}
 
 -- of a possible one, with the worlds before it and after it
-pub record IsSaidOnce (place : ℕ) (e : Event) (effect : Effect) (before after : World counted) (old new : Said) : Type 0 where
+pub record IsSaidOnce (place : ℕ) (e : Event) (effect : Effect) (before after : World counted)
+    (old new : Said) : Type 0 where
   pub items : new.log.items.items
       ≡ old.log.items.items ++ said_items place effect.closed effect.hints (clock_of e before.now) (kqueue_of e before)
-  pub shelved : AreShelved old.log.items.items old.log.shelves.table → AreShelved new.log.items.items new.log.shelves.table
+  pub shelved : AreShelved old.log.items.items old.log.shelves.table
+      → AreShelved new.log.items.items new.log.shelves.table
   pub kqueues : AreHeard place (born_of e) (call_by e (kqueue_of e before)) (views_of after) old.kqueues new.kqueues
 
 abbrev pub IsHeardBy : Result (Unit {0}) Why → ℕ → Event → Effect → World counted → World counted → Said → Said → Type 0

@@ -36,7 +36,8 @@ impl<'a> Model for Split<'a> {
 
     ghost view = { λ s. record { version = s.version; events = s.events.now } };
 
-    ghost invariant = { λ s. IsSplit (record { version = s.version; events = s.events.now }) s.seen s.said s.plain.items };
+    ghost invariant = { λ s.
+        IsSplit (record { version = s.version; events = s.events.now }) s.seen s.said s.plain.items };
 }
 
 impl<'a> Split<'a> {
@@ -138,7 +139,8 @@ fn hear(
 ) -> Result<(), Memory>
     requires rising { IsStrictlyIncreasing said.old.kqueues.places.items }
     requires one_each { length said.old.kqueues.concerned.items ≡ length said.old.kqueues.places.items }
-    ensures { OnOk result ((old : model.World counted) → before.clock ≡ old.now → before.kqueue ≡ kqueue_of event.now old
+    ensures { OnOk result ((old : model.World counted) → before.clock ≡ old.now
+        → before.kqueue ≡ kqueue_of event.now old
         → IsHeard place event.now effect.now old (world_of world.now) said.old said.new) }
 {
     match effect.verdict {

@@ -142,4 +142,3 @@ fn private_lists_hold_what_concerns_each(rt: HostRuntime) -> Result<(), Fail> {
     assert_eq!(rt; private.owner(), 2);
     Ok(())
 }
-
