@@ -11,7 +11,7 @@ use Rattle.kq_model.specs.Targets.{Posted}
 use Rattle.kq_model.specs.World.{Call}
 use Rattle.kq_process.specs.Effects.{pairs_in}
 use Rattle.kq_history.specs.declared.item.Item.{Item}
-use Rattle.kq_history.specs.Items.{bare_items}
+use Rattle.kq_history.specs.Items.{bare, bare_items}
 use Rattle.kq_history.specs.Said.{called_items, said_items, said_whats}
 
 -- which kqueue a call is on
@@ -21,7 +21,7 @@ kqueue_in (Some c) = Some c.kqueue
 
 said-both : (place : ℕ) (ws vs : List What) → said_whats place (ws ++ vs) ≡ said_whats place ws ++ said_whats place vs
 said-both place [] vs = refl
-said-both place (w ∷ ws) vs = ap (λ rest. _ ∷ rest) (said-both place ws vs)
+said-both place (w ∷ ws) vs = ap (λ rest. bare (record { place = place; what = w }) ∷ rest) (said-both place ws vs)
 
 said-call : (place : ℕ) (call : Option Call) → said_whats place (call_whats call) ≡ called_items place (kqueue_in call)
 unfolding call_whats
@@ -41,4 +41,4 @@ said-parts place closed hints clock call =
 pub items-longer : (ms : List Moment) (m : Moment) → bare_items (all_items (ms ++ m ∷ [])) ≡ bare_items (all_items ms) ++ bare_items (items_in m)
 items-longer ms m =
     ap bare_items (flat_map-append items_in ms (m ∷ []) ∙ ap (λ xs. all_items ms ++ xs) (append-nil (items_in m)))
-    ∙ map-append _ (all_items ms) (items_in m)
+    ∙ map-append bare (all_items ms) (items_in m)
