@@ -116,7 +116,7 @@ fn called(place: u64, kqueue: u64) -> Item {
 fn private_lists_hold_what_concerns_each(rt: HostRuntime) -> Result<(), Fail> {
     let trace = dup_over(rt.alloc())?;
     let split = Split::of(rt.alloc(), &trace)?;
-    assert_eq!(rt; split.kqueues(), &[2, 3, 8]);
+    assert_eq!(rt; split.kqueues(), [2, 3, 8].as_slice());
     assert!(rt; split.plain_rows().is_empty());
     let closed = Item {
         place: 13,
@@ -130,7 +130,7 @@ fn private_lists_hold_what_concerns_each(rt: HostRuntime) -> Result<(), Fail> {
         called(14, 2),
         called(17, 2),
     ];
-    assert_eq!(rt; split.private(2)?.items(), &first);
+    assert_eq!(rt; split.private(2)?.items(), first.as_slice());
     let child = [
         told(5, Hint::Writable),
         called(11, 8),
@@ -138,7 +138,7 @@ fn private_lists_hold_what_concerns_each(rt: HostRuntime) -> Result<(), Fail> {
         called(16, 8),
     ];
     let private = split.private(8)?;
-    assert_eq!(rt; private.items(), &child);
+    assert_eq!(rt; private.items(), child.as_slice());
     assert_eq!(rt; private.owner(), 2);
     Ok(())
 }
