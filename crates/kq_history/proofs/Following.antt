@@ -2,7 +2,7 @@
 use Rattle.std.proofs.Common.{◌≡◌, ◌+◌, ◌<◌, ◌≤◌, ◌&&◌, ◌||◌, ℕ, Bool, true, false, not, cond, leb, ltb, List, [], ◌∷◌, ◌++◌, refl, sym, ap, subst, ◌∙◌, arith}
 use Rattle.std.proofs.lemmas.Bool.{lt-leb, le-leb, ltb-true, ltb-false}
 use Rattle.std.proofs.lemmas.List.{append-nil}
-use Rattle.std.proofs.lemmas.List.Elements.{All-nil, All-cons, All-append}
+use Rattle.std.proofs.lemmas.List.Elements.{All-nil, All-cons, All-head, All-tail, All-append}
 use Rattle.kq_model.specs.declared.object.Target.{Target}
 use Rattle.kq_model.specs.Views.{Views}
 use Rattle.kq_model.proofs.KnoteLaws.{by_test}
@@ -99,3 +99,21 @@ up_to-marked false place value ms all = subst (IsUpTo place) (sym (append-nil ms
 up_to-marked true place value ms all =
     All-append (λ (m : Mark _). m.place ≤ place) ms (record { place = place; value = value } ∷ []) all
     (All-cons (λ (m : Mark _). m.place ≤ place) (record { place = place; value = value }) [] (omega arith) (All-nil (λ (m : Mark _). m.place ≤ place)))
+
+-- from the place on which no mark is later, the value stays
+pub settled : {V : Type 0} (place at : ℕ) (before : V) (ms : List (Mark V)) → IsUpTo place ms → place ≤ at
+    → value_at at before ms ≡ value_at place before ms
+settled place at before [] up later = refl
+settled place at before (m ∷ ms) up later =
+    let here = All-head (λ (x : Mark _). x.place ≤ place) m ms up in
+    let begun : leb m.place place ≡ true = le-leb m.place place here in
+    let begun_then : leb m.place at ≡ true = le-leb m.place at (omega (arith, here, later)) in
+    ap (λ b. value_at at (cond b m.value before) ms) begun_then
+    ∙ settled place at m.value ms (All-tail (λ (x : Mark _). x.place ≤ place) m ms up) later
+    ∙ ap (λ b. value_at place (cond b m.value before) ms) (sym begun)
+
+-- one key more, whose value is read off the marks
+pub noted-then : {V : Type 0} (is any up : Bool) (here read before cur new : V) → new ≡ cond (is && up) here cur → cur ≡ cond (any && up) read before
+    → (is ≡ true → here ≡ read) → new ≡ cond ((any || is) && up) read before
+noted-then is any up here read before cur new came noted same =
+    came ∙ ap (λ v. cond (is && up) here v) noted ∙ marked-more is any up here read before same

@@ -22,3 +22,8 @@ mod TrackedNext
 mod Sayings
 mod FirstTracked
 mod PlainRows
+mod NamedKqueues
+mod SaidItems
+mod SaidNext
+mod PrivateOf
+mod SplitNext

@@ -1,5 +1,5 @@
 -- Where a number stands among rising ones.
-use Rattle.std.proofs.Common.{◌≡◌, ◌<◌, ◌≤◌, ℕ, zero, suc, Bool, true, false, ltb, length, List, [], ◌∷◌, get_or, refl, sym, ap, subst, ◌∙◌, arith}
+use Rattle.std.proofs.Common.{◌≡◌, ◌≢◌, ◌<◌, ◌≤◌, ℕ, zero, suc, Bool, true, false, ltb, length, List, [], ◌∷◌, get_or, refl, sym, ap, subst, ◌∙◌, arith}
 use Rattle.std.specs.List.{Contains}
 use Rattle.std.specs.List.Sorted.{IsNonDecreasingBy, IsStrictlyIncreasing}
 use Rattle.std.proofs.lemmas.Bool.{ltb-true, ltb-false}
@@ -57,3 +57,9 @@ module _ (xs : List ℕ) (place count : ℕ) (rises : IsStrictlyIncreasing xs)
   pub index-there : Contains xs place → get_or xs count 0 ≡ place
   index-there there =
       ap (λ k. get_or xs k 0) (sym (index-is there)) ∙ other-none xs there.0 0 place there.1 ∙ there.2
+
+  -- nor anywhere, where it is not the one that begins there
+  pub index-absent : (count < length xs → get_or xs count 0 ≢ place) → (k : ℕ) → k < length xs → get_or xs k 0 ≢ place
+  index-absent not_here k within here =
+      let is = index-alone k within here in
+      not_here (subst (λ n. n < length xs) is within) (ap (λ n. get_or xs n 0) (sym is) ∙ here)

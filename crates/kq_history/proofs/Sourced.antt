@@ -16,7 +16,7 @@ use Rattle.kq_history.specs.Sources.{target_sources, number_sources, clock_sourc
 
 -- ---- when two sources are the same
 
-abbrev same_source : Source → Source → Bool
+abbrev pub same_source : Source → Source → Bool
 same_source (source.Number a b) (source.Number c d) = (a == c) && (b == d)
 same_source (source.Of a) (source.Of b) = target_eq b a
 same_source source.Clock source.Clock = true

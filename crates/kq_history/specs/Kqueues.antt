@@ -7,6 +7,16 @@ use Rattle.kq_history.specs.declared.kqueues.Concerned.{Concerned}
 use Rattle.kq_history.specs.declared.kqueues.Kqueues.{Kqueues}
 use Rattle.kq_history.specs.Sources.{AreKnown, Grows, call_sources}
 
+-- the place stands there and nowhere else
+pub record IsAlone (place : ℕ) (places : List ℕ) (index : ℕ) : Type 0 where
+  pub inside : index < length places
+  pub there : slice_index places index ≡ place
+  pub alone : (other : ℕ) → other < length places → slice_index places other ≡ place → other ≡ index
+
+-- it stands nowhere
+abbrev pub IsAbsent : ℕ → List ℕ → Type 0
+IsAbsent place places = (index : ℕ) → index < length places → slice_index places index ≢ place
+
 -- what concerns the kqueue of this place stands where its place does
 abbrev pub IsAtPlace : ℕ → Kqueues → Concerned → Type 0
 IsAtPlace place k c =

@@ -17,3 +17,6 @@ pub mod Tracked
 pub mod Sayings
 pub mod Plain
 pub mod Split
+pub mod Said
+pub mod Private
+pub mod Heard

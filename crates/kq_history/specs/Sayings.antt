@@ -23,6 +23,21 @@ unfoldable pub call_of : Event → World counted → Option Call
 call_of (event.Kevent pid fd changes room) w = call_on changes room (named_by pid fd w)
 call_of _ w = None
 
+-- the same, where the kqueue that is called is known
+unfoldable pub call_by : Event → Option ℕ → Option Call
+call_by (event.Kevent pid fd changes room) (Some kqueue) =
+    Some (record { kqueue = kqueue; changes = changes; room = room })
+call_by _ _ = None
+
+unfoldable pub kqueue_named : Option Named → Option ℕ
+kqueue_named (Some (named.Kqueue place)) = Some place
+kqueue_named _ = None
+
+-- which kqueue a record calls, if it is possible
+unfoldable pub kqueue_of : Event → World counted → Option ℕ
+kqueue_of (event.Kevent pid fd changes room) w = kqueue_named (named_by pid fd w)
+kqueue_of _ w = None
+
 unfoldable pub span_to : ℤ → ℕ → Option Span
 span_to (pos moment) from = Some (record { from = from; to = moment })
 span_to (negsuc n) from = None

@@ -1,8 +1,8 @@
-ghost use Rattle.std.specs.Prelude.{◌≡◌, ℕ, ◌<◌, ◌++◌, ◌∷◌, [], length, slice_index, IfOk, OnOk};
+ghost use Rattle.std.specs.Prelude.{◌≡◌, ℕ, ◌<◌, ◌++◌, ◌∷◌, [], length, slice_index, None, IfOk, IfSome, OnOk};
 ghost use Rattle.std.specs.List.{Contains};
 ghost use Rattle.std.specs.List.Sorted.{IsStrictlyIncreasing};
 ghost use Rattle.kq_history.specs.declared.kqueues.Concerned.{Concerned};
-ghost use Rattle.kq_history.specs.Kqueues.{IsAtPlace, IsNamedAt, IsNew};
+ghost use Rattle.kq_history.specs.Kqueues.{IsAbsent, IsAlone, IsAtPlace, IsNamedAt, IsNew};
 ghost use Rattle.kq_history.specs.Sources.{call_sources, Grows};
 
 use crate::item::Source;
@@ -88,7 +88,8 @@ impl Kqueues {
         self.concerned.push(concerned).map_err(|_| Memory)
     }
 
-    /// A call of the kqueue that was made at a place: what its changes name concerns it.
+    /// A call of the kqueue that was made at a place: what its changes name concerns it. Where none
+    /// was made there, nothing changes.
     pub fn call<V: Views>(
         &mut self,
         place: u64,
@@ -97,13 +98,27 @@ impl Kqueues {
     ) -> Result<(), Memory>
         requires rising { IsStrictlyIncreasing self.old.places.items }
         requires one_each { length self.old.concerned.items ≡ length self.old.places.items }
-        requires born { Contains self.old.places.items place }
         ensures places { self.new.places.items ≡ self.old.places.items }
         ensures named { OnOk result (IsNamedAt place (V.sees views.now) changes.now self.old self.new) }
     {
-        let index = index_of(self.places.as_slice(), place);
-        self.concerned[index].name_all(changes, views)
+        match find(self.places.as_slice(), place) {
+            None => Ok(()),
+            Some(index) => self.concerned[index].name_all(changes, views),
+        }
     }
+}
+
+/// Where a number stands among rising ones, if it does.
+fn find(places: &[u64], place: u64) -> Option<usize>
+    requires { IsStrictlyIncreasing places.now }
+    ensures there { IfSome result (IsAlone place places.now) }
+    ensures absent { result ≡ None → IsAbsent place places.now }
+{
+    let index = places.partition_point(|made| place > *made);
+    if index < places.len() && places[index] == place {
+        return Some(index);
+    }
+    None
 }
 
 /// Where a number stands among rising ones.

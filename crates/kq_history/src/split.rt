@@ -1,21 +1,30 @@
-ghost use Rattle.std.specs.Prelude.{◌≡◌, ◌++◌, IfOk, OnOk};
+ghost use Rattle.std.specs.Prelude.{◌≡◌, ◌++◌, length, IfOk, OnOk};
+ghost use Rattle.kq_process.specs.World.{world_of};
+ghost use Rattle.kq_history.specs.Heard.{IsHeard};
 ghost use Rattle.kq_history.specs.Plain.{plain_row};
+ghost use Rattle.kq_history.specs.Sayings.{kqueue_of};
+ghost use Rattle.kq_model.specs.Objects.{counted};
+ghost use Rattle.kq_model.specs.World as model;
+ghost use Rattle.std.specs.List.Sorted.{IsStrictlyIncreasing};
 
 use crate::at::HistoryAt;
+use crate::private::Private;
+use crate::said::{Before, Said};
 use crate::seen::Seen;
 use crate::tracking::track;
 use kq_model::{Event, Memory, Named, Reply, Row, Target, Trace, View, Why};
-use kq_process::World;
+use kq_process::{Effect, World};
 use std::alloc::Global;
 use std::marker::Model;
 
-/// A trace with what was seen of the world after each of its records, and the rows of those that
-/// are impossible.
+/// A trace with what was seen of the world after each of its records, what these say to kqueues, and
+/// the rows of those that are impossible.
 #[derive(Drop)]
 pub struct Split<'a> {
     version: u32,
     events: &'a [Event],
     seen: Seen,
+    said: Said,
     plain: Vec<Row>,
 }
 
@@ -27,11 +36,12 @@ impl<'a> Model for Split<'a> {
 
     ghost view = { λ s. record { version = s.version; events = s.events.now } };
 
-    ghost invariant = { λ s. IsSplit (record { version = s.version; events = s.events.now }) s.seen s.plain.items };
+    ghost invariant = { λ s.
+        IsSplit (record { version = s.version; events = s.events.now }) s.seen s.said s.plain.items };
 }
 
 impl<'a> Split<'a> {
-    ghost use Rattle.kq_history.specs.Traced.{plain_rows_of, seen_at, traced};
+    ghost use Rattle.kq_history.specs.Traced.{places_of, plain_rows_of, seen_at, traced, IsBorn};
 
     /// One pass of the world over the trace. Its cost is that of the trace.
     pub fn of(alloc: Global, trace: &'a Trace) -> Result<Self, Memory>
@@ -40,17 +50,44 @@ impl<'a> Split<'a> {
         let events = trace.events.as_slice();
         let mut world = World::new(alloc)?;
         let mut seen = Seen::new(alloc);
+        let mut said = Said::new(alloc);
         let mut plain = Vec::new(alloc);
         for (before, event) in events.iter().enumerate() {
             let place = before as u64 + 1;
+            let before_it = Before::of(event, &world);
             let effect = track(alloc, place, event, &mut world, &mut seen)?;
+            hear(&mut said, place, event, &effect, before_it, &world)?;
             put_plain(&mut plain, place, &effect.verdict)?;
         }
         Ok(Split {
             version: trace.version,
             events,
             seen,
+            said,
             plain,
+        })
+    }
+
+    /// The places where kqueues were made, rising.
+    pub fn kqueues(&self) -> &[u64]
+        ensures { result.now ≡ places_of self.now }
+    {
+        self.said.kqueues.places()
+    }
+
+    /// What concerns the kqueue that was made at a place. Its cost is that of the list.
+    pub fn private<'s>(&'s self, kqueue: u64) -> Result<Private<'s, 'a>, Memory>
+        requires { IsBorn kqueue self.now }
+        ensures split { IfOk result (λ p. p.split.now ≡ self.now) }
+        ensures kqueue { IfOk result (λ p. p.kqueue ≡ kqueue) }
+    {
+        let concerned = self.said.kqueues.of(kqueue);
+        let items = self.said.log.pick(concerned.sources.as_slice())?;
+        Ok(Private {
+            split: self,
+            kqueue,
+            owner: concerned.owner,
+            items,
         })
     }
 
@@ -88,6 +125,27 @@ impl<'a> Split<'a> {
         ensures { result ≡ (seen_at self.now place).now }
     {
         self.seen.now(place)
+    }
+}
+
+/// What the record of a place says, where it was possible.
+fn hear(
+    said: &mut Said,
+    place: u64,
+    event: &Event,
+    effect: &Effect,
+    before: Before,
+    world: &World,
+) -> Result<(), Memory>
+    requires rising { IsStrictlyIncreasing said.old.kqueues.places.items }
+    requires one_each { length said.old.kqueues.concerned.items ≡ length said.old.kqueues.places.items }
+    ensures { OnOk result ((old : model.World counted) → before.clock ≡ old.now
+        → before.kqueue ≡ kqueue_of event.now old
+        → IsHeard place event.now effect.now old (world_of world.now) said.old said.new) }
+{
+    match effect.verdict {
+        Err(_) => Ok(()),
+        Ok(()) => said.hear(place, event, effect, before, world),
     }
 }
 

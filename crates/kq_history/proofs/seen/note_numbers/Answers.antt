@@ -1,10 +1,10 @@
-use Rattle.std.proofs.Common.{◌≡◌, ◌∙◌, ◌<◌, ◌&&◌, ◌||◌, ◌++◌, ℕ, Bool, cond, leb, length, get_or, take, None, Option, sym, ap, subst, arith}
+use Rattle.std.proofs.Common.{◌≡◌, ◌∙◌, ◌<◌, ◌&&◌, ℕ, cond, leb, length, get_or, take, None, Option, sym, ap, arith}
 use Rattle.kq_model.specs.declared.object.Named.{Named}
 use Rattle.kq_history.specs.Seen.{pair_eq}
-use Rattle.kq_history.specs.Timeline.{marked, value_at, IsUpTo}
+use Rattle.kq_history.specs.Timeline.{value_at}
 use Rattle.kq_history.specs.Timelines.{marks_at}
 use Rattle.kq_history.specs.Touched.{has_number}
-use Rattle.kq_history.proofs.Following.{noted-more, up_to-marked}
+use Rattle.kq_history.proofs.Following.{noted-then}
 use Rattle.kq_history.proofs.NotedKeys.{any-more, same-number}
 use Rattle.kq_history.proofs.seen.note_numbers.Goals as goal
 
@@ -15,16 +15,16 @@ loop-number-preserved g c =
     let below : i < length ns = omega arith in
     let p : ℕ × ℕ = get_or ns i (0, 0) in
     let here : Option Named = c.descriptor.result in
-    let put : (other : ℕ × ℕ) → marks_at pair_eq c.mark.new.self.table other
-    ≡ marks_at pair_eq c.loop-number.timelines.table other ++ marked (pair_eq p other) c.args.place here = c.in_ok-mark.ensures in
+    let after = g.V.Views.sees c.args.views.now in
     record {
-      up_to = λ key. subst (IsUpTo c.args.place) (sym (put key))
-          (up_to-marked (pair_eq p key) c.args.place here (marks_at pair_eq c.loop-number.timelines.table key) (c.loop-number.invariant.up_to key));
+      up_to = c.in_ok-note_number.ensures.up_to;
       noted = λ pid number at.
-          noted-more (pair_eq p (pid, number)) (has_number pid number (take i ns)) c.args.place at here ((g.V.Views.sees c.args.views.now).descriptor pid number) None
-          (value_at at None (marks_at pair_eq c.args.timelines.now.table (pid, number))) (marks_at pair_eq c.loop-number.timelines.table (pid, number))
-          (marks_at pair_eq c.mark.new.self.table (pid, number)) (put (pid, number)) (c.loop-number.invariant.noted pid number at)
-          (same-number (g.V.Views.sees c.args.views.now).descriptor p pid number here c.descriptor.ensures)
-          ∙ ap (λ b. cond (b && leb c.args.place at) ((g.V.Views.sees c.args.views.now).descriptor pid number)
+          noted-then (pair_eq p (pid, number)) (has_number pid number (take i ns)) (leb c.args.place at) here (after.descriptor pid number)
+          (value_at at None (marks_at pair_eq c.args.timelines.now.table (pid, number)))
+          (value_at at None (marks_at pair_eq c.loop-number.timelines.table (pid, number)))
+          (value_at at None (marks_at pair_eq c.note_number.new.timelines.table (pid, number)))
+          (c.in_ok-note_number.ensures.noted (pid, number) at) (c.loop-number.invariant.noted pid number at)
+          (same-number after.descriptor p pid number here c.descriptor.ensures)
+          ∙ ap (λ b. cond (b && leb c.args.place at) (after.descriptor pid number)
           (value_at at None (marks_at pair_eq c.args.timelines.now.table (pid, number)))) (sym (any-more (λ (x : ℕ × ℕ). pair_eq x (pid, number)) ns i (0, 0) below));
     }

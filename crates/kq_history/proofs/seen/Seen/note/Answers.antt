@@ -13,13 +13,12 @@ returns-clause-shows g c =
     let now = c.now.result in
     let after : Views = g.V.Views.sees c.args.views.now in
     let old : Seen = c.args.self.now in
-    let new : Seen = record { numbers = c.note_numbers.new.timelines; views = c.note_targets.new.timelines; clock = c.push.new.self } in
-    on_ok_weaker c.push.result
-    (λ (pushed : c.push.new.self ≡ old.clock ++ mark c.args.place now ∷ []) (worlds next : ℕ → Views)
+    let new : Seen = record { numbers = c.note_numbers.new.timelines; views = c.note_targets.new.timelines; clock = c.note_clock.new.clock } in
+    on_ok_weaker c.note_clock.result
+    (λ (noted : (at : ℕ) → value_at at 0 c.note_clock.new.clock ≡ cond (leb c.args.place at) now (value_at at 0 old.clock)) (worlds next : ℕ → Views)
     (is : IsNextWorld c.args.place after c.args.numbers.now c.args.targets.now worlds next) (shows : Shows worlds old).
     shows-next c.args.place after c.args.numbers.now c.args.targets.now worlds next old new is shows
     (λ pid number at. c.in_ok-note_numbers.ensures.noted pid number at)
     (λ t at. c.in_ok-note_targets.ensures.noted t at)
-    (λ at. ap (value_at at 0) pushed ∙ value_at-marked true c.args.place at 0 now old.clock
-    ∙ ap (λ n. cond (leb c.args.place at) n (value_at at 0 old.clock)) c.now.ensures))
-    c.push.ensures.pushed
+    (λ at. noted at ∙ ap (λ n. cond (leb c.args.place at) n (value_at at 0 old.clock)) c.now.ensures))
+    c.note_clock.ensures.noted

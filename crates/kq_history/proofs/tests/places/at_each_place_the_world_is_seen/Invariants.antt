@@ -1,7 +1,7 @@
 use Rattle.std.proofs.Common.{◌+◌, ◌≤◌}
 use Rattle.kq_model.specs.CountedWorld.{IsCountedWorld}
 use Rattle.kq_process.specs.World.{world_of}
-use Rattle.kq_history.proofs.tests.at_each_place_the_world_is_seen.Given as goal
+use Rattle.kq_history.proofs.tests.places.at_each_place_the_world_is_seen.Given as goal
 
 abbrev pub invariant-loop-before : goal.invariant-loop-before
 invariant-loop-before l = record {

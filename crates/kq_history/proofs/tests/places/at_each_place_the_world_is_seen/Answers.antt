@@ -1,7 +1,7 @@
 use Rattle.std.proofs.Common.{sym, subst, rules}
 use Rattle.kq_model.specs.CountedWorld.{IsCountedWorld}
 use Rattle.kq_model.proofs.CountedSteps.{counted-empty}
-use Rattle.kq_history.proofs.tests.at_each_place_the_world_is_seen.Goals as goal
+use Rattle.kq_history.proofs.tests.places.at_each_place_the_world_is_seen.Goals as goal
 
 pub loop-before-init : goal.loop-before-init
 loop-before-init c = record {
