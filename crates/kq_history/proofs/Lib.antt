@@ -15,6 +15,8 @@ mod AnyWithin
 mod TouchedKeys
 mod UntouchedRecords
 mod NotedKeys
+mod NotedMarks
+mod SameValues
 mod ListedRecords
 mod TracedWorlds
 mod TrackedRecords
@@ -25,5 +27,5 @@ mod PlainRows
 mod NamedKqueues
 mod SaidItems
 mod SaidNext
-mod PrivateOf
+pub mod PrivateOf
 mod SplitNext

@@ -37,21 +37,26 @@ use Rattle.kq_history.proofs.TrackedRecords.{next-is}
 above-all : (x : ℕ) (xs : List ℕ) → All (λ y. x < y) xs → IsStrictlyIncreasing xs → IsStrictlyIncreasing (x ∷ xs)
 above-all x [] below rises k within = absurd (omega (arith, within))
 above-all x (y ∷ ys) below rises zero within = All-head (λ z. x < z) y ys below
-above-all x (y ∷ ys) below rises (suc k) within = rises k (omega (arith, within))
+above-all x (y ∷ ys) below rises (suc k) within =
+    let next : suc (k + 1) ≡ suc k + 1 = omega arith in
+    subst (λ n. get_or (y ∷ ys) k 0 < get_or (x ∷ (y ∷ ys)) n 0) next (rises k (omega (arith, within)))
+
+born-rise : (place : ℕ) (born : Option Pair) (bs : List Birth) → All (λ (b : Birth). place + 1 ≤ b.place) bs
+    → IsStrictlyIncreasing (map (λ (b : Birth). b.place) bs) → IsStrictlyIncreasing (map (λ (b : Birth). b.place) (birth_at place born ++ bs))
+unfolding birth_at
+born-rise place None bs later rises = rises
+born-rise place (Some x) bs later rises =
+    above-all place (map (λ (b : Birth). b.place) bs)
+    (All-map (λ y. place < y) (λ (b : Birth). b.place) bs
+    (All-weaker (λ (b : Birth). place + 1 ≤ b.place) (λ (b : Birth). place < b.place) (λ b from. omega (arith, from)) bs later))
+    rises
 
 rise-from : (place : ℕ) (qs : List Planned) → IsStrictlyIncreasing (map (λ (b : Birth). b.place) (births_from place qs))
-unfolding births_from birth_by birth_at
+unfolding births_from birth_by
 rise-from place [] = λ k within. absurd (omega (arith, within))
 rise-from place (Impossible why ∷ qs) = rise-from (place + 1) qs
-rise-from place (Possible p ∷ qs) = with_birth p.born
-  where
-    with_birth : (born : Option Pair) → IsStrictlyIncreasing (map (λ (b : Birth). b.place) (birth_at place born ++ births_from (place + 1) qs))
-    with_birth None = rise-from (place + 1) qs
-    with_birth (Some x) =
-        above-all place (map (λ (b : Birth). b.place) (births_from (place + 1) qs))
-        (All-map (λ y. place < y) (λ (b : Birth). b.place) (births_from (place + 1) qs)
-        (All-weaker (λ (b : Birth). place + 1 ≤ b.place) (λ (b : Birth). place < b.place) (λ b from. omega (arith, from)) (births_from (place + 1) qs) (births-rising (place + 1) qs).0))
-        (rise-from (place + 1) qs)
+rise-from place (Possible p ∷ qs) =
+    born-rise place p.born (births_from (place + 1) qs) (births-rising (place + 1) qs).0 (rise-from (place + 1) qs)
 
 pub places-rise : (t : Traced) (s : Said) → IsSaid t s → IsStrictlyIncreasing s.kqueues.places.items
 places-rise t s said = subst IsStrictlyIncreasing (sym said.births) (rise-from 1 _)
@@ -59,7 +64,7 @@ places-rise t s said = subst IsStrictlyIncreasing (sym said.births) (rise-from 1
 pub one-each : (t : Traced) (s : Said) → IsSaid t s → length s.kqueues.concerned.items ≡ length s.kqueues.places.items
 one-each t s said =
     named-length _ (births_of t) s.kqueues.concerned.items said.concerned
-    ∙ sym (length-map (λ (b : Birth). b.place) (births_of t)) ∙ ap (λ (ps : List ℕ). length ps) (sym said.births)
+    ∙ sym (length-map (births_of t) (λ (b : Birth). b.place)) ∙ ap (λ (ps : List ℕ). length ps) (sym said.births)
 
 -- ---- no record
 

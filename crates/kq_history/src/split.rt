@@ -11,6 +11,7 @@ use crate::at::HistoryAt;
 use crate::private::Private;
 use crate::said::{Before, Said};
 use crate::seen::Seen;
+use crate::touched::Touched;
 use crate::tracking::track;
 use kq_model::{Event, Memory, Named, Reply, Row, Target, Trace, View, Why};
 use kq_process::{Effect, World};
@@ -51,11 +52,12 @@ impl<'a> Split<'a> {
         let mut world = World::new(alloc)?;
         let mut seen = Seen::new(alloc);
         let mut said = Said::new(alloc);
+        let mut touched = Touched::new(alloc);
         let mut plain = Vec::new(alloc);
         for (before, event) in events.iter().enumerate() {
             let place = before as u64 + 1;
             let before_it = Before::of(event, &world);
-            let effect = track(alloc, place, event, &mut world, &mut seen)?;
+            let effect = track(place, event, &mut world, &mut seen, &mut touched)?;
             hear(&mut said, place, event, &effect, before_it, &world)?;
             put_plain(&mut plain, place, &effect.verdict)?;
         }
