@@ -21,7 +21,7 @@ mod ListedRecords
 mod TracedWorlds
 mod TrackedRecords
 mod TrackedNext
-mod Sayings
+pub mod Sayings
 mod FirstTracked
 mod PlainRows
 mod NamedKqueues
@@ -29,3 +29,4 @@ mod SaidItems
 mod SaidNext
 pub mod PrivateOf
 mod SplitNext
+mod Events

@@ -108,7 +108,7 @@ born-in (x ∷ bs) place owner found =
     (x, (0, omega arith, refl), eqb-true x.place place both.0, eqb-true x.owner owner both.1))
     (λ _ later.
     let there = born-in bs place owner later in
-    (there.0, (there.1.0 + 1, omega (arith, there.1.1), there.1.2), there.2, there.3))
+    (there.0, (suc there.1.0, omega (arith, there.1.1), there.1.2), there.2, there.3))
     found
 
 pub owner-born : (t : Traced) (place owner : ℕ) (items : List Item) → IsPrivate t place owner items

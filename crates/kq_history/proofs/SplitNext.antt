@@ -12,6 +12,7 @@ use Rattle.kq_model.specs.ListedFiles.{AreListed}
 use Rattle.kq_model.specs.Moments.{moments_from, plans_from}
 use Rattle.kq_model.specs.Objects.{counted}
 use Rattle.kq_model.specs.Plans.{plan}
+use Rattle.kq_model.specs.Projection.{plans}
 use Rattle.kq_model.specs.World as model
 use Rattle.kq_model.specs.World.{Plan, Planned, Impossible, Possible, carried_out, empty_world}
 use Rattle.kq_model.proofs.Distinct.{births-rising}
@@ -29,7 +30,7 @@ use Rattle.kq_history.specs.Traced.{Traced, births_of, longer, places_of}
 use Rattle.kq_history.specs.Tracked.{IsTracked}
 use Rattle.kq_history.proofs.NamedKqueues.{named-length}
 use Rattle.kq_history.proofs.SaidNext.{said-next}
-use Rattle.kq_history.proofs.TracedWorlds.{end, next, now, world-longer}
+use Rattle.kq_history.proofs.TracedWorlds.{end, next, now, plans-length, world-longer}
 use Rattle.kq_history.proofs.TrackedRecords.{next-is}
 
 -- ---- the places of births rise
@@ -65,6 +66,28 @@ pub one-each : (t : Traced) (s : Said) → IsSaid t s → length s.kqueues.conce
 one-each t s said =
     named-length _ (births_of t) s.kqueues.concerned.items said.concerned
     ∙ sym (length-map (births_of t) (λ (b : Birth). b.place)) ∙ ap (λ (ps : List ℕ). length ps) (sym said.births)
+
+-- ---- no more births than records
+
+born-few : (place : ℕ) (born : Option Pair) (bs : List Birth) (n : ℕ) → length bs ≤ n → length (birth_at place born ++ bs) ≤ n + 1
+unfolding birth_at
+born-few place None bs n few = omega (arith, few)
+born-few place (Some x) bs n few = omega (arith, few)
+
+births-few : (place : ℕ) (qs : List Planned) → length (births_from place qs) ≤ length qs
+unfolding births_from birth_by
+births-few place [] = omega arith
+births-few place (Impossible why ∷ qs) = let rest = births-few (place + 1) qs in omega (arith, rest)
+births-few place (Possible p ∷ qs) =
+    let all = born-few place p.born (births_from (place + 1) qs) (length qs) (births-few (place + 1) qs) in
+    omega (arith, all)
+
+pub few-kqueues : (t : Traced) → length (places_of t) ≤ length t.events
+few-kqueues t =
+    let each = length-map (births_of t) (λ (b : Birth). b.place) in
+    let few = births-few 1 (plans counted t.version t.events) in
+    let all = plans-length 1 (empty_world counted) t.events in
+    omega (arith, each, few, all)
 
 -- ---- no record
 

@@ -130,6 +130,40 @@ impl<'a> Split<'a> {
     }
 }
 
+impl<'a> Split<'a> {
+    ghost use Rattle.std.specs.Prelude.{length, MatchOption, None, Some};
+    ghost use Rattle.kq_history.specs.Traced.{event_at, places_of};
+
+    /// What its memory is from.
+    pub fn allocator(&self) -> Global {
+        *self.plain.allocator()
+    }
+
+    /// The version of the trace's format, which is 1.
+    pub fn version(&self) -> u32
+        ensures version { result ≡ self.now.version }
+        ensures one { result ≡ 1 }
+    {
+        self.version
+    }
+
+    /// How many kqueues the trace makes: fewer than it has records.
+    pub fn kqueue_count(&self) -> u32
+        ensures { result ≡ length (places_of self.now) }
+    {
+        let kqueues = &self.said.kqueues;
+        kqueues.places().len() as u32
+    }
+
+    /// The event of the record at a place, of which the first is 1; none where there is no such place.
+    pub fn event(&self, place: u64) -> Option<&'a Event>
+        ensures { MatchOption result (event_at self.now place ≡ None) (λ e. event_at self.now place ≡ Some e.now) }
+    {
+        let before = place.checked_sub(1)?;
+        self.events.get(before as usize)
+    }
+}
+
 /// What the record of a place says, where it was possible.
 fn hear(
     said: &mut Said,

@@ -30,7 +30,7 @@ returns-clause-absent c =
     let after : (k d : ℕ) → index ≤ k → k < length xs → ltb (get_or xs k d) place ≡ false = λ k d from within. point.1 k d (omega (arith, from)) within in
     let not_here : index < length xs → get_or xs index 0 ≢ place =
     elim c.else-index-places.branch [
-      else-index-places-via-then-index-places+else-places-index w ↦ λ within here. w.if-places-index.false here
-    | else-index-places-via-else-index-places w ↦ λ within here. absurd (omega (arith, within))
+      | else-index-places-via-then-index-places+else-places-index w ↦ λ within here. w.if-places-index.false here
+      | else-index-places-via-else-index-places w ↦ λ within here. absurd (omega (arith, within))
     ] in
     λ none. index-absent xs place index c.requires before after not_here
