@@ -128,6 +128,19 @@ impl<'a> Split<'a> {
     }
 }
 
+impl<'a> Split<'a> {
+    /// What its memory is from.
+    pub fn allocator(&self) -> Global {
+        *self.plain.allocator()
+    }
+
+    /// The event of the record at a place; none where the trace has no such place.
+    pub fn event(&self, place: u64) -> Option<&'a Event> {
+        let before = place.checked_sub(1)?;
+        self.events.get(before as usize)
+    }
+}
+
 /// What the record of a place says, where it was possible.
 fn hear(
     said: &mut Said,
