@@ -19,7 +19,7 @@ mod ListedRecords
 mod TracedWorlds
 mod TrackedRecords
 mod TrackedNext
-mod Sayings
+pub mod Sayings
 mod FirstTracked
 mod PlainRows
 mod NamedKqueues

@@ -1,4 +1,4 @@
-ghost use Rattle.std.specs.Prelude.{◌≡◌, ◌++◌, length, IfOk, OnOk};
+ghost use Rattle.std.specs.Prelude.{◌≡◌, ◌++◌, ◌<◌, ◌^◌, length, IfOk, OnOk};
 ghost use Rattle.kq_process.specs.World.{world_of};
 ghost use Rattle.kq_history.specs.Heard.{IsHeard};
 ghost use Rattle.kq_history.specs.Plain.{plain_row};
@@ -26,6 +26,8 @@ pub struct Split<'a> {
     seen: Seen,
     said: Said,
     plain: Vec<Row>,
+    ghost version_one: { version ≡ 1 },
+    ghost countable: { length events.now < 2 ^ 31 },
 }
 
 impl<'a> Model for Split<'a> {
@@ -129,13 +131,33 @@ impl<'a> Split<'a> {
 }
 
 impl<'a> Split<'a> {
+    ghost use Rattle.std.specs.Prelude.{length, MatchOption, None, Some};
+    ghost use Rattle.kq_history.specs.Traced.{event_at, places_of};
+
     /// What its memory is from.
     pub fn allocator(&self) -> Global {
         *self.plain.allocator()
     }
 
-    /// The event of the record at a place; none where the trace has no such place.
-    pub fn event(&self, place: u64) -> Option<&'a Event> {
+    /// The version of the trace's format, which is 1.
+    pub fn version(&self) -> u32
+        ensures version { result ≡ self.now.version }
+        ensures one { result ≡ 1 }
+    {
+        self.version
+    }
+
+    /// How many kqueues the trace makes: fewer than it has records.
+    pub fn kqueue_count(&self) -> u32
+        ensures { result ≡ length (places_of self.now) }
+    {
+        self.said.kqueues.places().len() as u32
+    }
+
+    /// The event of the record at a place, of which the first is 1; none where there is no such place.
+    pub fn event(&self, place: u64) -> Option<&'a Event>
+        ensures { MatchOption result (event_at self.now place ≡ None) (λ e. event_at self.now place ≡ Some e.now) }
+    {
         let before = place.checked_sub(1)?;
         self.events.get(before as usize)
     }

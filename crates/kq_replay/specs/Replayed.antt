@@ -18,6 +18,11 @@ rows_in_fold t kqueue = record {
   rows = rows_of (Some kqueue) (folded counted t.version tallying t.events);
 }
 
+-- the kqueue of this place was replayed to these, which stand by rising place
+pub record IsReplayed (t : Traced) (kqueue : ℕ) (one : Rows) : Type 0 where
+  pub same : one ≡ rows_in_fold t kqueue
+  pub rise : Rise one.rows
+
 pub record AreReplayed (t : Traced) (kqueues : List Rows) : Type 0 where
   -- one for each kqueue, in the order of their birth
   pub each : kqueues ≡ map (rows_in_fold t) (places_of t)

@@ -1,23 +1,56 @@
+// One kqueue that goes on alone.
+ghost use Rattle.std.specs.Prelude.{◌≡◌, ◌×◌, ◌++◌, ℕ, pos, Some, All, List, OnOk};
+ghost use Rattle.kq_model.specs.declared.change.Change.{Change};
+ghost use Rattle.kq_model.specs.declared.event.Event.TheVariants as event_of;
+ghost use Rattle.kq_model.specs.System.{row_of};
+ghost use Rattle.kq_history.specs.declared.item.What.TheVariants as what;
+ghost use Rattle.kq_history.specs.Traced.{event_at};
+ghost use Rattle.kq_replay.specs.Alone.{after_item, after_items, arrived, called, gone_on, heard, unborn};
+ghost use Rattle.kq_replay.specs.Recorded.{IsCallOf, IsClockOf, IsRecorded};
+
 use kq_history::{Item, Split, What};
 use kq_kevent::Kq;
 use kq_model::{Event, Hint, Memory, Reply, Row, Series, Target};
-use std::alloc::Global;
+use std::marker::Model;
 
 /// A kqueue that goes on alone, from one item of its private list to the next.
 #[derive(Drop)]
 pub struct Alone<'s, 'a> {
     split: &'s Split<'a>,
-    /// That of the item before.
+    /// That of the last item.
     place: u64,
     kq: Kq,
-    /// The hints of this place so far, which all are heard together.
+    /// The hints that came there, which are heard together.
     told: Vec<(Target, Hint)>,
     rows: Vec<Row>,
 }
 
+impl<'s, 'a> Model for Alone<'s, 'a> {
+    ghost use Rattle.std.specs.Prelude.{◌≡◌};
+    ghost use Rattle.kq_replay.specs.Alone as alone;
+
+    ghost Value = { alone.Alone };
+
+    ghost view = { λ a. record {
+      trace = a.split.now;
+      owner = a.kq.owner;
+      place = a.place;
+      told = a.told.items;
+      kq = a.kq.kq;
+      rows = a.rows.items;
+    } };
+
+    ghost invariant = { λ a. a.kq.version ≡ a.split.now.version };
+}
+
 impl<'s, 'a> Alone<'s, 'a> {
-    /// An empty kqueue of this process, before the first record.
-    pub fn new(alloc: Global, split: &'s Split<'a>, owner: u32) -> Self {
+    /// A kqueue of this process, before the first record.
+    pub fn new(split: &'s Split<'a>, owner: u32) -> Self
+        ensures { result ≡ unborn split.now owner }
+    {
+        let alloc = split.allocator();
+        let version = split.version();
+        prove!(version == 1);
         Alone {
             split,
             place: 0,
@@ -27,15 +60,37 @@ impl<'s, 'a> Alone<'s, 'a> {
         }
     }
 
+    /// The kqueue after these items more.
+    pub fn go_over(&mut self, items: &[Item]) -> Result<(), Memory>
+        requires { All (IsRecorded self.old.trace) items.now }
+        ensures { OnOk result (self.new ≡ after_items items.now self.old) }
+    {
+        for item in items {
+            self.go_on(*item)?;
+        }
+        Ok(())
+    }
+
+    /// Its rows so far.
+    pub fn into_rows(self) -> Series<Row>
+        ensures { result ≡ self.rows }
+    {
+        let Alone { rows, .. } = self;
+        Series::from_vec(rows)
+    }
+
     /// The kqueue after one item more.
-    pub fn go_on(&mut self, item: Item) -> Result<(), Memory> {
-        self.enter(item.place);
+    fn go_on(&mut self, item: Item) -> Result<(), Memory>
+        requires { IsRecorded self.old.trace item }
+        ensures { OnOk result (self.new ≡ after_item item self.old) }
+    {
+        self.arrive(item.place);
         match item.what {
             What::Closed { pid, number } => {
                 self.close(pid, number);
                 Ok(())
             }
-            What::Told { target, hint } => self.told.push((target, hint)).map_err(|_| Memory),
+            What::Told { target, hint } => self.tell(target, hint),
             What::Clocked { from, .. } => {
                 self.clock(from);
                 Ok(())
@@ -44,14 +99,10 @@ impl<'s, 'a> Alone<'s, 'a> {
         }
     }
 
-    /// Its rows so far.
-    pub fn into_rows(self) -> Series<Row> {
-        let Alone { rows, .. } = self;
-        Series::from_vec(rows)
-    }
-
-    /// Items of this place come next.
-    fn enter(&mut self, place: u64) {
+    /// An item of this place comes next.
+    fn arrive(&mut self, place: u64)
+        ensures { self.new ≡ arrived place self.old }
+    {
         if place != self.place {
             self.hear();
             self.place = place;
@@ -59,7 +110,9 @@ impl<'s, 'a> Alone<'s, 'a> {
     }
 
     /// The hints so far are heard, in the world after their record.
-    fn hear(&mut self) {
+    fn hear(&mut self)
+        ensures { self.new ≡ heard self.old }
+    {
         if self.told.is_empty() {
             return;
         }
@@ -68,14 +121,28 @@ impl<'s, 'a> Alone<'s, 'a> {
         self.told.clear();
     }
 
-    fn close(&mut self, pid: u32, number: u32) {
+    /// A number of a process was closed.
+    fn close(&mut self, pid: u32, number: u32)
+        ensures { self.new ≡ gone_on (what.Closed pid number) self.old }
+    {
         if pid == self.kq.owner() {
             self.kq.closed(number);
         }
     }
 
-    /// The clock goes on from a moment to the one that the record says, in ns.
-    fn clock(&mut self, from: u64) {
+    /// There is a hint for a target.
+    fn tell(&mut self, target: Target, hint: Hint) -> Result<(), Memory>
+        ensures { OnOk result (self.new ≡ gone_on (what.Told target hint) self.old) }
+    {
+        self.told.push((target, hint)).map_err(|_| Memory)
+    }
+
+    /// The clock goes on from this moment to the one that the record says, in ns.
+    fn clock(&mut self, from: u64)
+        requires { (to : ℕ) × IsClockOf (event_at self.old.trace self.old.place) from to }
+        ensures { (to : ℕ) → event_at self.old.trace self.old.place ≡ Some (event_of.Clock (pos to))
+            → self.new ≡ gone_on (what.Clocked from to) self.old }
+    {
         self.hear();
         let Some(Event::Clock { ns }) = self.split.event(self.place) else {
             unreachable!();
@@ -83,8 +150,12 @@ impl<'s, 'a> Alone<'s, 'a> {
         self.kq.clock(from, *ns as u64);
     }
 
-    /// The call of the record, and its row.
-    fn call(&mut self) -> Result<(), Memory> {
+    /// The call that the record is, and its row.
+    fn call(&mut self) -> Result<(), Memory>
+        requires { (changes : List Change) × (room : ℕ)
+            × IsCallOf (event_at self.old.trace self.old.place) changes room }
+        ensures { OnOk result (self.new ≡ called (event_at self.old.trace self.old.place) (heard self.old)) }
+    {
         self.hear();
         let Some(Event::Kevent { changes, room, .. }) = self.split.event(self.place) else {
             unreachable!();
@@ -96,7 +167,9 @@ impl<'s, 'a> Alone<'s, 'a> {
 }
 
 /// Adds the row of the reply to the record at a place, if it has one.
-fn put_row(rows: &mut Vec<Row>, at: u64, reply: Reply) -> Result<(), Memory> {
+fn put_row(rows: &mut Vec<Row>, at: u64, reply: Reply) -> Result<(), Memory>
+    ensures { OnOk result (rows.new.items ≡ rows.old.items ++ row_of at reply) }
+{
     match reply {
         Reply::Done => Ok(()),
         reply => rows.push(Row { at, reply }).map_err(|_| Memory),

@@ -10,18 +10,18 @@ pub struct Kqueues<'s, 'a> {
 }
 
 impl<'s, 'a> Jobs for Kqueues<'s, 'a> {
-    ghost use Rattle.std.specs.Prelude.{◌≡◌, length, slice_index};
+    ghost use Rattle.std.specs.Prelude.{length, slice_index};
     ghost use Rattle.kq_history.specs.Traced.{places_of};
-    ghost use Rattle.kq_replay.specs.Replayed.{rows_in_fold};
+    ghost use Rattle.kq_replay.specs.Replayed.{IsReplayed};
 
     type Outcome = Rows;
 
     ghost count = { λ jobs. length (places_of jobs.split.now) };
 
-    ghost gives = { λ jobs n rows. rows ≡ rows_in_fold jobs.split.now (slice_index (places_of jobs.split.now) n) };
+    ghost gives = { λ jobs n rows. IsReplayed jobs.split.now (slice_index (places_of jobs.split.now) n) rows };
 
     fn len(&self) -> u32 {
-        self.split.kqueues().len() as u32
+        self.split.kqueue_count()
     }
 
     fn run(&self, number: u32) -> Result<Rows, Memory> {

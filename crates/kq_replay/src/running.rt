@@ -1,3 +1,9 @@
+//! All kqueues of a trace.
+ghost use Rattle.std.specs.Prelude.{◌≡◌, ◌<◌, ◌⊎◌, length, IfOk, IfErr};
+ghost use Rattle.kq_history.specs.Traced.{places_of};
+ghost use Rattle.kq_jobs.specs.Outcomes.{IsRunFault};
+ghost use Rattle.kq_replay.specs.Replayed.{AreReplayed};
+
 use crate::kqueues::Kqueues;
 use kq_history::Split;
 use kq_jobs::{Always, Gate, RunFault, Starts, run_all};
@@ -13,7 +19,11 @@ pub fn replay_all<R: Threads + Wait + Sync, G: Gate + Sync>(
     split: &Split,
     workers: u32,
     gate: &G,
-) -> Result<Vec<Rows>, RunFault> {
+) -> Result<Vec<Rows>, RunFault>
+    ensures workers { (workers ≡ 0) ⊎ (256 < workers) → result ≡ Err RunFault.Workers }
+    ensures ok { IfOk result (λ kqueues. AreReplayed split.now kqueues.items) }
+    ensures err { IfErr result (λ e. IsRunFault (length (places_of split.now)) workers e) }
+{
     replay_all_with(rt, split, workers, gate, &Always)
 }
 
@@ -24,7 +34,11 @@ pub fn replay_all_with<R: Threads + Wait + Sync, G: Gate + Sync, S: Starts>(
     workers: u32,
     gate: &G,
     starts: &S,
-) -> Result<Vec<Rows>, RunFault> {
+) -> Result<Vec<Rows>, RunFault>
+    ensures workers { (workers ≡ 0) ⊎ (256 < workers) → result ≡ Err RunFault.Workers }
+    ensures ok { IfOk result (λ kqueues. AreReplayed split.now kqueues.items) }
+    ensures err { IfErr result (λ e. IsRunFault (length (places_of split.now)) workers e) }
+{
     let alloc = split.allocator();
     run_all(rt, alloc, &Kqueues { split }, workers, gate, starts)
 }
