@@ -1,5 +1,5 @@
 -- What a split keeps of a trace: what was seen of the world, what the records say, and the rows of impossible ones.
-use Rattle.std.specs.Prelude.{◌≡◌, List}
+use Rattle.std.specs.Prelude.{◌≡◌, ◌<◌, ◌^◌, List, length}
 use Rattle.kq_model.specs.declared.row.Row.{Row}
 use Rattle.kq_history.specs.declared.said.Said.{Said}
 use Rattle.kq_history.specs.declared.seen.Seen.{Seen}
@@ -11,3 +11,6 @@ pub record IsSplit (t : Traced) (s : Seen) (said : Said) (plain : List Row) : Ty
   pub shows : Shows (seen_at t) s
   pub said : IsSaid t said
   pub plain_is : plain ≡ plain_rows_of t
+  -- of the type of traces
+  pub version_one : t.version ≡ 1
+  pub countable : length t.events < 2 ^ 31

@@ -1,5 +1,5 @@
 -- A trace as far as it was gone through: the version of its format and its events, and what its definitions say.
-use Rattle.std.specs.Prelude.{◌≡◌, ℕ, suc, ◌+◌, List, ◌∷◌, [], ◌++◌, length, map, slice_get, Option, None}
+use Rattle.std.specs.Prelude.{◌≡◌, ℕ, zero, suc, ◌+◌, List, ◌∷◌, [], ◌++◌, length, map, slice_get, Option, None}
 use Rattle.std.specs.List.{Contains}
 use Rattle.kq_model.specs.declared.event.Event.{Event}
 use Rattle.kq_model.specs.declared.row.Row.{Row}
@@ -25,7 +25,7 @@ longer t e = record { version = t.version; events = t.events ++ e ∷ [] }
 
 -- the event of the record at a place, of which the first is 1
 unfoldable pub event_at : Traced → ℕ → Option Event
-event_at t 0 = None
+event_at t zero = None
 event_at t (suc before) = slice_get t.events before
 
 abbrev pub births_of : Traced → List Birth

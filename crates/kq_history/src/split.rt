@@ -1,4 +1,4 @@
-ghost use Rattle.std.specs.Prelude.{◌≡◌, ◌++◌, ◌<◌, ◌^◌, length, IfOk, OnOk};
+ghost use Rattle.std.specs.Prelude.{◌≡◌, ◌++◌, length, IfOk, OnOk};
 ghost use Rattle.kq_process.specs.World.{world_of};
 ghost use Rattle.kq_history.specs.Heard.{IsHeard};
 ghost use Rattle.kq_history.specs.Plain.{plain_row};
@@ -26,8 +26,6 @@ pub struct Split<'a> {
     seen: Seen,
     said: Said,
     plain: Vec<Row>,
-    ghost version_one: { version ≡ 1 },
-    ghost countable: { length events.now < 2 ^ 31 },
 }
 
 impl<'a> Model for Split<'a> {

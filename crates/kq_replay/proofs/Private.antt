@@ -3,7 +3,6 @@ use Rattle.std.proofs.Common.{◌≡◌, ℕ, List, Some, refl, sym, ap, subst, 
 use Rattle.std.specs.List.{All}
 use Rattle.kq_model.specs.declared.row.Row.{Row}
 use Rattle.kq_model.specs.declared.rows.Rows.{Rows}
-use Rattle.kq_model.specs.Births.{Birth}
 use Rattle.kq_model.specs.Hearing.{tallying}
 use Rattle.kq_model.specs.Objects.{counted}
 use Rattle.kq_model.specs.OwnedRows.{Rise}
@@ -11,9 +10,10 @@ use Rattle.kq_model.specs.Projection.{folded, plans}
 use Rattle.kq_model.specs.System.{empty_system}
 use Rattle.kq_model.proofs.FoldRows.{fold-rises, part-rises}
 use Rattle.kq_history.specs.declared.item.Item.{Item}
-use Rattle.kq_history.specs.Concerned.{own_items}
+use Rattle.kq_history.specs.Concerned.{private_items}
 use Rattle.kq_history.specs.Private.{IsPrivate}
 use Rattle.kq_history.specs.Traced.{Traced, moments_of}
+use Rattle.kq_history.proofs.PrivateOf.{owner-born}
 use Rattle.kq_replay.specs.Alone.{after_items, unborn}
 use Rattle.kq_replay.specs.Recorded.{IsRecorded}
 use Rattle.kq_replay.specs.Replayed.{IsReplayed, rows_in_fold}
@@ -28,14 +28,15 @@ fold-part-rises t kqueue =
 
 module _ (t : Traced) (kqueue owner : ℕ) (items : List Item) (own : IsPrivate t kqueue owner items) where
   pub private-recorded : All (IsRecorded t) items
-  private-recorded = subst (All (IsRecorded t)) (sym own.4) (items-recorded t own.0.place own.0.owner)
+  private-recorded = subst (All (IsRecorded t)) (sym own.items_are) (items-recorded t kqueue owner)
 
   private-rows : (after_items items (unborn t owner)).rows ≡ (rows_in_fold t kqueue).rows
   private-rows =
-      ap (λ is. (after_items is (unborn t owner)).rows) own.4
-      ∙ ap (λ n. (after_items (own_items (moments_of t) own.0) (unborn t n)).rows) (sym own.3)
-      ∙ own-rows t own.0 own.1
-      ∙ ap (λ n. (rows_in_fold t n).rows) own.2
+      let born = owner-born t kqueue owner items own in
+      ap (λ is. (after_items is (unborn t owner)).rows) own.items_are
+      ∙ subst (λ o. (after_items (private_items kqueue o (moments_of t)) (unborn t o)).rows ≡ (rows_in_fold t kqueue).rows) born.3
+      (subst (λ p. (after_items (private_items p born.0.owner (moments_of t)) (unborn t born.0.owner)).rows ≡ (rows_in_fold t p).rows) born.2
+      (own-rows t born.0 born.1))
 
   pub private-replayed : (rows : List Row) → rows ≡ (after_items items (unborn t owner)).rows
       → IsReplayed t kqueue (record { kqueue = kqueue; rows = rows })

@@ -1,9 +1,6 @@
-//! A dup over a number that three kqueues watch.
-use crate::{Open, Replay, RunFault, replay_all};
-use kq_history::Split;
-use kq_model::{Change, EvFlags, Event, Filter, Memory, Reply, Row, Rows, Series, Trace};
+//! A dup over a number that three kqueues watch, two of its process and one of its child.
+use kq_model::{Change, EvFlags, Event, Filter, Memory, Series, Trace};
 use std::alloc::Global;
-use std::test::Fail;
 
 /// A change list of one READ of number 3.
 fn read(alloc: Global, flags: EvFlags) -> Result<Series<Change>, Memory> {
@@ -64,7 +61,7 @@ fn call(
     put(events, call)
 }
 
-fn dup_over(alloc: Global) -> Result<Trace, Memory> {
+pub fn dup_over(alloc: Global) -> Result<Trace, Memory> {
     let mut events = Vec::new(alloc);
     made(&mut events)?;
     call(&mut events, 1, 9, read(alloc, EvFlags::ADD)?, 0)?;
@@ -96,71 +93,10 @@ fn dup_over(alloc: Global) -> Result<Trace, Memory> {
     })
 }
 
-
-/// Where the rows stand, kqueue by kqueue.
-fn places(alloc: Global, kqueues: &[Rows]) -> Result<Vec<(u64, u64)>, Memory> {
-    let mut places = Vec::new(alloc);
-    for one in kqueues {
-        for row in one.rows.as_slice() {
-            places.push((one.kqueue, row.at)).map_err(|_| Memory)?;
-        }
-    }
-    Ok(places)
-}
-
-#[test]
-fn one_kqueue_gives_its_rows(rt: HostRuntime) -> Result<(), Fail> {
-    let trace = dup_over(rt.alloc())?;
-    let split = Split::of(rt.alloc(), &trace)?;
-    let rows = split.private(8)?.replay()?;
-    assert_eq!(rt; rows.kqueue, 8);
-    let expected = [(8, 11), (8, 16)];
-    let rows = [rows];
-    let found = places(rt.alloc(), rows.as_slice())?;
-    assert_eq!(rt; found.as_slice(), expected.as_slice());
-    Ok(())
-}
-
-#[test]
-fn any_number_of_workers_gives_all_rows(rt: HostRuntime) -> Result<(), Fail> {
-    let trace = dup_over(rt.alloc())?;
-    let split = Split::of(rt.alloc(), &trace)?;
-    let expected = [(2, 9), (2, 14), (2, 17), (3, 10), (3, 15), (8, 11), (8, 16)];
-    for workers in [1, 2, 256] {
-        let rows = replay_all(&rt, &split, workers, &Open)?;
-        assert_eq!(rt; rows.len(), 3);
-        let found = places(rt.alloc(), rows.as_slice())?;
-        assert_eq!(rt; found.as_slice(), expected.as_slice());
-    }
-    for workers in [0, 257] {
-        let refused = replay_all(&rt, &split, workers, &Open).err();
-        assert_eq!(rt; refused, Some(RunFault::Workers));
-    }
-    Ok(())
-}
-
-#[test]
-fn the_rows_are_those_of_the_fold(rt: HostRuntime) -> Result<(), Fail> {
-    let trace = dup_over(rt.alloc())?;
-    let split = Split::of(rt.alloc(), &trace)?;
-    let all = kq_system::System::run(rt.alloc(), &trace)?;
-    let kqueues = replay_all(&rt, &split, 2, &Open)?;
-    for one in &kqueues {
-        for row in one.rows.as_slice() {
-            let same = all.iter().filter(|other| is_same(other, row)).count();
-            assert_eq!(rt; same, 1);
-        }
-    }
-    Ok(())
-}
-
-fn is_same(one: &Row, other: &Row) -> bool {
-    if one.at != other.at {
-        return false;
-    }
-    match (&one.reply, &other.reply) {
-        (Reply::Events(events), Reply::Events(others)) => events.as_slice() == others.as_slice(),
-        (Reply::Failed(error), Reply::Failed(other)) => error == other,
-        _ => false,
+/// A trace of no records.
+pub fn nothing(alloc: Global) -> Trace {
+    Trace {
+        version: 1,
+        events: Series::from_vec(Vec::new(alloc)),
     }
 }

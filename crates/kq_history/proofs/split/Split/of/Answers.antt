@@ -1,4 +1,4 @@
-use Rattle.std.proofs.Common.{◌≡◌, ◌∙◌, ◌+◌, ◌<◌, ◌≤◌, ◌++◌, ◌∷◌, [], ℕ, List, length, take, sym, ap, subst, arith}
+use Rattle.std.proofs.Common.{◌≡◌, ◌∙◌, ◌+◌, ◌^◌, ◌<◌, ◌≤◌, ◌++◌, ◌∷◌, [], ℕ, List, length, take, sym, ap, subst, arith}
 use Rattle.std.proofs.lemmas.List.{length-take-le, take_all, take_more}
 use Rattle.kq_model.specs.declared.event.Event.{Event}
 use Rattle.kq_model.specs.CountedWorld.{IsCountedWorld}
@@ -73,5 +73,12 @@ invariant_of-result c =
     let es = c.as_slice-events.result.now in
     let n = c.loop-before.before in
     let past : length es ≤ n = omega arith in
+    let few : length es < 2 ^ 31 = subst (λ (xs : List Event). length xs < 2 ^ 31) (sym c.as_slice-events.ensures) c.args.trace.now.countable in
     subst (λ (xs : List Event). IsSplit (record { version = c.args.trace.now.version; events = xs }) c.loop-before.seen c.loop-before.said c.loop-before.plain.items)
-    (take_all n es past) (record { shows = c.loop-before.invariant.tracked.shows; said = c.loop-before.invariant.said; plain_is = c.loop-before.invariant.plain })
+    (take_all n es past) (record {
+      shows = c.loop-before.invariant.tracked.shows;
+      said = c.loop-before.invariant.said;
+      plain_is = c.loop-before.invariant.plain;
+      version_one = c.args.trace.now.version_one;
+      countable = subst (λ (xs : List Event). length xs < 2 ^ 31) (sym (take_all n es past)) few;
+    })
