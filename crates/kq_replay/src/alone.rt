@@ -27,9 +27,9 @@ pub struct Alone<'s, 'a> {
 
 impl<'s, 'a> Model for Alone<'s, 'a> {
     ghost use Rattle.std.specs.Prelude.{◌≡◌};
-    ghost use Rattle.kq_replay.specs.Alone as alone;
+    ghost use Rattle.kq_replay.specs.Alone.{LoneKqueue};
 
-    ghost Value = { alone.Alone };
+    ghost Value = { LoneKqueue };
 
     ghost view = { λ a. record {
       trace = a.split.now;
