@@ -149,7 +149,7 @@ impl<'a> Split<'a> {
     pub fn kqueue_count(&self) -> u32
         ensures { result ≡ length (places_of self.now) }
     {
-        self.said.kqueues.places().len() as u32
+        self.kqueues().len() as u32
     }
 
     /// The event of the record at a place, of which the first is 1; none where there is no such place.
