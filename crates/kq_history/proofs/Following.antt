@@ -1,6 +1,6 @@
 -- What the marks of a key give with those of one record more.
 use Rattle.std.proofs.Common.{◌≡◌, ◌+◌, ◌<◌, ◌≤◌, ◌&&◌, ◌||◌, ℕ, Bool, true, false, not, cond, leb, ltb, List, [], ◌∷◌, ◌++◌, refl, sym, ap, subst, ◌∙◌, arith}
-use Rattle.std.proofs.lemmas.Bool.{lt-leb, le-leb, ltb-true, ltb-false}
+use Rattle.std.proofs.lemmas.Bool.{lt-leb, le-leb, leb-true, ltb-true, ltb-false}
 use Rattle.std.proofs.lemmas.List.{append-nil}
 use Rattle.std.proofs.lemmas.List.Elements.{All-nil, All-cons, All-head, All-tail, All-append}
 use Rattle.kq_model.specs.declared.object.Target.{Target}
@@ -10,7 +10,7 @@ use Rattle.kq_history.specs.declared.seen.Seen.{Seen}
 use Rattle.kq_history.specs.declared.timeline.Mark.{Mark}
 use Rattle.kq_history.specs.Noted.{IsNextWorld}
 use Rattle.kq_history.specs.Seen.{seen_by, Shows}
-use Rattle.kq_history.specs.Timeline.{value_at, marked, IsUpTo}
+use Rattle.kq_history.specs.Timeline.{last_value, value_at, marked, IsUpTo}
 use Rattle.kq_history.specs.Touched.{has_number, has_target}
 
 module _ {V : Type 0} where
@@ -85,12 +85,34 @@ shows-next place after pairs targets worlds next old new is shows numbers views 
     turned true x y = refl
     turned false x y = refl
 
+-- behind its last mark a timeline stays as it is
+settled : {V : Type 0} (place at : ℕ) (before : V) (ms : List (Mark V)) → IsUpTo place ms → place ≤ at
+    → value_at at before ms ≡ last_value before ms
+settled place at before [] up later = refl
+settled place at before (m ∷ ms) up later =
+    let here = All-head (λ (x : Mark _). x.place ≤ place) m ms up in
+    let begun : leb m.place at ≡ true = le-leb m.place at (omega (arith, here, later)) in
+    ap (λ b. value_at at (cond b m.value before) ms) begun
+    ∙ settled place at m.value ms (All-tail (λ (x : Mark _). x.place ≤ place) m ms up) later
+
+-- what has the value already needs no mark
+pub value-noted : {V : Type 0} (is had : Bool) (place at : ℕ) (start here : V) (ms : List (Mark V)) → IsUpTo place ms
+    → (is ≡ true → had ≡ true → last_value start ms ≡ here)
+    → value_at at start (ms ++ marked (is && not had) place here) ≡ cond (is && leb place at) here (value_at at start ms)
+value-noted false had place at start here ms up same = value_at-marked false place at start here ms
+value-noted true false place at start here ms up same = value_at-marked true place at start here ms
+value-noted true true place at start here ms up same =
+    value_at-marked false place at start here ms
+    ∙ by_test (λ b. value_at at start ms ≡ cond b here (value_at at start ms)) (leb place at)
+    (λ later. settled place at start ms up (leb-true place at later) ∙ same refl refl) (λ _. refl)
+
 -- a key's marks with one more record's, of keys that were gone through one after the other
-pub noted-more : {V : Type 0} (is any : Bool) (place at : ℕ) (here read start before : V) (cur new : List (Mark V)) → new ≡ cur ++ marked is place here
+pub noted-more : {V : Type 0} (is had any : Bool) (place at : ℕ) (here read start before : V) (cur new : List (Mark V)) → IsUpTo place cur
+    → new ≡ cur ++ marked (is && not had) place here → (is ≡ true → had ≡ true → last_value start cur ≡ here)
     → value_at at start cur ≡ cond (any && leb place at) read before → (is ≡ true → here ≡ read)
     → value_at at start new ≡ cond ((any || is) && leb place at) read before
-noted-more is any place at here read start before cur new pushed noted same =
-    ap (value_at at start) pushed ∙ value_at-marked is place at start here cur
+noted-more is had any place at here read start before cur new up pushed kept noted same =
+    ap (value_at at start) pushed ∙ value-noted is had place at start here cur up kept
     ∙ ap (λ v. cond (is && leb place at) here v) noted ∙ marked-more is any (leb place at) here read before same
 
 -- one more mark is no later one
@@ -99,21 +121,3 @@ up_to-marked false place value ms all = subst (IsUpTo place) (sym (append-nil ms
 up_to-marked true place value ms all =
     All-append (λ (m : Mark _). m.place ≤ place) ms (record { place = place; value = value } ∷ []) all
     (All-cons (λ (m : Mark _). m.place ≤ place) (record { place = place; value = value }) [] (omega arith) (All-nil (λ (m : Mark _). m.place ≤ place)))
-
--- from the place on which no mark is later, the value stays
-pub settled : {V : Type 0} (place at : ℕ) (before : V) (ms : List (Mark V)) → IsUpTo place ms → place ≤ at
-    → value_at at before ms ≡ value_at place before ms
-settled place at before [] up later = refl
-settled place at before (m ∷ ms) up later =
-    let here = All-head (λ (x : Mark _). x.place ≤ place) m ms up in
-    let begun : leb m.place place ≡ true = le-leb m.place place here in
-    let begun_then : leb m.place at ≡ true = le-leb m.place at (omega (arith, here, later)) in
-    ap (λ b. value_at at (cond b m.value before) ms) begun_then
-    ∙ settled place at m.value ms (All-tail (λ (x : Mark _). x.place ≤ place) m ms up) later
-    ∙ ap (λ b. value_at place (cond b m.value before) ms) (sym begun)
-
--- one key more, whose value is read off the marks
-pub noted-then : {V : Type 0} (is any up : Bool) (here read before cur new : V) → new ≡ cond (is && up) here cur → cur ≡ cond (any && up) read before
-    → (is ≡ true → here ≡ read) → new ≡ cond ((any || is) && up) read before
-noted-then is any up here read before cur new came noted same =
-    came ∙ ap (λ v. cond (is && up) here v) noted ∙ marked-more is any up here read before same

@@ -15,16 +15,18 @@ mod AnyWithin
 mod TouchedKeys
 mod UntouchedRecords
 mod NotedKeys
+mod NotedMarks
+mod SameValues
 mod ListedRecords
 mod TracedWorlds
 mod TrackedRecords
 mod TrackedNext
 pub mod Sayings
-mod FewKqueues
 mod FirstTracked
 mod PlainRows
 mod NamedKqueues
 mod SaidItems
 mod SaidNext
-mod PrivateOf
+pub mod PrivateOf
 mod SplitNext
+mod Events

@@ -168,4 +168,6 @@ pub named-length : (ms : List Moment) (bs : List Birth) (cs : List Concerned) �
 named-length ms [] [] are = refl
 named-length ms [] (c ∷ cs) are = absurd are
 named-length ms (b ∷ bs) [] are = absurd are
-named-length ms (b ∷ bs) (c ∷ cs) are = ap (λ n. n + 1) (named-length ms bs cs are.1)
+named-length ms (b ∷ bs) (c ∷ cs) are =
+    let rest : length cs ≡ length bs = named-length ms bs cs are.1 in
+    omega (arith, rest)

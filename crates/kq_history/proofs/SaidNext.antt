@@ -214,7 +214,7 @@ module _ (t : Traced) (e : Event) (counts : IsCountedWorld (end t e) (now t e)) 
       where
         inside : (index : ℕ) → index < length (births_of t) → index < length s.kqueues.places.items
         inside index within =
-            let count : length s.kqueues.places.items ≡ length (births_of t) = ap (λ (ps : List ℕ). length ps) said.births ∙ length-map (λ (b : Birth). b.place) (births_of t) in
+            let count : length s.kqueues.places.items ≡ length (births_of t) = ap (λ (ps : List ℕ). length ps) said.births ∙ length-map (births_of t) (λ (b : Birth). b.place) in
             omega (arith, within, count)
 
         places-same : born_of e ≡ None → places_of t ≡ places_of (longer t e)

@@ -12,6 +12,7 @@ use Rattle.kq_model.specs.ListedFiles.{AreListed}
 use Rattle.kq_model.specs.Moments.{moments_from, plans_from}
 use Rattle.kq_model.specs.Objects.{counted}
 use Rattle.kq_model.specs.Plans.{plan}
+use Rattle.kq_model.specs.Projection.{plans}
 use Rattle.kq_model.specs.World as model
 use Rattle.kq_model.specs.World.{Plan, Planned, Impossible, Possible, carried_out, empty_world}
 use Rattle.kq_model.proofs.Distinct.{births-rising}
@@ -29,7 +30,7 @@ use Rattle.kq_history.specs.Traced.{Traced, births_of, longer, places_of}
 use Rattle.kq_history.specs.Tracked.{IsTracked}
 use Rattle.kq_history.proofs.NamedKqueues.{named-length}
 use Rattle.kq_history.proofs.SaidNext.{said-next}
-use Rattle.kq_history.proofs.TracedWorlds.{end, next, now, world-longer}
+use Rattle.kq_history.proofs.TracedWorlds.{end, next, now, plans-length, world-longer}
 use Rattle.kq_history.proofs.TrackedRecords.{next-is}
 
 -- ---- the places of births rise
@@ -37,21 +38,26 @@ use Rattle.kq_history.proofs.TrackedRecords.{next-is}
 above-all : (x : ℕ) (xs : List ℕ) → All (λ y. x < y) xs → IsStrictlyIncreasing xs → IsStrictlyIncreasing (x ∷ xs)
 above-all x [] below rises k within = absurd (omega (arith, within))
 above-all x (y ∷ ys) below rises zero within = All-head (λ z. x < z) y ys below
-above-all x (y ∷ ys) below rises (suc k) within = rises k (omega (arith, within))
+above-all x (y ∷ ys) below rises (suc k) within =
+    let next : suc (k + 1) ≡ suc k + 1 = omega arith in
+    subst (λ n. get_or (y ∷ ys) k 0 < get_or (x ∷ (y ∷ ys)) n 0) next (rises k (omega (arith, within)))
+
+born-rise : (place : ℕ) (born : Option Pair) (bs : List Birth) → All (λ (b : Birth). place + 1 ≤ b.place) bs
+    → IsStrictlyIncreasing (map (λ (b : Birth). b.place) bs) → IsStrictlyIncreasing (map (λ (b : Birth). b.place) (birth_at place born ++ bs))
+unfolding birth_at
+born-rise place None bs later rises = rises
+born-rise place (Some x) bs later rises =
+    above-all place (map (λ (b : Birth). b.place) bs)
+    (All-map (λ y. place < y) (λ (b : Birth). b.place) bs
+    (All-weaker (λ (b : Birth). place + 1 ≤ b.place) (λ (b : Birth). place < b.place) (λ b from. omega (arith, from)) bs later))
+    rises
 
 rise-from : (place : ℕ) (qs : List Planned) → IsStrictlyIncreasing (map (λ (b : Birth). b.place) (births_from place qs))
-unfolding births_from birth_by birth_at
+unfolding births_from birth_by
 rise-from place [] = λ k within. absurd (omega (arith, within))
 rise-from place (Impossible why ∷ qs) = rise-from (place + 1) qs
-rise-from place (Possible p ∷ qs) = with_birth p.born
-  where
-    with_birth : (born : Option Pair) → IsStrictlyIncreasing (map (λ (b : Birth). b.place) (birth_at place born ++ births_from (place + 1) qs))
-    with_birth None = rise-from (place + 1) qs
-    with_birth (Some x) =
-        above-all place (map (λ (b : Birth). b.place) (births_from (place + 1) qs))
-        (All-map (λ y. place < y) (λ (b : Birth). b.place) (births_from (place + 1) qs)
-        (All-weaker (λ (b : Birth). place + 1 ≤ b.place) (λ (b : Birth). place < b.place) (λ b from. omega (arith, from)) (births_from (place + 1) qs) (births-rising (place + 1) qs).0))
-        (rise-from (place + 1) qs)
+rise-from place (Possible p ∷ qs) =
+    born-rise place p.born (births_from (place + 1) qs) (births-rising (place + 1) qs).0 (rise-from (place + 1) qs)
 
 pub places-rise : (t : Traced) (s : Said) → IsSaid t s → IsStrictlyIncreasing s.kqueues.places.items
 places-rise t s said = subst IsStrictlyIncreasing (sym said.births) (rise-from 1 _)
@@ -59,7 +65,29 @@ places-rise t s said = subst IsStrictlyIncreasing (sym said.births) (rise-from 1
 pub one-each : (t : Traced) (s : Said) → IsSaid t s → length s.kqueues.concerned.items ≡ length s.kqueues.places.items
 one-each t s said =
     named-length _ (births_of t) s.kqueues.concerned.items said.concerned
-    ∙ sym (length-map (λ (b : Birth). b.place) (births_of t)) ∙ ap (λ (ps : List ℕ). length ps) (sym said.births)
+    ∙ sym (length-map (births_of t) (λ (b : Birth). b.place)) ∙ ap (λ (ps : List ℕ). length ps) (sym said.births)
+
+-- ---- no more births than records
+
+born-few : (place : ℕ) (born : Option Pair) (bs : List Birth) (n : ℕ) → length bs ≤ n → length (birth_at place born ++ bs) ≤ n + 1
+unfolding birth_at
+born-few place None bs n few = omega (arith, few)
+born-few place (Some x) bs n few = omega (arith, few)
+
+births-few : (place : ℕ) (qs : List Planned) → length (births_from place qs) ≤ length qs
+unfolding births_from birth_by
+births-few place [] = omega arith
+births-few place (Impossible why ∷ qs) = let rest = births-few (place + 1) qs in omega (arith, rest)
+births-few place (Possible p ∷ qs) =
+    let all = born-few place p.born (births_from (place + 1) qs) (length qs) (births-few (place + 1) qs) in
+    omega (arith, all)
+
+pub few-kqueues : (t : Traced) → length (places_of t) ≤ length t.events
+few-kqueues t =
+    let each = length-map (births_of t) (λ (b : Birth). b.place) in
+    let few = births-few 1 (plans counted t.version t.events) in
+    let all = plans-length 1 (empty_world counted) t.events in
+    omega (arith, each, few, all)
 
 -- ---- no record
 

@@ -1,7 +1,9 @@
 -- The value at a place is that of the mark before the first one that is later.
-use Rattle.std.proofs.Common.{◌≡◌, ℕ, zero, suc, ◌+◌, ◌<◌, ◌≤◌, Bool, true, false, cond, leb, length, get_or, List, [], ◌∷◌, ◌++◌, refl, ap, ◌∙◌, arith}
+use Rattle.std.proofs.Common.{◌≡◌, ℕ, zero, suc, ◌+◌, ◌-◌, ◌<◌, ◌≤◌, Bool, true, false, cond, leb, length, get_or, List, [], ◌∷◌, ◌++◌, Option, None, Some, refl, sym, ap, ◌∙◌, arith}
+use Rattle.std.specs.List.{slice_get}
+use Rattle.std.proofs.lemmas.Option.{get_or_from_slice_get, none-some, slice_get-get_or, slice_get_within}
 use Rattle.kq_history.specs.declared.timeline.Mark.{Mark}
-use Rattle.kq_history.specs.Timeline.{value_at}
+use Rattle.kq_history.specs.Timeline.{last_value, value_at}
 
 module _ {V : Type 0} (place : ℕ) where
   abbrev has_begun : Mark V → Bool
@@ -31,3 +33,23 @@ module _ {V : Type 0} (place : ℕ) where
       value_from ms n (cond (has_begun m) m.value before) (omega (arith, within))
       (λ k e up_to. begun (suc k) e (omega (arith, up_to)))
       (λ k e after inside. later (suc k) e (omega (arith, after)) (omega (arith, inside))) d
+
+-- ---- behind all marks
+
+module _ {V : Type 0} where
+  ends-at : (ms : List (Mark V)) (before : V) (d : Mark V) (n : ℕ) → length ms ≡ n + 1 → last_value before ms ≡ (get_or ms n d).value
+  ends-at [] before d n e = absurd (omega (arith, e))
+  ends-at (m ∷ []) before d zero e = refl
+  ends-at (m ∷ (x ∷ ms)) before d zero e = absurd (omega (arith, e))
+  ends-at (m ∷ ms) before d (suc n) e = ends-at ms m.value d n (omega (arith, e))
+
+  pub last-some : (ms : List (Mark V)) (before : V) (m : Mark V) → slice_get ms (length ms - 1) ≡ Some m → last_value before ms ≡ m.value
+  last-some ms before m got =
+      let within : length ms - 1 < length ms = slice_get_within ms (length ms - 1) m got in
+      ends-at ms before m (length ms - 1) (omega (arith, within))
+      ∙ ap (λ (x : Mark V). x.value) (get_or_from_slice_get ms (length ms - 1) m m got)
+
+  pub last-none : (ms : List (Mark V)) (before : V) → slice_get ms (length ms - 1) ≡ None → last_value before ms ≡ before
+  last-none [] before none = refl
+  last-none (m ∷ ms) before none =
+      absurd (none-some _ (sym none ∙ slice_get-get_or (m ∷ ms) (length (m ∷ ms) - 1) m (omega arith)))

@@ -17,6 +17,9 @@ IsConcerned ms b owner sources =
     × ((w : model.What) → has_source sources (source_of (bare_what w))
     ≡ model.is_own b.place b.owner (names_in (references b.place b.owner ms)) w)
 
--- the items of its private list
+-- the items of the private list of the kqueue with this place and this owner
+abbrev pub private_items : ℕ → ℕ → List Moment → List Item
+private_items place owner ms = bare_items (flat_map model.items_of (private_list place owner ms))
+
 abbrev pub own_items : List Moment → Birth → List Item
-own_items ms b = bare_items (flat_map model.items_of (private_list b.place b.owner ms))
+own_items ms b = private_items b.place b.owner ms

@@ -7,9 +7,9 @@ use Rattle.kq_history.specs.Said.{IsSaid}
 use Rattle.kq_history.specs.Seen.{Shows}
 use Rattle.kq_history.specs.Traced.{Traced, plain_rows_of, seen_at}
 
-pub record IsSplit (t : Traced) (s : Seen) (said : Said) (plain : List Row) : Type 0 where
+pub record IsSplit (t : Traced) (s : Seen) (heard : Said) (plain : List Row) : Type 0 where
   pub shows : Shows (seen_at t) s
-  pub said : IsSaid t said
+  pub said : IsSaid t heard
   pub plain_is : plain ≡ plain_rows_of t
   -- of the type of traces
   pub version_one : t.version ≡ 1

@@ -8,6 +8,11 @@ module _ {V : Type 0} where
   value_at place before [] = before
   value_at place before (m ∷ ms) = value_at place (if nat_le m.place place then m.value else before) ms
 
+  -- the value behind all marks
+  abbrev pub last_value : V → List (Mark V) → V
+  last_value before [] = before
+  last_value before (m ∷ ms) = last_value m.value ms
+
   abbrev pub mark : ℕ → V → Mark V
   mark place value = record { place = place; value = value }
 

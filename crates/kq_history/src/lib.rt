@@ -20,15 +20,8 @@ mod tracking;
 
 pub use at::HistoryAt;
 pub use item::{Item, Source, What};
-pub use kqueues::{Concerned, Kqueues};
-pub use log::Log;
 pub use private::Private;
-pub use seen::Seen;
-pub use shelves::{Shelf, Shelves};
-pub use sources::Sources;
 pub use split::Split;
-pub use timeline::{Mark, Timeline};
-pub use timelines::Timelines;
 
 #[cfg(test)]
 mod tests;

@@ -1,9 +1,8 @@
 ghost use Rattle.std.specs.Prelude.{◌≡◌, ℕ, ◌&&◌, nat_le, None, OnOk, if◌then◌else◌};
-ghost use Rattle.kq_model.specs.Targets.{target_eq};
 ghost use Rattle.kq_model.specs.Views as model;
 ghost use Rattle.kq_history.specs.Noted.{AreAllUpTo, IsNextWorld};
 ghost use Rattle.kq_history.specs.Seen.{pair_eq, IsBlank, seen_by, target_key, Shows};
-ghost use Rattle.kq_history.specs.Timeline.{value_at, IsUpTo};
+ghost use Rattle.kq_history.specs.Timeline.{value_at};
 ghost use Rattle.kq_history.specs.Timelines.{marks_at, AreUpTo};
 ghost use Rattle.kq_history.specs.Touched.{has_number, has_target};
 
@@ -56,7 +55,7 @@ impl Seen {
     }
 
     /// Notes the world after the record of a place: of the numbers and the targets that the record
-    /// touched, and of the clock. After Memory nothing is known.
+    /// touched, and of the clock. What is as it was has no mark. After Memory nothing is known.
     pub fn note<V: Views>(
         &mut self,
         place: u64,
@@ -72,7 +71,7 @@ impl Seen {
     {
         note_numbers(&mut self.numbers, place, numbers, views)?;
         note_targets(&mut self.views, place, targets, views)?;
-        note_clock(&mut self.clock, place, views.now())
+        self.clock.note(place, 0, views.now())
     }
 }
 
@@ -92,12 +91,8 @@ fn note_numbers<V: Views>(
         else value_at at None (marks_at pair_eq timelines.old.table (pid, number)))) }
 {
     for number in numbers {
-        note_number(
-            timelines,
-            place,
-            *number,
-            views.descriptor(number.0, number.1),
-        )?;
+        let named = views.descriptor(number.0, number.1);
+        timelines.note(*number, place, None, named)?;
     }
     Ok(())
 }
@@ -118,60 +113,7 @@ fn note_targets<V: Views>(
         else value_at at None (marks_at target_key timelines.old.table t))) }
 {
     for target in targets {
-        note_target(timelines, place, *target, views.view(*target))?;
+        timelines.note(*target, place, None, views.view(*target))?;
     }
     Ok(())
-}
-
-/// What a number names from this place on. There is no mark where it named the same before.
-fn note_number(
-    timelines: &mut Timelines<(u32, u32), Option<Named>>,
-    place: u64,
-    number: (u32, u32),
-    named: Option<Named>,
-) -> Result<(), Memory>
-    requires { AreUpTo pair_eq place timelines.old.table }
-    ensures up_to { OnOk result (AreUpTo pair_eq place timelines.new.table) }
-    ensures noted { OnOk result ((key : ℕ × ℕ) (at : ℕ) →
-        value_at at None (marks_at pair_eq timelines.new.table key)
-        ≡ (if pair_eq number key && nat_le place at then named
-        else value_at at None (marks_at pair_eq timelines.old.table key))) }
-{
-    if timelines.at(number, place, None) == named {
-        return Ok(());
-    }
-    timelines.mark(number, place, named)
-}
-
-/// What is seen of a target from this place on. There is no mark where the same was seen before.
-fn note_target(
-    timelines: &mut Timelines<Target, Option<View>>,
-    place: u64,
-    target: Target,
-    view: Option<View>,
-) -> Result<(), Memory>
-    requires { AreUpTo target_key place timelines.old.table }
-    ensures up_to { OnOk result (AreUpTo target_key place timelines.new.table) }
-    ensures noted { OnOk result ((t : Target) (at : ℕ) →
-        value_at at None (marks_at target_key timelines.new.table t)
-        ≡ (if target_eq target t && nat_le place at then view
-        else value_at at None (marks_at target_key timelines.old.table t))) }
-{
-    if timelines.at(target, place, None) == view {
-        return Ok(());
-    }
-    timelines.mark(target, place, view)
-}
-
-/// The clock from this place on. There is no mark where it stood there before.
-fn note_clock(clock: &mut Timeline<u64>, place: u64, now: u64) -> Result<(), Memory>
-    requires { IsUpTo place clock.old }
-    ensures up_to { OnOk result (IsUpTo place clock.new) }
-    ensures noted { OnOk result ((at : ℕ) → value_at at 0 clock.new
-        ≡ (if nat_le place at then now else value_at at 0 clock.old)) }
-{
-    if clock.at(place, 0) == now {
-        return Ok(());
-    }
-    clock.push(place, now)
 }

@@ -11,6 +11,7 @@ use crate::at::HistoryAt;
 use crate::private::Private;
 use crate::said::{Before, Said};
 use crate::seen::Seen;
+use crate::touched::Touched;
 use crate::tracking::track;
 use kq_model::{Event, Memory, Named, Reply, Row, Target, Trace, View, Why};
 use kq_process::{Effect, World};
@@ -51,11 +52,12 @@ impl<'a> Split<'a> {
         let mut world = World::new(alloc)?;
         let mut seen = Seen::new(alloc);
         let mut said = Said::new(alloc);
+        let mut touched = Touched::new(alloc);
         let mut plain = Vec::new(alloc);
         for (before, event) in events.iter().enumerate() {
             let place = before as u64 + 1;
             let before_it = Before::of(event, &world);
-            let effect = track(alloc, place, event, &mut world, &mut seen)?;
+            let effect = track(place, event, &mut world, &mut seen, &mut touched)?;
             hear(&mut said, place, event, &effect, before_it, &world)?;
             put_plain(&mut plain, place, &effect.verdict)?;
         }
@@ -145,16 +147,15 @@ impl<'a> Split<'a> {
         self.version
     }
 
-    /// How many kqueues the trace makes: no more than it has records.
-    #[tactic(auto, using(crate::proofs::FewKqueues::places_few))]
+    /// How many kqueues the trace makes: fewer than it has records.
     pub fn kqueue_count(&self) -> u32
         ensures { result ≡ length (places_of self.now) }
     {
-        self.kqueues().len() as u32
+        let kqueues = &self.said.kqueues;
+        kqueues.places().len() as u32
     }
 
     /// The event of the record at a place, of which the first is 1; none where there is no such place.
-    #[tactic(auto, unfolding(crate::specs::Traced::event_at))]
     pub fn event(&self, place: u64) -> Option<&'a Event>
         ensures { MatchOption result (event_at self.now place ≡ None) (λ e. event_at self.now place ≡ Some e.now) }
     {

@@ -1,5 +1,5 @@
-ghost use Rattle.std.specs.Prelude.{◌≡◌, ◌++◌, ◌∷◌, [], IfOk, OnOk, OnErr};
-ghost use Rattle.kq_history.specs.Timeline.{mark, value_at, IsUpTo};
+ghost use Rattle.std.specs.Prelude.{◌≡◌, ◌++◌, ◌∷◌, [], not, IfOk, OnOk, OnErr};
+ghost use Rattle.kq_history.specs.Timeline.{last_value, mark, marked, value_at, IsUpTo};
 
 use kq_model::Memory;
 use std::alloc::Global;
@@ -60,6 +60,32 @@ impl<V> Timeline<V> {
         ensures memory { OnErr result (self.new ≡ self.old) }
     {
         self.marks.push(Mark { place, value }).map_err(|_| Memory)
+    }
+
+    /// From this place on the value is this one. There is no mark where it is that one already.
+    pub fn note(&mut self, place: u64, before: V, value: V) -> Result<(), Memory>
+    where
+        V: Copy + Drop + PartialEq,
+        requires { IsUpTo place self.old }
+        ensures { OnOk result (self.new
+            ≡ self.old ++ marked (not (V.eq (last_value before self.old) value)) place value) }
+    {
+        if self.last(before) == value {
+            return Ok(());
+        }
+        self.push(place, value)
+    }
+
+    /// The value behind all marks, else the value before them.
+    pub fn last(&self, before: V) -> V
+    where
+        V: Copy + Drop,
+        ensures { result ≡ last_value before self.now }
+    {
+        match self.marks.last() {
+            Some(mark) => mark.value,
+            None => before,
+        }
     }
 
     /// The value at a place: that of the last mark at the place or before it, else the value before

@@ -1,5 +1,5 @@
-ghost use Rattle.std.specs.Prelude.{◌≡◌, ◌++◌, [], OnOk};
-ghost use Rattle.kq_history.specs.Timeline.{value_at, marked};
+ghost use Rattle.std.specs.Prelude.{◌≡◌, ◌++◌, ◌&&◌, [], not, OnOk};
+ghost use Rattle.kq_history.specs.Timeline.{last_value, marked, value_at};
 ghost use Rattle.kq_history.specs.Timelines.{marks_at, AreUpTo};
 
 use crate::timeline::Timeline;
@@ -37,15 +37,22 @@ impl<K: Copy + Eq + Hash, V: Copy + Drop> Timelines<K, V> {
         }
     }
 
-    /// From this place on a key has this value. After Memory nothing is known.
-    pub fn mark(&mut self, key: K, place: u64, value: V) -> Result<(), Memory>
+    /// From this place on a key has this value; there is no mark where it has it already. A key has
+    /// `before` where it was never marked. After Memory nothing is known.
+    pub fn note(&mut self, key: K, place: u64, before: V, value: V) -> Result<(), Memory>
+    where
+        V: PartialEq,
         requires { AreUpTo K.eq place self.old.table }
         ensures { OnOk result ((other : K) → marks_at K.eq self.new.table other
-            ≡ marks_at K.eq self.old.table other ++ marked (K.eq key other) place value) }
+            ≡ marks_at K.eq self.old.table other ++ marked (K.eq key other
+            && not (V.eq (last_value before (marks_at K.eq self.old.table key)) value)) place value) }
     {
         match self.table.get_mut(&key) {
-            Some(timeline) => timeline.push(place, value),
+            Some(timeline) => timeline.note(place, before, value),
             None => {
+                if before == value {
+                    return Ok(());
+                }
                 let timeline = Timeline::one(self.alloc, place, value)?;
                 self.table.insert(key, timeline).map_err(|_| Memory)?;
                 Ok(())

@@ -1,34 +1,78 @@
 // What may be another one after a record. To name too much does no harm: what did not change is
 // noted as it was.
-ghost use Rattle.std.specs.Prelude.{◌≡◌, ◌++◌, ◌∷◌, [], IfOk, OnOk};
+ghost use Rattle.std.specs.Prelude.{◌≡◌, ◌++◌, ◌∷◌, [], OnOk};
 ghost use Rattle.std.specs.List.{flat_map};
 ghost use Rattle.kq_history.specs.Spoken.{file_targets, option_list, process_targets};
 ghost use Rattle.kq_history.specs.Touched.{keys_of, open_numbers, touched_numbers};
 ghost use Rattle.kq_history.specs.Touched.{targets_named, targets_of, told_targets, touched_targets};
+ghost use Rattle.kq_model.specs.World.{views_of};
 ghost use Rattle.kq_process.specs.Processes.{descriptors_in};
 ghost use Rattle.kq_process.specs.World.{world_of};
 
 use crate::spoken::{first_number, second_number, spoken_file, spoken_process};
 use kq_filters::Views;
 use kq_model::{Event, Hint, Memory, Named, Target};
-use kq_process::World;
+use kq_process::{Effect, World};
 use std::alloc::Global;
 
-/// The numbers that may name something else after a record, by pid and number: those that it closed
-/// or speaks of, and those of a process that it started. The world is that after the record.
-pub fn touched_numbers(
-    alloc: Global,
+/// What a record touched. One serves all records of a pass, so that none allocates for itself.
+#[derive(Drop)]
+pub struct Touched {
+    /// By pid and number.
+    pub(crate) numbers: Vec<(u32, u32)>,
+    pub(crate) targets: Vec<Target>,
+}
+
+impl Touched {
+    pub fn new(alloc: Global) -> Self {
+        Touched {
+            numbers: Vec::new(alloc),
+            targets: Vec::new(alloc),
+        }
+    }
+
+    /// What this record touched, in place of what another one did. The world is that after the
+    /// record.
+    pub fn fill<B: Views>(
+        &mut self,
+        event: &Event,
+        effect: &Effect,
+        before: &B,
+        world: &World,
+    ) -> Result<(), Memory>
+        ensures numbers { OnOk result (self.new.numbers.items
+            ≡ touched_numbers event.now effect.now.closed (world_of world.now)) }
+        ensures targets { OnOk result (self.new.targets.items ≡ touched_targets event.now effect.now.hints
+            (B.sees before.now) (views_of (world_of world.now))
+            (touched_numbers event.now effect.now.closed (world_of world.now))) }
+    {
+        put_numbers(&mut self.numbers, event, effect.closed.as_slice(), world)?;
+        put_targets(
+            &mut self.targets,
+            event,
+            effect.hints.as_slice(),
+            before,
+            world,
+            self.numbers.as_slice(),
+        )
+    }
+}
+
+/// The numbers that may name something else after a record: those that it closed or speaks of, and
+/// those of a process that it started. The world is that after the record.
+fn put_numbers(
+    numbers: &mut Vec<(u32, u32)>,
     event: &Event,
     closed: &[(u32, u32)],
     world: &World,
-) -> Result<Vec<(u32, u32)>, Memory>
-    ensures { IfOk result (λ numbers. numbers.items ≡ touched_numbers event.now closed.now (world_of world.now)) }
+) -> Result<(), Memory>
+    ensures { OnOk result (numbers.new.items ≡ touched_numbers event.now closed.now (world_of world.now)) }
 {
-    let mut numbers = Vec::from_slice(alloc, closed).map_err(|_| Memory)?;
-    push_number(&mut numbers, first_number(event))?;
-    push_number(&mut numbers, second_number(event))?;
-    push_open(&mut numbers, spoken_process(event), world)?;
-    Ok(numbers)
+    numbers.clear();
+    numbers.extend_from_slice(closed).map_err(|_| Memory)?;
+    push_number(numbers, first_number(event))?;
+    push_number(numbers, second_number(event))?;
+    push_open(numbers, spoken_process(event), world)
 }
 
 fn push_number(numbers: &mut Vec<(u32, u32)>, number: Option<(u32, u32)>) -> Result<(), Memory>
@@ -69,23 +113,22 @@ fn push_numbers(
 
 /// The targets of which something else may be seen after a record: what those numbers name before
 /// it and after it, whom it told, and what it speaks of.
-pub fn touched_targets<B: Views, A: Views>(
-    alloc: Global,
+fn put_targets<B: Views, A: Views>(
+    targets: &mut Vec<Target>,
     event: &Event,
     hints: &[(Target, Hint)],
     before: &B,
     after: &A,
     numbers: &[(u32, u32)],
-) -> Result<Vec<Target>, Memory>
-    ensures { IfOk result (λ targets. targets.items
+) -> Result<(), Memory>
+    ensures { OnOk result (targets.new.items
         ≡ touched_targets event.now hints.now (B.sees before.now) (A.sees after.now) numbers.now) }
 {
-    let mut targets = Vec::new(alloc);
-    push_all_named(&mut targets, before, after, numbers)?;
-    push_told(&mut targets, hints)?;
-    push_process(&mut targets, spoken_process(event))?;
-    push_file(&mut targets, spoken_file(event))?;
-    Ok(targets)
+    targets.clear();
+    push_all_named(targets, before, after, numbers)?;
+    push_told(targets, hints)?;
+    push_process(targets, spoken_process(event))?;
+    push_file(targets, spoken_file(event))
 }
 
 fn push_all_named<B: Views, A: Views>(

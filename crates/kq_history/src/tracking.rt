@@ -9,19 +9,18 @@ ghost use Rattle.kq_history.specs.Tracked.{IsFollowed, IsNoted, IsTracked};
 
 use crate::at::SeenAt;
 use crate::seen::Seen;
-use crate::touched::{touched_numbers, touched_targets};
+use crate::touched::Touched;
 use kq_model::{Event, Memory};
 use kq_process::{Effect, World};
-use std::alloc::Global;
 
 /// One record more: the world takes it, and what is seen after it is noted. After Memory nothing is
 /// known.
 pub fn track(
-    alloc: Global,
     place: u64,
     event: &Event,
     world: &mut World,
     seen: &mut Seen,
+    touched: &mut Touched,
 ) -> Result<Effect, Memory>
     requires counted { IsCountedWorld place (world_of world.old) }
     requires up_to { AreAllUpTo place seen.old }
@@ -30,48 +29,47 @@ pub fn track(
         → IsTracked (longer t event.now) world.new seen.new) }
 {
     let effect = world.apply(place, event)?;
-    follow(alloc, place, event, &effect, world, seen)?;
+    follow(place, event, &effect, world, seen, touched)?;
     Ok(effect)
 }
 
 /// Notes the world after a record, where it was possible.
 fn follow(
-    alloc: Global,
     place: u64,
     event: &Event,
     effect: &Effect,
     world: &World,
     seen: &mut Seen,
+    touched: &mut Touched,
 ) -> Result<(), Memory>
     requires { AreAllUpTo place seen.old }
     ensures { OnOk result (IsFollowed place event.now effect.now (world_of world.now) seen.old seen.new) }
 {
     match effect.verdict {
         Err(_) => Ok(()),
-        Ok(()) => note(alloc, place, event, effect, world, seen),
+        Ok(()) => note(place, event, effect, world, seen, touched),
     }
 }
 
 /// Notes of the world after a record all that the record touched.
 fn note(
-    alloc: Global,
     place: u64,
     event: &Event,
     effect: &Effect,
     world: &World,
     seen: &mut Seen,
+    touched: &mut Touched,
 ) -> Result<(), Memory>
     requires { AreAllUpTo place seen.old }
     ensures up_to { OnOk result (AreAllUpTo place seen.new) }
     ensures noted { OnOk result (IsNoted place event.now effect.now.closed effect.now.hints (world_of world.now)
         seen.old seen.new) }
 {
-    let numbers = touched_numbers(alloc, event, effect.closed.as_slice(), world)?;
     let before = SeenAt {
         seen: &*seen,
         place,
     };
-    let hints = effect.hints.as_slice();
-    let targets = touched_targets(alloc, event, hints, &before, world, numbers.as_slice())?;
-    seen.note(place, numbers.as_slice(), targets.as_slice(), world)
+    touched.fill(event, effect, &before, world)?;
+    let numbers = touched.numbers.as_slice();
+    seen.note(place, numbers, touched.targets.as_slice(), world)
 }

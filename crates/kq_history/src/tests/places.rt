@@ -203,6 +203,7 @@ fn at_each_place_the_world_is_seen(rt: HostRuntime) -> Result<(), Fail> {
     let mut events = Vec::new(rt.alloc());
     descriptors(&mut events)?;
     files(&mut events)?;
+    assert!(rt; events.len() < 100);
     let trace = Trace {
         version: 1,
         events: Series::from_vec(events),
@@ -211,7 +212,8 @@ fn at_each_place_the_world_is_seen(rt: HostRuntime) -> Result<(), Fail> {
     let mut world = World::new(rt.alloc())?;
     assert_seen(&rt, &split, 0, &world);
     let mut impossible = 0;
-    for (before, event) in trace.events.as_slice().iter().enumerate() {
+    let events = trace.events.as_slice();
+    for (before, event) in events.iter().enumerate() {
         let place = before as u64 + 1;
         let effect = world.apply(place, event)?;
         if effect.verdict.is_err() {

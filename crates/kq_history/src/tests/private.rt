@@ -4,8 +4,21 @@ use kq_model::{Change, EvFlags, Event, Filter, Hint, Memory, Series, Target, Tra
 use std::alloc::Global;
 use std::test::Fail;
 
-/// A change list of one READ of number 3.
-fn read(alloc: Global, flags: EvFlags) -> Result<Series<Change>, Memory> {
+fn kqueue(pid: u32) -> Event {
+    Event::Kqueue { pid, fd: 9 }
+}
+
+fn socket(fd: u32) -> Event {
+    Event::Socket {
+        pid: 1,
+        fd,
+        rcv: 100,
+        snd: 100,
+    }
+}
+
+/// A call with one READ of number 3.
+fn read(alloc: Global, pid: u32, fd: u32, flags: EvFlags) -> Result<Event, Memory> {
     let mut changes = Vec::new(alloc);
     let change = Change {
         ident: 3,
@@ -16,79 +29,54 @@ fn read(alloc: Global, flags: EvFlags) -> Result<Series<Change>, Memory> {
         udata: 0,
     };
     changes.push(change).map_err(|_| Memory)?;
-    Ok(Series::from_vec(changes))
-}
-
-fn put(events: &mut Vec<Event>, event: Event) -> Result<(), Memory> {
-    events.push(event).map_err(|_| Memory)
-}
-
-/// Two kqueues of process 1 and one of its child.
-fn made(events: &mut Vec<Event>) -> Result<(), Memory> {
-    put(events, Event::Proc { pid: 1 })?;
-    put(events, Event::Kqueue { pid: 1, fd: 9 })?;
-    put(events, Event::Kqueue { pid: 1, fd: 10 })?;
-    let socket = Event::Socket {
-        pid: 1,
-        fd: 3,
-        rcv: 100,
-        snd: 100,
-    };
-    put(events, socket)?;
-    put(events, Event::Connect { pid: 1, fd: 3 })?;
-    let socket = Event::Socket {
-        pid: 1,
-        fd: 5,
-        rcv: 100,
-        snd: 100,
-    };
-    put(events, socket)?;
-    put(events, Event::Fork { pid: 1, child: 2 })?;
-    put(events, Event::Kqueue { pid: 2, fd: 9 })
-}
-
-fn call(
-    events: &mut Vec<Event>,
-    pid: u32,
-    fd: u32,
-    changes: Series<Change>,
-    room: u32,
-) -> Result<(), Memory> {
-    let call = Event::Kevent {
+    Ok(Event::Kevent {
         pid,
         fd,
-        changes,
-        room,
-    };
-    put(events, call)
+        changes: Series::from_vec(changes),
+        room: 0,
+    })
 }
 
+fn poll(alloc: Global, pid: u32, fd: u32) -> Event {
+    Event::Kevent {
+        pid,
+        fd,
+        changes: Series::from_vec(Vec::new(alloc)),
+        room: 1,
+    }
+}
+
+/// Two kqueues of process 1 and one of its child watch number 3, and another socket takes it in
+/// process 1.
 fn dup_over(alloc: Global) -> Result<Trace, Memory> {
-    let mut events = Vec::new(alloc);
-    made(&mut events)?;
-    call(&mut events, 1, 9, read(alloc, EvFlags::ADD)?, 0)?;
-    call(&mut events, 1, 10, read(alloc, EvFlags::ADD)?, 0)?;
-    call(&mut events, 2, 9, read(alloc, EvFlags::ADD)?, 0)?;
-    put(
-        &mut events,
+    let events = [
+        Event::Proc { pid: 1 },
+        kqueue(1),
+        Event::Kqueue { pid: 1, fd: 10 },
+        socket(3),
+        Event::Connect { pid: 1, fd: 3 },
+        socket(5),
+        Event::Fork { pid: 1, child: 2 },
+        kqueue(2),
+        read(alloc, 1, 9, EvFlags::ADD)?,
+        read(alloc, 1, 10, EvFlags::ADD)?,
+        read(alloc, 2, 9, EvFlags::ADD)?,
         Event::Rx {
             pid: 1,
             fd: 3,
             n: 1,
         },
-    )?;
-    put(
-        &mut events,
         Event::Dup {
             pid: 1,
             fd: 5,
             to: 3,
         },
-    )?;
-    call(&mut events, 1, 9, Series::from_vec(Vec::new(alloc)), 1)?;
-    call(&mut events, 1, 10, Series::from_vec(Vec::new(alloc)), 1)?;
-    call(&mut events, 2, 9, Series::from_vec(Vec::new(alloc)), 1)?;
-    call(&mut events, 1, 9, read(alloc, EvFlags::DELETE)?, 1)?;
+        poll(alloc, 1, 9),
+        poll(alloc, 1, 10),
+        poll(alloc, 2, 9),
+        read(alloc, 1, 9, EvFlags::DELETE)?,
+    ];
+    let events = Vec::from_array(alloc, events).map_err(|_| Memory)?;
     Ok(Trace {
         version: 1,
         events: Series::from_vec(events),
@@ -116,8 +104,10 @@ fn called(place: u64, kqueue: u64) -> Item {
 fn private_lists_hold_what_concerns_each(rt: HostRuntime) -> Result<(), Fail> {
     let trace = dup_over(rt.alloc())?;
     let split = Split::of(rt.alloc(), &trace)?;
-    assert_eq!(rt; split.kqueues(), [2, 3, 8].as_slice());
     assert!(rt; split.plain_rows().is_empty());
+    let kqueues = split.kqueues();
+    assert_eq!(rt; kqueues, [2, 3, 8].as_slice());
+    assert_eq!(rt; kqueues.len(), 3);
     let closed = Item {
         place: 13,
         what: What::Closed { pid: 1, number: 3 },
@@ -130,14 +120,16 @@ fn private_lists_hold_what_concerns_each(rt: HostRuntime) -> Result<(), Fail> {
         called(14, 2),
         called(17, 2),
     ];
-    assert_eq!(rt; split.private(2)?.items(), first.as_slice());
+    let private = split.private(kqueues[0])?;
+    assert_eq!(rt; private.items(), first.as_slice());
+    assert_eq!(rt; private.owner(), 1);
     let child = [
         told(5, Hint::Writable),
         called(11, 8),
         told(12, Hint::Readable),
         called(16, 8),
     ];
-    let private = split.private(8)?;
+    let private = split.private(kqueues[2])?;
     assert_eq!(rt; private.items(), child.as_slice());
     assert_eq!(rt; private.owner(), 2);
     Ok(())
