@@ -229,6 +229,21 @@ def crowd(live):
         turn += 1
 
 
+def loops(count):
+    """So many processes, each with a kqueue on a socket of its own and a timer of a second and more. In each turn the
+    clock goes on by a millisecond, and one of them receives, polls and reads."""
+    kqueue, own = 3, 4
+    for pid in range(1, count + 1):
+        yield from (record("proc", pid), record("kqueue", pid, kqueue), record("socket", pid, own, 65536, 65536))
+        yield from (record("connect", pid, own), on(pid, kqueue, 0, ("ADD", own)))
+        timer = change(0, ["ADD"], 0, "TIMER", 1000 + pid)
+        yield f'{{"op":"kevent","pid":{pid},"fd":{kqueue},"changes":[{timer}],"room":0}}\n'
+    for turn in itertools.count():
+        pid = turn % count + 1
+        yield from (record("clock", (turn + 1) * MILLISECOND), record("rx", pid, own, 10))
+        yield from (on(pid, kqueue, POLL_ROOM), record("read", pid, own, 10))
+
+
 def spelled(number, name):
     """The value of a member of record `number`, as JSON."""
     turn = number // len(MEMBERS)
