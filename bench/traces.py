@@ -230,8 +230,8 @@ def crowd(live):
 
 
 def loops(count):
-    """So many processes, each with a kqueue on a socket of its own and a timer of a second and more. In each turn the
-    clock goes on by a millisecond, and one of them receives, polls and reads."""
+    """So many processes, each with a kqueue on a socket of its own and a timer of a second and more. One after the other
+    receives, polls and reads, and after each four of them the clock goes on by a millisecond."""
     kqueue, own = 3, 4
     for pid in range(1, count + 1):
         yield from (record("proc", pid), record("kqueue", pid, kqueue), record("socket", pid, own, 65536, 65536))
@@ -240,8 +240,9 @@ def loops(count):
         yield f'{{"op":"kevent","pid":{pid},"fd":{kqueue},"changes":[{timer}],"room":0}}\n'
     for turn in itertools.count():
         pid = turn % count + 1
-        yield from (record("clock", (turn + 1) * MILLISECOND), record("rx", pid, own, 10))
-        yield from (on(pid, kqueue, POLL_ROOM), record("read", pid, own, 10))
+        yield from (record("rx", pid, own, 10), on(pid, kqueue, POLL_ROOM), record("read", pid, own, 10))
+        if turn % 4 == 3:
+            yield record("clock", (turn // 4 + 1) * MILLISECOND)
 
 
 def spelled(number, name):
