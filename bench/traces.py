@@ -242,6 +242,15 @@ def herd(count):
         yield from (record("accept", pid, shared, own, 65536, 65536), record("close", pid, own))
 
 
+def churn():
+    """One process after the other makes a kqueue with a timer, waits a millisecond, polls and exits."""
+    kqueue, timer = 3, change(1, ["ADD"], 0, "TIMER", 1)
+    for pid in itertools.count(1):
+        yield from (record("proc", pid), record("kqueue", pid, kqueue))
+        yield f'{{"op":"kevent","pid":{pid},"fd":{kqueue},"changes":[{timer}],"room":0}}\n'
+        yield from (record("clock", pid * MILLISECOND), on(pid, kqueue, POLL_ROOM), record("exit", pid, 0))
+
+
 def loops(count):
     """So many processes, each with a kqueue on a socket of its own and a timer of a second and more. One after the other
     receives, polls and reads, and after each four of them the clock goes on by a millisecond."""

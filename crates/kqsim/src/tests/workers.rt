@@ -130,6 +130,7 @@ fn a_kqueue_that_is_held_leaves_the_others_to_the_rest(rt: HostRuntime) -> Resul
 }
 
 // Refuses the start of this worker alone.
+#[derive(Clone, Copy)]
 struct Without(u32);
 
 impl Starts for Without {
