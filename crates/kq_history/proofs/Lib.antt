@@ -20,6 +20,7 @@ mod TracedWorlds
 mod TrackedRecords
 mod TrackedNext
 pub mod Sayings
+mod FewKqueues
 mod FirstTracked
 mod PlainRows
 mod NamedKqueues

@@ -21,9 +21,9 @@ use Rattle.kq_model.specs.Views.{Views}
 use Rattle.kq_model.specs.World.{Call}
 use Rattle.kq_model.proofs.PrivateParts as parts
 use Rattle.kq_history.specs.declared.item.Item.{Item}
-use Rattle.kq_history.specs.Items.{bare_items}
+use Rattle.kq_history.specs.Items.{bare, bare_items, bare_what}
 use Rattle.kq_history.specs.Traced.{Traced, event_at, seen_at}
-use Rattle.kq_replay.specs.Alone.{Alone, after_item, after_items, answered, arrived, called, caller_of, gone_on, heard}
+use Rattle.kq_replay.specs.Alone.{LoneKqueue, after_item, after_items, answered, arrived, called, caller_of, gone_on, heard}
 use Rattle.kq_replay.specs.Recorded.{IsCallOf}
 use Rattle.kq_replay.proofs.Closes.{close-first}
 
@@ -36,20 +36,23 @@ close-none owner kq = parts.closed-none tallying no_names owner kq
 pub hear-none : (views : Views) (kq : Kqueue) → notified views [] kq ≡ kq
 hear-none views kq = parts.notified-none tallying no_names views kq
 
-pub after-append : (is js : List Item) (a : Alone) → after_items (is ++ js) a ≡ after_items js (after_items is a)
+pub after-append : (is js : List Item) (a : LoneKqueue) → after_items (is ++ js) a ≡ after_items js (after_items is a)
 unfolding after_items
 after-append [] js a = refl
 after-append (i ∷ is) js a = after-append is js (after_item i a)
 
 module _ (t : Traced) (owner : ℕ) where
-  abbrev pub state : ℕ → List Posted → Kqueue → List Row → Alone
+  abbrev pub state : ℕ → List Posted → Kqueue → List Row → LoneKqueue
   state place told kq rows = record { trace = t; owner = owner; place = place; told = told; kq = kq; rows = rows }
+
+  abbrev at : ℕ → model.What → model.Item
+  at place w = record { place = place; what = w }
 
   abbrev pub said : ℕ → List model.What → List Item
   said place ws = bare_items (items_at place ws)
 
   pub said-append : (place : ℕ) (xs ys : List model.What) → said place (xs ++ ys) ≡ said place xs ++ said place ys
-  said-append place xs ys = ap bare_items (map-append _ xs ys) ∙ map-append _ (items_at place xs) (items_at place ys)
+  said-append place xs ys = ap bare_items (map-append (at place) xs ys) ∙ map-append bare (items_at place xs) (items_at place ys)
 
   pub stays : (place : ℕ) (told : List Posted) (kq : Kqueue) (rows : List Row)
       → arrived place (state place told kq rows) ≡ state place told kq rows
@@ -68,7 +71,7 @@ module _ (t : Traced) (owner : ℕ) where
       ≡ after_items (said place (w ∷ ws)) (state place [] (notified (seen_at t low) told kq) rows)
   unfolding after_items after_item
   first-moves low place told kq rows w ws other =
-      ap (λ a. after_items (said place ws) (gone_on _ a))
+      ap (λ a. after_items (said place ws) (gone_on (bare_what w) a))
       (moves low place told kq rows other ∙ sym (stays place [] (notified (seen_at t low) told kq) rows))
 
   -- ---- kind by kind
@@ -78,7 +81,7 @@ module _ (t : Traced) (owner : ℕ) where
   unfolding after_items after_item gone_on
   close-all place [] told kq rows = ap (λ k. state place told k rows) (sym (close-none owner kq))
   close-all place (p ∷ ps) told kq rows =
-      ap (λ a. after_items (said place (map model.Closed ps)) (gone_on _ a)) (stays place told kq rows)
+      ap (λ a. after_items (said place (map model.Closed ps)) (gone_on (bare_what (model.Closed p)) a)) (stays place told kq rows)
       ∙ close-all place ps told (closed owner (p ∷ []) kq) rows
       ∙ ap (λ k. state place told k rows) (sym (close-first owner p ps kq))
 
@@ -87,12 +90,12 @@ module _ (t : Traced) (owner : ℕ) where
   unfolding after_items after_item gone_on
   tell-all place [] told kq rows = ap (λ l. state place l kq rows) (sym (append-nil told))
   tell-all place (p ∷ hints) told kq rows =
-      ap (λ a. after_items (said place (map model.Told hints)) (gone_on _ a)) (stays place told kq rows)
+      ap (λ a. after_items (said place (map model.Told hints)) (gone_on (bare_what (model.Told p)) a)) (stays place told kq rows)
       ∙ tell-all place hints (told ++ p ∷ []) kq rows
       ∙ ap (λ l. state place l kq rows) (append_assoc told (p ∷ []) hints)
 
   -- a kqueue that is this one once the hints were heard
-  abbrev pub Reaches : ℕ → Alone → Kqueue → List Row → Type 0
+  abbrev pub Reaches : ℕ → LoneKqueue → Kqueue → List Row → Type 0
   Reaches place a kq rows =
       (told : List Posted) × (before : Kqueue) × (a ≡ state place told before rows) × (notified (seen_at t place) told before ≡ kq)
 
@@ -104,7 +107,7 @@ module _ (t : Traced) (owner : ℕ) where
   clock-one place (Some span) told kq rows = (
       [],
       clocked (Some span) (notified (seen_at t place) told kq),
-      ap (gone_on _) (stays place told kq rows),
+      ap (gone_on (bare_what (model.Clocked span))) (stays place told kq rows),
       hear-none (seen_at t place) (clocked (Some span) (notified (seen_at t place) told kq)),
   )
 
@@ -123,5 +126,5 @@ module _ (t : Traced) (owner : ℕ) where
       ≡ (let r = answer_of place c (notified (seen_at t place) told kq) in state place [] r.kq (rows ++ row_of place r.reply))
   unfolding call_whats after_items after_item gone_on
   call-one place c told kq rows is =
-      ap (gone_on _) (stays place told kq rows)
+      ap (gone_on (bare_what (model.Called c))) (stays place told kq rows)
       ∙ called-there place c (notified (seen_at t place) told kq) rows (event_at t place) is

@@ -1,5 +1,6 @@
 -- Closes made one by one are the same closes made together.
 use Rattle.std.proofs.Common.{◌≡◌, ◌==◌, ◌&&◌, ◌||◌, ℕ, Bool, true, false, cond, not, List, [], ◌∷◌, filter, refl, ap, ap₂}
+use Rattle.std.proofs.lemmas.Bool.{ne_eqb}
 use Rattle.kq_model.specs.declared.key.Key.{Key}
 use Rattle.kq_model.specs.Close.{Pair, closed, has_pair, is_closed}
 use Rattle.kq_model.specs.Knote.{watches_number}
@@ -35,3 +36,22 @@ close-first owner p ps kq =
     (kept-twice keeps (λ key. not (is_closed owner ps key)) (λ key. not (is_closed owner (p ∷ []) key)) kq.queue
     (λ key. one-or-more (watches_number key.filter) ((p.pid == owner) && (p.number == key.ident))
     (has_pair owner key.ident ps)))
+
+not-here : (watches other number : Bool) → other ≡ false → not (watches && ((other && number) || false)) ≡ true
+not-here true other number is = rw is refl
+not-here false other number is = refl
+
+all-kept : {X : Type 0} (p : X → Bool) (xs : List X) → ((x : X) → p x ≡ true) → filter p xs ≡ xs
+all-kept p [] passes = refl
+all-kept p (x ∷ xs) passes = rw (passes x) (ap (λ l. x ∷ l) (all-kept p xs passes))
+
+-- a number of another process
+pub close-other : (owner : ℕ) (p : Pair) (kq : Kqueue) → (p.pid ≡ owner → ⊥) → closed owner (p ∷ []) kq ≡ kq
+unfolding closed
+close-other owner p kq other =
+    let theirs : (p.pid == owner) ≡ false = ne_eqb p.pid owner other in
+    ap₂ (λ (ks : List Knote) (queue : List Key). let k : Kqueue = record { knotes = ks; queue = queue } in k)
+    (all-kept (λ (k : Knote). not (is_closed owner (p ∷ []) k.key)) kq.knotes
+    (λ k. not-here (watches_number k.key.filter) (p.pid == owner) (p.number == k.key.ident) theirs))
+    (all-kept (λ key. not (is_closed owner (p ∷ []) key)) kq.queue
+    (λ key. not-here (watches_number key.filter) (p.pid == owner) (p.number == key.ident) theirs))

@@ -12,7 +12,7 @@ use Rattle.kq_model.specs.Replayed.{rows_alone, rows_over, own_reply}
 use Rattle.kq_model.specs.System.{row_of}
 use Rattle.kq_model.specs.Tallied.{Kqueue}
 use Rattle.kq_model.specs.Targets.{Posted}
-use Rattle.kq_history.specs.Items.{bare_items}
+use Rattle.kq_history.specs.Items.{bare, bare_items}
 use Rattle.kq_history.specs.Traced.{Traced, seen_at}
 use Rattle.kq_replay.specs.Alone.{after_items}
 use Rattle.kq_replay.proofs.AtOnePlace.{after-append, state}
@@ -40,7 +40,7 @@ module _ (t : Traced) (kqueue owner : ℕ) where
       let rest = bare_items (flat_map items_of cs) in
       let start = state t owner low told kq rows in
       let reached = one-concern t kqueue owner c own.1 low told kq rows (later low c.place own.0) in
-      ap (λ is. (after_items is start).rows) (map-append _ (items_of c) (flat_map items_of cs))
+      ap (λ is. (after_items is start).rows) (map-append bare (items_of c) (flat_map items_of cs))
       ∙ ap (λ a. a.rows) (after-append first rest start)
       ∙ ap (λ a. (after_items rest a).rows) reached.2
       ∙ item-by-item cs c.place reached.0 reached.1 (rows ++ row) own.2

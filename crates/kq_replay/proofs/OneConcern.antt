@@ -18,7 +18,7 @@ use Rattle.kq_model.specs.Targets.{Posted}
 use Rattle.kq_model.specs.World.{Call}
 use Rattle.kq_history.specs.Items.{bare_items}
 use Rattle.kq_history.specs.Traced.{Traced, event_at, seen_at}
-use Rattle.kq_replay.specs.Alone.{Alone, after_items}
+use Rattle.kq_replay.specs.Alone.{LoneKqueue, after_items}
 use Rattle.kq_replay.specs.Recorded.{IsCallOf, IsClockOf}
 use Rattle.kq_replay.proofs.AtOnePlace.{Reaches, after-append, answer_of, call-one, clock-one, close-all, first-moves, hear-none, said, said-append, state, tell-all}
 
@@ -41,14 +41,14 @@ module _ (t : Traced) (kqueue owner : ℕ) where
   abbrev pub moment_at : Concern → Moment
   moment_at c = moment_with t.version (seen_at t c.place) c
 
-  after-parts : (place : ℕ) (xs ys : List model.What) (a : Alone)
+  after-parts : (place : ℕ) (xs ys : List model.What) (a : LoneKqueue)
       → after_items (said t owner place (xs ++ ys)) a ≡ after_items (said t owner place ys) (after_items (said t owner place xs) a)
   after-parts place xs ys a =
       ap (λ is. after_items is a) (said-append t owner place xs ys)
       ∙ after-append (said t owner place xs) (said t owner place ys) a
 
   -- the call, once all else is heard
-  then-call : (c : Concern) (call : Option Call) (kq : Kqueue) (a : Alone) (rows : List Row)
+  then-call : (c : Concern) (call : Option Call) (kq : Kqueue) (a : LoneKqueue) (rows : List Row)
       → ((x : Call) → call ≡ Some x → (eqb x.kqueue kqueue ≡ true) × IsCallOf (event_at t c.place) x.changes x.room)
       → Reaches t owner c.place a (happened owner (moment_at c) kq) rows
       → Reaches t owner c.place (after_items (said t owner c.place (call_whats call)) a) (after_call kqueue owner (moment_at c) call kq)

@@ -1,5 +1,5 @@
 -- The private list of a kqueue stands by rising place, and its records have the rest of its items.
-use Rattle.std.proofs.Common.{◌≡◌, ◌<◌, ℕ, ℤ, pos, negsuc, ◌+◌, Bool, true, false, cond, eqb, List, [], ◌∷◌, ◌++◌, map, filter, slice_get, Option, Some, None, refl, sym, ap, subst, ◌∙◌, arith}
+use Rattle.std.proofs.Common.{◌≡◌, ◌<◌, ℕ, suc, ℤ, pos, negsuc, ◌+◌, Bool, true, false, cond, eqb, List, [], ◌∷◌, ◌++◌, map, filter, slice_get, Option, Some, None, refl, sym, ap, subst, ◌∙◌, arith}
 use Rattle.std.proofs.lemmas.List.Elements.{All-head, All-tail}
 use Rattle.std.specs.List.{All}
 use Rattle.kq_model.specs.declared.change.Change.{Change}
@@ -60,18 +60,20 @@ clock-record (event.Clock ns) now s is = span-on ns now s is
 clock-record _ now s is = absurd (cc)
 
 module _ (t : Traced) where
-  event-there : (m : Moment) (is : IsOf 1 t.events m) → event_at t m.place ≡ Some is.event
+  event-there : (m : Moment) (is : IsOf 1 t.events m) → event_at t m.place ≡ Some is.said
   unfolding event_at
-  event-there m is = ap (event_at t) is.at ∙ is.there
+  event-there m is =
+      let at : m.place ≡ suc is.before = is.at ∙ omega arith in
+      ap (event_at t) at ∙ is.there
 
   calls : (m : Moment) → IsOf 1 t.events m → (c : Call) → m.call ≡ Some c → IsCallOf (event_at t m.place) c.changes c.room
   calls m is c call =
-      let found = call-record is.event is.world c (sym is.call ∙ call) in
+      let found = call-record is.said is.world c (sym is.call ∙ call) in
       (found.0, found.1, event-there m is ∙ found.2)
 
   clocks : (m : Moment) → IsOf 1 t.events m → (s : Span) → m.clock ≡ Some s → IsClockOf (event_at t m.place) s.from s.to
   clocks m is s clock =
-      let found = clock-record is.event is.world.now s (sym is.clock ∙ clock) in
+      let found = clock-record is.said is.world.now s (sym is.clock ∙ clock) in
       (event-there m is ∙ ap Some found.0, omega (arith, is.onward s.to found.0, found.1))
 
   -- ---- of it what is one kqueue's

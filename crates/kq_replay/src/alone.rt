@@ -1,9 +1,10 @@
 // One kqueue that goes on alone.
-ghost use Rattle.std.specs.Prelude.{◌≡◌, ◌×◌, ◌++◌, ℕ, pos, Some, All, List, OnOk};
+ghost use Rattle.std.specs.Prelude.{◌≡◌, ◌≤◌, ◌++◌, ℕ, pos, Some, All, List, OnOk};
 ghost use Rattle.kq_model.specs.declared.change.Change.{Change};
 ghost use Rattle.kq_model.specs.declared.event.Event.TheVariants as event_of;
 ghost use Rattle.kq_model.specs.System.{row_of};
-ghost use Rattle.kq_history.specs.declared.item.What.TheVariants as what;
+ghost use Rattle.kq_model.specs.Ticks.{last_moment};
+ghost use Rattle.kq_history.specs.declared.item.What.TheVariants as what_of;
 ghost use Rattle.kq_history.specs.Traced.{event_at};
 ghost use Rattle.kq_replay.specs.Alone.{after_item, after_items, arrived, called, gone_on, heard, unborn};
 ghost use Rattle.kq_replay.specs.Recorded.{IsCallOf, IsClockOf, IsRecorded};
@@ -12,6 +13,9 @@ use kq_history::{Item, Split, What};
 use kq_kevent::Kq;
 use kq_model::{Event, Hint, Memory, Reply, Row, Series, Target};
 use std::marker::Model;
+
+/// The last moment of the clock, in ns.
+const LAST_MOMENT: u64 = i64::MAX as u64;
 
 /// A kqueue that goes on alone, from one item of its private list to the next.
 #[derive(Drop)]
@@ -27,9 +31,9 @@ pub struct Alone<'s, 'a> {
 
 impl<'s, 'a> Model for Alone<'s, 'a> {
     ghost use Rattle.std.specs.Prelude.{◌≡◌};
-    ghost use Rattle.kq_replay.specs.Alone as alone;
+    ghost use Rattle.kq_replay.specs.Alone.{LoneKqueue};
 
-    ghost Value = { alone.Alone };
+    ghost Value = { LoneKqueue };
 
     ghost view = { λ a. record {
       trace = a.split.now;
@@ -80,6 +84,7 @@ impl<'s, 'a> Alone<'s, 'a> {
     }
 
     /// The kqueue after one item more.
+    #[tactic(auto, unfolding(crate::specs::Alone::after_item, crate::specs::Alone::gone_on))]
     fn go_on(&mut self, item: Item) -> Result<(), Memory>
         requires { IsRecorded self.old.trace item }
         ensures { OnOk result (self.new ≡ after_item item self.old) }
@@ -91,8 +96,8 @@ impl<'s, 'a> Alone<'s, 'a> {
                 Ok(())
             }
             What::Told { target, hint } => self.tell(target, hint),
-            What::Clocked { from, .. } => {
-                self.clock(from);
+            What::Clocked { from, to } => {
+                self.clock(from, to);
                 Ok(())
             }
             What::Called { .. } => self.call(),
@@ -100,6 +105,7 @@ impl<'s, 'a> Alone<'s, 'a> {
     }
 
     /// An item of this place comes next.
+    #[tactic(auto, unfolding(crate::specs::Alone::arrived))]
     fn arrive(&mut self, place: u64)
         ensures { self.new ≡ arrived place self.old }
     {
@@ -122,8 +128,9 @@ impl<'s, 'a> Alone<'s, 'a> {
     }
 
     /// A number of a process was closed.
+    #[tactic(auto, unfolding(crate::specs::Alone::gone_on))]
     fn close(&mut self, pid: u32, number: u32)
-        ensures { self.new ≡ gone_on (what.Closed pid number) self.old }
+        ensures { self.new ≡ gone_on (what_of.Closed pid number) self.old }
     {
         if pid == self.kq.owner() {
             self.kq.closed(number);
@@ -131,33 +138,56 @@ impl<'s, 'a> Alone<'s, 'a> {
     }
 
     /// There is a hint for a target.
+    #[tactic(auto, unfolding(crate::specs::Alone::gone_on))]
     fn tell(&mut self, target: Target, hint: Hint) -> Result<(), Memory>
-        ensures { OnOk result (self.new ≡ gone_on (what.Told target hint) self.old) }
+        ensures { OnOk result (self.new ≡ gone_on (what_of.Told target hint) self.old) }
     {
         self.told.push((target, hint)).map_err(|_| Memory)
     }
 
-    /// The clock goes on from this moment to the one that the record says, in ns.
-    fn clock(&mut self, from: u64)
-        requires { (to : ℕ) × IsClockOf (event_at self.old.trace self.old.place) from to }
-        ensures { (to : ℕ) → event_at self.old.trace self.old.place ≡ Some (event_of.Clock (pos to))
-            → self.new ≡ gone_on (what.Clocked from to) self.old }
+    /// The clock goes on from a moment to another, in ns.
+    #[tactic(auto, unfolding(crate::specs::Alone::gone_on))]
+    fn clock(&mut self, from: u64, to: u64)
+        requires { IsClockOf (event_at self.old.trace self.old.place) from to }
+        ensures { self.new ≡ gone_on (what_of.Clocked from to) self.old }
     {
         self.hear();
-        let Some(Event::Clock { ns }) = self.split.event(self.place) else {
+        // The type of a record keeps its moment in range, and that of an item does not.
+        let moment = if to <= LAST_MOMENT {
+            to
+        } else {
+            self.moment()
+        };
+        self.kq.clock(from, moment);
+    }
+
+    /// The moment to which the record of this place has the clock go on.
+    fn moment(&self) -> u64
+        requires { (from : ℕ) × (to : ℕ) × IsClockOf (event_at self.now.trace self.now.place) from to }
+        ensures moment { event_at self.now.trace self.now.place ≡ Some (event_of.Clock (pos result)) }
+        ensures within { result ≤ last_moment }
+    {
+        let Some(event) = self.split.event(self.place) else {
             unreachable!();
         };
-        self.kq.clock(from, *ns as u64);
+        let Event::Clock { ns } = event else {
+            unreachable!();
+        };
+        *ns as u64
     }
 
     /// The call that the record is, and its row.
+    #[tactic(auto, unfolding(crate::specs::Alone::called))]
     fn call(&mut self) -> Result<(), Memory>
         requires { (changes : List Change) × (room : ℕ)
             × IsCallOf (event_at self.old.trace self.old.place) changes room }
         ensures { OnOk result (self.new ≡ called (event_at self.old.trace self.old.place) (heard self.old)) }
     {
         self.hear();
-        let Some(Event::Kevent { changes, room, .. }) = self.split.event(self.place) else {
+        let Some(event) = self.split.event(self.place) else {
+            unreachable!();
+        };
+        let Event::Kevent { changes, room, .. } = event else {
             unreachable!();
         };
         let views = self.split.at(self.place);

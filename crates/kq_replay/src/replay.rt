@@ -1,4 +1,5 @@
 ghost use Rattle.std.specs.Prelude.{IfOk};
+ghost use Rattle.kq_model.specs.declared.rows.Rows as declared_rows;
 
 use crate::alone::Alone;
 use kq_history::Private;
@@ -6,10 +7,8 @@ use kq_model::{Memory, Rows};
 
 /// What can be replayed to the rows of one kqueue.
 pub trait Replay {
-    ghost use Rattle.kq_model.specs.declared.rows.Rows as rows;
-
     // What it may give.
-    ghost gives: { Self → rows.Rows → Type 0 };
+    ghost gives: { Self → declared_rows.Rows → Type 0 };
 
     /// The kqueue's rows, by rising place.
     fn replay(&self) -> Result<Rows, Memory>
