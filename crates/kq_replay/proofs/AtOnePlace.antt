@@ -27,7 +27,7 @@ use Rattle.kq_replay.specs.Alone.{LoneKqueue, after_item, after_items, answered,
 use Rattle.kq_replay.specs.Recorded.{IsCallOf}
 use Rattle.kq_replay.proofs.Closes.{close-first}
 
-no_names : Names
+pub no_names : Names
 no_names = record { number = λ n. false; target = λ t. false; timer = false }
 
 pub close-none : (owner : ℕ) (kq : Kqueue) → closed owner [] kq ≡ kq
