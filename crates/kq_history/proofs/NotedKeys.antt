@@ -1,12 +1,15 @@
 -- One key more among those that are gone through, and when two keys are the same.
-use Rattle.std.proofs.Common.{◌≡◌, ◌∙◌, ◌<◌, ◌+◌, ◌||◌, ◌&&◌, ◌==◌, ℕ, Bool, true, false, eqb, length, get_or, take, List, [], ◌∷◌, ◌++◌, refl, sym, ap, ap₂, rules}
+use Rattle.std.proofs.Common.{◌≡◌, ◌∙◌, ◌<◌, ◌+◌, ◌||◌, ◌&&◌, ◌==◌, ℕ, Bool, true, false, eqb, length, get_or, take, drop, zero, suc, List, [], ◌∷◌, ◌++◌, refl, sym, ap, ap₂, subst, rules}
 use Rattle.std.specs.List.{list_any}
 use Rattle.std.proofs.lemmas.Bool.{and_parts, eqb-true}
 use Rattle.std.proofs.lemmas.List.{take_more}
 use Rattle.std.proofs.lemmas.List.Folds.{list_any-append}
 use Rattle.kq_model.specs.declared.object.Target.{Target}
 use Rattle.kq_model.specs.Targets.{target_eq}
+use Rattle.kq_model.proofs.KnoteLaws.{by_test}
+use Rattle.kq_model.proofs.SameTarget.{same_target}
 use Rattle.kq_history.specs.Seen.{pair_eq, target_key}
+use Rattle.kq_history.specs.Touched.{has_target}
 
 or_nothing : (b : Bool) → (b || false) ≡ b
 or_nothing true = refl
@@ -27,3 +30,20 @@ same-number read p pid number here is same =
 pub as_target : (a b : Target) → target_key a b ≡ target_eq a b
 unfolding target_eq
 as_target a b = search rules
+
+-- ---- a key that stands among those in front
+
+or_all : (b : Bool) → (b || true) ≡ true
+or_all true = refl
+or_all false = refl
+
+pub any-behind : {X : Type 0} (test : X → Bool) (k : ℕ) (xs : List X) → list_any test (drop k xs) ≡ true → list_any test xs ≡ true
+any-behind test zero xs is = is
+any-behind test (suc k) [] is = is
+any-behind test (suc k) (x ∷ xs) is = ap (λ b. test x || b) (any-behind test k xs is) ∙ or_all (test x)
+
+pub target-again : (x t : Target) (ts : List Target) → has_target x ts ≡ true → (has_target t ts || target_eq x t) ≡ has_target t ts
+target-again x t ts has =
+    by_test (λ b. (has_target t ts || b) ≡ has_target t ts) (target_eq x t)
+    (λ same. or_all (has_target t ts) ∙ sym (subst (λ (y : Target). has_target y ts ≡ true) (same_target x t same) has))
+    (λ isnt. or_nothing (has_target t ts))

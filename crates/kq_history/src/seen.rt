@@ -1,4 +1,4 @@
-ghost use Rattle.std.specs.Prelude.{◌≡◌, ℕ, ◌&&◌, nat_le, None, OnOk, if◌then◌else◌};
+ghost use Rattle.std.specs.Prelude.{◌≡◌, ◌≤◌, ℕ, ◌&&◌, length, nat_le, take, true, None, OnOk, if◌then◌else◌};
 ghost use Rattle.kq_model.specs.Targets.{target_eq};
 ghost use Rattle.kq_model.specs.Views as model;
 ghost use Rattle.kq_history.specs.Noted.{AreAllUpTo, IsNextWorld};
@@ -117,10 +117,23 @@ fn note_targets<V: Views>(
         then (V.sees views.now).view t
         else value_at at None (marks_at target_key timelines.old.table t))) }
 {
-    for target in targets {
-        note_target(timelines, place, *target, views.view(*target))?;
+    for (index, target) in targets.iter().enumerate() {
+        if !stands_before(targets, index, *target) {
+            note_target(timelines, place, *target, views.view(*target))?;
+        }
     }
     Ok(())
+}
+
+/// Whether the target is one of the last two in front of this index, as where a number names the
+/// same before and after a record that tells it, too.
+fn stands_before(targets: &[Target], index: usize, target: Target) -> bool
+    requires { index ≤ length targets.now }
+    ensures { result ≡ true → has_target target (take index targets.now) ≡ true }
+{
+    let before = &targets[..index];
+    let near = &before[before.len().saturating_sub(2)..];
+    near.contains(&target)
 }
 
 /// What a number names from this place on. There is no mark where it named the same before.

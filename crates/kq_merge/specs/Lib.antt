@@ -1,4 +1,3 @@
 pub mod ByPlace
-pub mod Joined
 pub mod EventsText
 pub mod Written

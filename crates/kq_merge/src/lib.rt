@@ -3,7 +3,6 @@
 
 mod merging;
 mod report;
-mod run;
 
 pub use merging::merge;
 pub use report::{ReportText, report_text};

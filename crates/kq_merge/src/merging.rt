@@ -1,33 +1,39 @@
 ghost use Rattle.std.specs.Prelude.{◌≡◌, ◌++◌, IfOk};
-ghost use Rattle.std.specs.List.{All, flat_map};
+ghost use Rattle.std.specs.List.{flat_map};
 ghost use Rattle.std.specs.List.Sorted.{IsPermutation};
 ghost use Rattle.kq_merge.specs.ByPlace.{IsOnlyOrder, NeverFall, rows_in};
 
-use crate::run::{Run, join};
 use kq_model::{Memory, Row, Rows};
 use std::alloc::Global;
-use std::collections::VecDeque;
 
-/// All rows of these kqueues and the plain rows, each once, by place. The rows of each kqueue, and
-/// the plain ones, stand by place already. Rows of kqueues move; the plain ones are copied.
+/// All rows of these kqueues and the plain rows, each once, by place. Rows of kqueues move; the plain
+/// ones are copied.
 ///
-/// Where no place stands twice, their order is the only one by rising place. Each row is moved about
-/// as often as the logarithm of the number of kqueues, to the base 2.
+/// Where no place stands twice, their order is the only one by rising place. Where the rows of each
+/// kqueue, and the plain ones, stand by place already, each row is moved about as often as the
+/// logarithm of the number of kqueues, to the base 2.
 pub fn merge(alloc: Global, kqueues: Vec<Rows>, plain: &[Row]) -> Result<Vec<Row>, Memory>
-    requires kqueues { All (λ kqueue. NeverFall kqueue.rows) kqueues.items }
-    requires plain { NeverFall plain.now }
     ensures same { IfOk result (λ rows. IsPermutation (rows_in kqueues.items plain.now) rows.items) }
     ensures by_place { IfOk result (λ rows. NeverFall rows.items) }
     ensures only { IfOk result (λ rows. IsOnlyOrder (rows_in kqueues.items plain.now) rows.items) }
 {
-    let mut runs = VecDeque::new(alloc);
+    let mut rows = gathered(alloc, kqueues)?;
+    rows.append(&mut copied(alloc, plain)?).map_err(|_| Memory)?;
+    // A stable sort keeps the rows of each kqueue as they stand, and joins such runs.
+    rows.sort_by_key(|row| row.at).map_err(|_| Memory)?;
+    Ok(rows)
+}
+
+/// The rows of all kqueues, one kqueue behind the other.
+fn gathered(alloc: Global, kqueues: Vec<Rows>) -> Result<Vec<Row>, Memory>
+    ensures { IfOk result (λ rows. rows.items ≡ flat_map (λ kqueue. kqueue.rows) kqueues.items) }
+{
+    let mut rows = Vec::new(alloc);
     for kqueue in kqueues {
-        let run = Run::from_vec(kqueue.rows.into_vec());
-        runs.push_back(run).map_err(|_| Memory)?;
+        rows.append(&mut kqueue.rows.into_vec())
+            .map_err(|_| Memory)?;
     }
-    let run = Run::from_vec(copied(alloc, plain)?);
-    runs.push_back(run).map_err(|_| Memory)?;
-    join_all(alloc, runs)
+    Ok(rows)
 }
 
 fn copied(alloc: Global, rows: &[Row]) -> Result<Vec<Row>, Memory>
@@ -38,20 +44,4 @@ fn copied(alloc: Global, rows: &[Row]) -> Result<Vec<Row>, Memory>
         copies.push(row.copy()?).map_err(|_| Memory)?;
     }
     Ok(copies)
-}
-
-/// Joins the two runs at the front and puts the new one at the back, until one is left. So every
-/// run takes part once before any takes part again.
-fn join_all(alloc: Global, mut runs: VecDeque<Run>) -> Result<Vec<Row>, Memory>
-    ensures same { IfOk result (λ rows. IsPermutation (flat_map (λ run. run) runs.items) rows.items) }
-    ensures by_place { IfOk result (λ rows. NeverFall rows.items) }
-{
-    while let Some(first) = runs.pop_front() {
-        let Some(second) = runs.pop_front() else {
-            return Ok(first.into_vec());
-        };
-        runs.push_back(join(alloc, first, second)?)
-            .map_err(|_| Memory)?;
-    }
-    Ok(Vec::new(alloc))
 }
