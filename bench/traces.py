@@ -229,6 +229,19 @@ def crowd(live):
         turn += 1
 
 
+def herd(count):
+    """So many processes, all forked from one, each with a kqueue that watches the listening socket which they share. Each
+    connection that arrives is told to all of them; one polls, accepts it and closes it."""
+    kqueue, shared, own = 3, 4, 5
+    yield from (record("proc", 1), record("socket", 1, shared, 65536, 65536), record("listen", 1, shared, 128))
+    pids = range(2, count + 2)
+    for pid in pids:
+        yield from (record("fork", 1, pid), record("kqueue", pid, kqueue), on(pid, kqueue, 0, ("ADD", shared)))
+    for pid in itertools.cycle(pids):
+        yield from (record("arrive", 1, shared), on(pid, kqueue, POLL_ROOM))
+        yield from (record("accept", pid, shared, own, 65536, 65536), record("close", pid, own))
+
+
 def loops(count):
     """So many processes, each with a kqueue on a socket of its own and a timer of a second and more. One after the other
     receives, polls and reads, and after each four of them the clock goes on by a millisecond."""

@@ -1,5 +1,5 @@
 -- The report of a trace whose kqueues were replayed alone, and its faults.
-use Rattle.std.proofs.Common.{◌≡◌, ◌∙◌, ℕ, ◌≤◌, ◌<◌, ◌⊎◌, List, map, length, Result, Ok, Err, IfErr, sym, ap, subst, arith}
+use Rattle.std.proofs.Common.{◌≡◌, ◌∙◌, ℕ, ◌≤◌, ◌<◌, ◌⊎◌, List, map, length, Result, Ok, Err, IfErr, sym, ap, subst, arith, ⊎_elim}
 use Rattle.std.proofs.lemmas.List.{length-map}
 use Rattle.std.proofs.lemmas.List.Elements.{All-weaker}
 use Rattle.std.proofs.lemmas.Result.{IfErr-weaker}
@@ -17,11 +17,13 @@ use Rattle.kq_model.specs.System.{rows}
 use Rattle.kq_model.proofs.Projection.{merged, rising}
 use Rattle.kq_model.proofs.RecastSystem.{rows-tallied}
 use Rattle.kq_history.specs.Traced.{Traced, births_of, places_of, plain_rows_of}
+use Rattle.kq_jobs.specs.declared.fault.RunFault.TheVariants as RunFault
 use Rattle.kq_jobs.specs.Outcomes.{IsRunFault}
 use Rattle.kq_merge.specs.ByPlace.{IsOnlyOrder, NeverFall, rows_in}
 use Rattle.kq_merge.proofs.Places.{never_fall}
 use Rattle.kq_replay.specs.Replayed.{AreReplayed}
 use Rattle.kqsim.specs.Replay.{HasKqueues, IsFault, IsReplayFault}
+use Rattle.kqsim.specs.Workers.{IsWorkerCount}
 use Rattle.kqsim.specs.declared.fault.Fault.{Fault}
 use Rattle.kqsim.specs.declared.fault.Fault.TheVariants.{Usage, Read, Trace, Memory, Spawn, Write}
 
@@ -49,6 +51,15 @@ report_again t kqueues merged records text are only counts is =
 
 pub has_kqueues : (t : Traced) → 2 ≤ length (places_of t) → HasKqueues t.version t.events
 has_kqueues t more = subst (λ n. 2 ≤ n) (length-map (λ (b : Birth). b.place) (births_of t)) more
+
+-- a start that was refused, and a number of workers that is out of range
+pub spawned : (t : Traced) (workers : ℕ) → IsRunFault (length (places_of t)) workers RunFault.Spawn
+    → IsReplayFault t.version t.events workers Spawn
+spawned t workers is = (is.0, has_kqueues t is.2)
+
+pub in_range : (workers : ℕ) → IsWorkerCount workers → (workers ≡ 0) ⊎ (256 < workers) → ⊥
+in_range workers is out =
+    ⊎_elim (λ none. absurd (omega (arith, is.0, none))) (λ many. absurd (omega (arith, is.1, many))) out
 
 fault_of_replay : (bytes : List ℕ) (workers version : ℕ) (events : List Event) → reading bytes ≡ Good version events
     → (fault : Fault) → IsReplayFault version events workers fault → IsFault bytes workers fault
