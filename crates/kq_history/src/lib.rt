@@ -22,7 +22,7 @@ pub use at::HistoryAt;
 pub use item::{Item, Source, What};
 pub use kqueues::{Concerned, Kqueues};
 pub use log::Log;
-pub use private::Private;
+pub use private::{Active, Private};
 pub use seen::Seen;
 pub use shelves::{Shelf, Shelves};
 pub use sources::Sources;

@@ -77,4 +77,34 @@ impl Log {
         numbers.sort().map_err(|_| Memory)?;
         self.items_at(numbers.as_slice())
     }
+
+    /// Where the first item and the last one of a source stand; none where it has no item.
+    pub fn ends(&self, source: Source) -> Option<(usize, usize)> {
+        let standing = self.shelves.at(source);
+        match (standing.first(), standing.last()) {
+            (Some(first), Some(last)) => Some((*first, *last)),
+            _ => None,
+        }
+    }
+
+    /// The items that come from these sources, of those that stand from one number up to another, in
+    /// their order. It costs these items, and a look at each source.
+    pub fn pick_between(
+        &self,
+        sources: &[Source],
+        first: usize,
+        last: usize,
+    ) -> Result<Vec<Item>, Memory> {
+        let mut numbers = Vec::new(self.alloc);
+        for source in sources {
+            let standing = self.shelves.at(*source);
+            let from = standing.partition_point(|number| *number < first);
+            let (_, behind) = standing.split_at(from);
+            let count = behind.partition_point(|number| *number <= last);
+            let (within, _) = behind.split_at(count);
+            numbers.extend_from_slice(within).map_err(|_| Memory)?;
+        }
+        numbers.sort().map_err(|_| Memory)?;
+        self.items_at(numbers.as_slice())
+    }
 }

@@ -43,3 +43,36 @@ impl<'s, 'a> Private<'s, 'a> {
         self.split
     }
 }
+
+/// What of a kqueue's private list can show in its rows: the items from its first call to its last
+/// one. Before the first it has no knotes, so nothing else makes a difference to it, and behind the
+/// last one it makes no row.
+#[derive(Drop)]
+pub struct Active<'s, 'a> {
+    pub(crate) split: &'s Split<'a>,
+    pub(crate) kqueue: u64,
+    pub(crate) owner: u32,
+    pub(crate) items: Vec<Item>,
+}
+
+impl<'s, 'a> Active<'s, 'a> {
+    /// The place where the kqueue was made.
+    pub fn kqueue(&self) -> u64 {
+        self.kqueue
+    }
+
+    /// The process that owns it.
+    pub fn owner(&self) -> u32 {
+        self.owner
+    }
+
+    /// The items, by rising place, and at each place in the record's order.
+    pub fn items(&self) -> &[Item] {
+        self.items.as_slice()
+    }
+
+    /// The split that it is a part of.
+    pub fn split(&self) -> &'s Split<'a> {
+        self.split
+    }
+}

@@ -8,7 +8,8 @@ ghost use Rattle.kq_model.specs.World as model;
 ghost use Rattle.std.specs.List.Sorted.{IsStrictlyIncreasing};
 
 use crate::at::HistoryAt;
-use crate::private::Private;
+use crate::item::Source;
+use crate::private::{Active, Private};
 use crate::said::{Before, Said};
 use crate::seen::Seen;
 use crate::tracking::track;
@@ -84,6 +85,25 @@ impl<'a> Split<'a> {
         let concerned = self.said.kqueues.of(kqueue);
         let items = self.said.log.pick(concerned.sources.as_slice())?;
         Ok(Private {
+            split: self,
+            kqueue,
+            owner: concerned.owner,
+            items,
+        })
+    }
+
+    /// What of that can show in its rows. Its cost is that of what the trace says to it meanwhile.
+    pub fn active<'s>(&'s self, kqueue: u64) -> Result<Active<'s, 'a>, Memory>
+        requires { IsBorn kqueue self.now }
+    {
+        let concerned = self.said.kqueues.of(kqueue);
+        let sources = concerned.sources.as_slice();
+        let log = &self.said.log;
+        let items = match log.ends(Source::Kqueue(kqueue)) {
+            Some((first, last)) => log.pick_between(sources, first, last)?,
+            None => Vec::new(*self.plain.allocator()),
+        };
+        Ok(Active {
             split: self,
             kqueue,
             owner: concerned.owner,

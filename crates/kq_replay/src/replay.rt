@@ -1,7 +1,7 @@
 ghost use Rattle.std.specs.Prelude.{IfOk};
 
 use crate::alone::Alone;
-use kq_history::Private;
+use kq_history::{Active, Private};
 use kq_model::{Memory, Rows};
 
 /// What can be replayed to the rows of one kqueue.
@@ -23,6 +23,22 @@ impl<'s, 'a> Replay for Private<'s, 'a> {
 
     /// The rows that the kqueue gives alone: from its private list and the world at its places, and from nothing else.
     /// The cost is that of the list and of what the kqueue does.
+    fn replay(&self) -> Result<Rows, Memory> {
+        let mut alone = Alone::new(self.split(), self.owner());
+        alone.go_over(self.items())?;
+        Ok(Rows {
+            kqueue: self.kqueue(),
+            rows: alone.into_rows(),
+        })
+    }
+}
+
+impl<'s, 'a> Replay for Active<'s, 'a> {
+    ghost use Rattle.kq_replay.specs.Replayed.{IsReplayed};
+
+    ghost gives = { λ a rows. IsReplayed a.split.now a.kqueue rows };
+
+    /// The same rows, from what can show in them alone.
     fn replay(&self) -> Result<Rows, Memory> {
         let mut alone = Alone::new(self.split(), self.owner());
         alone.go_over(self.items())?;
