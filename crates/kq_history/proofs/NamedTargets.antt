@@ -1,14 +1,13 @@
 -- The targets that numbers name before a record and after it are among those that were added one number after the other.
-use Rattle.std.proofs.Common.{◌≡◌, ◌∙◌, ◌==◌, ◌&&◌, ◌||◌, ◌++◌, ◌∷◌, ◌-◌, ◌<◌, [], ℕ, zero, suc, Bool, true, false, length, get_or, take, List, Option, None, Some, refl, sym, ap, subst, arith}
+use Rattle.std.proofs.Common.{◌≡◌, ◌∙◌, ◌==◌, ◌&&◌, ◌||◌, ◌++◌, ◌∷◌, ◌-◌, ◌<◌, [], ℕ, zero, suc, Bool, true, false, length, get_or, take, List, Option, None, Some, refl, sym, ap, ap₂, subst, arith}
 use Rattle.std.specs.List.{flat_map, list_any, slice_get}
 use Rattle.std.proofs.lemmas.Bool.{and_parts, eqb-true, false≢true}
-use Rattle.std.proofs.lemmas.List.{append-nil, append_assoc}
+use Rattle.std.proofs.lemmas.List.{append-nil}
 use Rattle.std.proofs.lemmas.List.Folds.{list_any-append}
 use Rattle.std.proofs.lemmas.Grind.{flat_map-append}
 use Rattle.std.proofs.lemmas.Option.{get_or_from_slice_get, slice_get_within}
 use Rattle.kq_model.specs.declared.object.Named.{Named}
 use Rattle.kq_model.specs.declared.object.Target.{Target}
-use Rattle.kq_model.specs.declared.object.Target.TheVariants.{Own}
 use Rattle.kq_model.specs.Targets.{target_eq}
 use Rattle.kq_model.specs.Views.{Views}
 use Rattle.kq_model.proofs.KnoteLaws.{by_test}
@@ -51,7 +50,7 @@ there_it_is (x ∷ ts) (suc k) t within =
 
 -- that one came last
 pub last-there : (ts : List Target) (last x : Target) → slice_get ts (length ts - 1) ≡ Some last → last ≡ x → AreAmong (x ∷ ts) ts
-last-there ts last x got same t is =
+last-there ts last x got same = λ t is.
     or_cases (target_eq x t) (has_target t ts) is
     (λ here.
     let it : get_or ts (length ts - 1) x ≡ t = get_or_from_slice_get ts (length ts - 1) last x got ∙ same ∙ same_target x t here in
@@ -59,14 +58,14 @@ last-there ts last x got same t is =
     (λ there. there)
 
 pub pushed-there : (old new : List Target) (x : Target) → new ≡ old ++ x ∷ [] → AreAmong (x ∷ old) new
-pushed-there old new x pushed t is =
+pushed-there old new x pushed = λ t is.
     subst (λ ts. has_target t ts ≡ true) (sym pushed)
     (or_cases (target_eq x t) (has_target t old) is
     (λ here. in-second old (x ∷ []) t (or_left (target_eq x t) false here))
     (λ there. in-first old (x ∷ []) t there))
 
 pub among-then : (xs ys old mid new : List Target) → AreAmong (xs ++ old) mid → AreAmong (ys ++ mid) new → AreAmong (xs ++ ys ++ old) new
-among-then xs ys old mid new first second t is =
+among-then xs ys old mid new first second = λ t is.
     in-either (xs ++ ys) old t is
     (λ in_both. in-either xs ys t in_both
     (λ in_xs. second t (in-second ys mid t (first t (in-first xs old t in_xs))))
@@ -75,7 +74,7 @@ among-then xs ys old mid new first second t is =
 
 -- twice the same
 pub among-once : (xs old new : List Target) → AreAmong (xs ++ old) new → AreAmong (xs ++ xs ++ old) new
-among-once xs old new all t is =
+among-once xs old new all = λ t is.
     in-either (xs ++ xs) old t is
     (λ in_both. in-either xs xs t in_both (λ a. all t (in-first xs old t a)) (λ a. all t (in-first xs old t a)))
     (λ in_old. all t (in-second xs old t in_old))
@@ -89,7 +88,8 @@ module _ (before after : ℕ × ℕ → Option Named) where
   same_pair : (x p : ℕ × ℕ) → pair_eq x p ≡ true → x ≡ p
   same_pair x p is =
       let both = and_parts (x.0 == p.0) (x.1 == p.1) is in
-      ap (λ a. (a, x.1)) (eqb-true x.0 p.0 both.0) ∙ ap (λ b. (p.0, b)) (eqb-true x.1 p.1 both.1)
+      let pair : ℕ → ℕ → ℕ × ℕ = λ a b. (a, b) in
+      ap₂ pair (eqb-true x.0 p.0 both.0) (eqb-true x.1 p.1 both.1)
 
   around-there : (ns : List (ℕ × ℕ)) (p : ℕ × ℕ) (t : Target) → has_number p.0 p.1 ns ≡ true → has_target t (around p) ≡ true
       → has_target t (flat_map around ns) ≡ true
@@ -102,7 +102,7 @@ module _ (before after : ℕ × ℕ → Option Named) where
   pub one-number-more : (ns : List (ℕ × ℕ)) (p : ℕ × ℕ) (had : Option Named) (init cur new : List Target)
       → AreAmong (flat_map around ns ++ init) cur → AreAmong (targets_named had ++ targets_named (after p) ++ cur) new
       → (has_number p.0 p.1 ns ≡ false → had ≡ before p) → AreAmong (flat_map around (ns ++ p ∷ []) ++ init) new
-  one-number-more ns p had init cur new so_far added kept t is =
+  one-number-more ns p had init cur new so_far added kept = λ t is.
       let named : List Target = targets_named had ++ targets_named (after p) in
       let from_cur : has_target t cur ≡ true → has_target t new ≡ true = λ there. added t (in-second named cur t there) in
       in-either (flat_map around (ns ++ p ∷ [])) init t is
