@@ -28,8 +28,8 @@ births-few place (q ∷ qs) =
     let all = length-append (birth_by place q) (births_from (place + 1) qs) in
     omega (arith, first, rest, all)
 
-pub places-few : (t : Traced) → length (places_of t) ≤ length t.events
-places-few t =
+pub places_few : (t : Traced) → length (places_of t) ≤ length t.events
+places_few t =
     let births = births-few 1 (plans counted t.version t.events) in
     let count = plans-length 1 (empty_world counted) t.events in
     let places = length-map (births_of t) (λ (b : Birth). b.place) in

@@ -145,14 +145,16 @@ impl<'a> Split<'a> {
         self.version
     }
 
-    /// How many kqueues the trace makes: fewer than it has records.
+    /// How many kqueues the trace makes: no more than it has records.
+    #[tactic(auto, using(crate::proofs::FewKqueues::places_few))]
     pub fn kqueue_count(&self) -> u32
         ensures { result ≡ length (places_of self.now) }
     {
-        self.said.kqueues.places().len() as u32
+        self.kqueues().len() as u32
     }
 
     /// The event of the record at a place, of which the first is 1; none where there is no such place.
+    #[tactic(auto, unfolding(crate::specs::Traced::event_at))]
     pub fn event(&self, place: u64) -> Option<&'a Event>
         ensures { MatchOption result (event_at self.now place ≡ None) (λ e. event_at self.now place ≡ Some e.now) }
     {

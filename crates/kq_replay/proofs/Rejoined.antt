@@ -10,7 +10,7 @@ use Rattle.kq_model.specs.Hearing.{tallying}
 use Rattle.kq_model.specs.Objects.{counted}
 use Rattle.kq_model.specs.OwnedRows.{Rise}
 use Rattle.kq_model.specs.Projection.{replayed}
-use Rattle.kq_model.specs.System.{rows}
+use Rattle.kq_model.specs.System.{rows, rows_by}
 use Rattle.kq_model.proofs.Projection.{merged, projected}
 use Rattle.kq_model.proofs.RecastSystem.{rows-tallied}
 use Rattle.kq_history.specs.Traced.{Traced, births_of, places_of, plain_rows_of}
@@ -46,5 +46,5 @@ module _ (t : Traced) where
         rise = each-rises (places_of t);
         whole =
             subst (IsPermutation (flat_map (λ (one : Rows). one.rows) (those_of (births_of t)) ++ plain_rows_of t)) (sym (rows-tallied t.version t.events))
-            (subst (λ rs. IsPermutation (rs ++ plain_rows_of t) _) (flat-rows (births_of t) same) (merged tallying counted t.version t.events).0);
+            (subst (λ rs. IsPermutation (rs ++ plain_rows_of t) (rows_by tallying counted t.version t.events)) (flat-rows (births_of t) same) (merged tallying counted t.version t.events).0);
       }
