@@ -32,6 +32,7 @@ bench: all
 	bench/kevents $(KQSIM)
 	bench/objects $(KQSIM)
 	bench/timers $(KQSIM)
+	bench/live $(KQSIM)
 
 install: all
 	install -D -m 755 $(KQSIM) $(DESTDIR)$(PREFIX)/bin/kqsim

@@ -248,3 +248,16 @@ def each_kind():
         op = kinds[number % len(kinds)]
         members = ",".join(f'"{it}":{spelled(number, it)}' for it in MEMBERS[op])
         yield f'{{"op":"{op}",{members}}}\n'
+
+
+def processes(count):
+    """So many processes with a kqueue each, by turns: each adds a kevent of its own, triggers it again and again, and
+    polls after every third trigger."""
+    pids = range(1, count + 1)
+    for pid in pids:
+        yield record("proc", pid)
+        yield record("kqueue", pid, 9)
+    for number in itertools.count():
+        pid, turn = number % count + 1, number // count
+        made = call([], POLL_ROOM) if turn % 4 == 3 else call([change(turn % 8, ["ADD", "CLEAR"], TRIGGER)], 0)
+        yield made.replace('"pid":1,', f'"pid":{pid},')

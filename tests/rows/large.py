@@ -30,7 +30,12 @@ def rows():
     """Yields the name, the input and the wanted stdout, stderr and status of each row."""
     yield "line-of-just-the-limit-in-blanks", HEADER + b" " * LINE + b"\n", *fault(2, "Json")
     yield "line-over-the-limit-in-blanks", HEADER + b" " * (LINE + 1) + b"\n", *fault(2, "TooLong")
-    yield "header-over-the-limit", b'{"kqsim":1}'.ljust(LINE + 1) + b"\n", *fault(1, "TooLong")
+    header = HEADER.rstrip()
+    empty = report(b'{"calls":0,"events":0,"records":0}')
+    yield "header-of-just-the-limit", header.ljust(LINE) + b"\n", empty, b"", 0
+    yield "header-over-the-limit", header.ljust(LINE + 1) + b"\n", *fault(1, "TooLong")
+    yield "last-line-over-the-limit", HEADER + b" " * (LINE + 1), *fault(2, "TooLong")
+    yield "bad-line-before-one-over-the-limit", HEADER + b"[\n" + b" " * (LINE + 1), *fault(2, "Json")
     known = b'{"op":"proc","pid":1}'.ljust(LINE)
     yield "record-of-just-the-limit", HEADER + known + b"\n", report(b'{"calls":0,"events":0,"records":1}'), b"", 0
     yield "record-over-the-limit", HEADER + known + b" \n", *fault(2, "TooLong")
@@ -44,6 +49,7 @@ def rows():
     tick = b'{"op":"clock","ns":0}\n'
     still = report(b'{"calls":0,"events":0,"records":%d}' % RECORDS)
     yield "as-many-clock-records-as-the-limit", HEADER + tick * RECORDS, still, b"", 0
+    yield "line-over-both-limits", HEADER + tick * RECORDS + b" " * (LINE + 1), *fault(RECORDS + 2, "TooLong")
     yield "one-clock-record-too-many", HEADER + tick * (RECORDS + 1), *fault(RECORDS + 2, "TooManyRecords")
     yield "last-record-bad", HEADER + nobody * (RECORDS - 1) + b"\n" + nobody, *fault(RECORDS + 1, "Json")
 

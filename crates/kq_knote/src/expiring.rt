@@ -99,12 +99,14 @@ impl Knotes {
         // More alarms than knotes, so that they are seldom made anew.
         let knotes = self.rows.len().saturating_add(more);
         self.alarms.reserve(knotes.saturating_add(knotes));
+        // All of them may come up in one record.
+        let alarms = self.alarms.room();
         self.due.clear();
-        let _ = self.due.reserve(knotes);
+        let _ = self.due.reserve(alarms);
         self.keys.clear();
-        let _ = self.keys.reserve(knotes);
+        let _ = self.keys.reserve(alarms);
         self.places.clear();
-        let _ = self.places.reserve(knotes);
+        let _ = self.places.reserve(alarms);
         self.arm();
     }
 }

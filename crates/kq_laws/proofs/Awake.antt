@@ -144,7 +144,7 @@ noticing-awake before views posted (k ∷ ks) all announced =
     (noticing-awake before views posted ks (All-tail (IsAwake before) k ks all)
     (All-tail (IsAnnounced before posted views) k ks announced))
 
-notified-awake : (before views : Views) (posted : List Posted) (kq : Kqueue) → All (IsAwake before) kq.knotes
+pub notified-awake : (before views : Views) (posted : List Posted) (kq : Kqueue) → All (IsAwake before) kq.knotes
     → All (IsAnnounced before posted views) kq.knotes → All (IsAwake views) (notified views posted kq).knotes
 unfolding notified
 notified-awake before views posted kq all announced = noticing-awake before views posted kq.knotes all announced
@@ -155,7 +155,7 @@ module _ (views : Views) where
   abbrev Are : Kqueue → Type 0
   Are kq = All (IsAwake views) kq.knotes
 
-  closed-awake : (owner : ℕ) (pairs : List Pair) (kq : Kqueue) → Are kq → Are (closed owner pairs kq)
+  pub closed-awake : (owner : ℕ) (pairs : List Pair) (kq : Kqueue) → Are kq → Are (closed owner pairs kq)
   unfolding closed
   closed-awake owner pairs kq all = All-filter (λ (k : Knote). not (is_closed owner pairs k.key)) (IsAwake views) kq.knotes all
 
@@ -173,7 +173,7 @@ module _ (views : Views) where
   walked-awake from (suc n) w all =
       rung-awake (from + suc n) (walked timers from n w).items (walked-awake from n w all)
 
-  clocked-awake : (span : Span) (kq : Kqueue) → Are kq → Are (clocked (Some span) kq)
+  pub clocked-awake : (span : Span) (kq : Kqueue) → Are kq → Are (clocked (Some span) kq)
   unfolding clocked clock_from
   clocked-awake span kq all = walked-awake span.from (span.to - span.from) (waiting_of kq) all
 
@@ -279,7 +279,7 @@ module _ (caller : Caller) where
   by_answer-awake room p (Some reply) all = all
   by_answer-awake room p None all = by_entries-awake room p.placed p.kq all
 
-  call-awake : (room : ℕ) (cs : List Change) (kq : Kqueue) → Calls-are kq → Calls-are (call caller room cs kq).kq
+  pub call-awake : (room : ℕ) (cs : List Change) (kq : Kqueue) → Calls-are kq → Calls-are (call caller room cs kq).kq
   unfolding call concluded
   call-awake room cs kq all =
       let p = process caller room cs [] kq in

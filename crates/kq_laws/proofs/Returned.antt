@@ -25,7 +25,7 @@ use Rattle.kq_kevent.proofs.SoundLaws.{waiting-some}
 use Rattle.kq_kevent.proofs.TurnLaws.{turned-idle, turned-delivered}
 use Rattle.kq_kevent.proofs.TurnSound.{rested-key}
 use Rattle.kq_laws.specs.Life.{born, lived}
-use Rattle.kq_laws.specs.Wakes.{due_at, ahead, IsAmong, LosesNoWakeUp}
+use Rattle.kq_laws.specs.Wakes.{due_at, ahead, IsAmong, LosesNoWakeUp, ReturnsDue}
 use Rattle.kq_laws.proofs.Awake.{IsAwake, awake-is, awake-view, life-awake, process-awake}
 use Rattle.kq_laws.proofs.Lists.{found-is}
 use Rattle.std.proofs.lemmas.List.Elements.{All-nil}
@@ -201,9 +201,11 @@ waits : (views : Views) (kq : Kqueue) (key : Key) (k : Knote) → IsSound kq →
 waits views kq key k sound found active enabled =
     sound.waiting key ∙ ap is_waiting found ∙ waiting-some k ∙ ap (λ b. b && k.enabled) active ∙ enabled
 
-pub loses_no_wake_up : (caller : Caller) (room : ℕ) (changes : List Change) (kq : Kqueue) (reply : Reply) → IsSound kq
-    → reply ≡ (call caller room changes kq).reply → LosesNoWakeUp caller room changes kq reply
-loses_no_wake_up caller room changes kq reply sound is birth views steps told reached same quiet =
+-- what is active while it is due is returned, by a call that is told of the same world
+pub returns_due : (caller : Caller) (room : ℕ) (changes : List Change) (kq : Kqueue) (reply : Reply) → IsSound kq
+    → All (IsAwake caller.views) kq.knotes → reply ≡ (call caller room changes kq).reply → AreQuiet caller changes kq
+    → ReturnsDue caller.views room (kqueue_after_changes caller room changes kq) reply
+returns_due caller room changes kq reply sound all is quiet =
     λ key k seen found level enabled holds left.
     let awake : IsAwake caller.views k = found-is (IsAwake caller.views) key next.knotes k all_next found in
     let active = awake-is caller.views k awake level enabled (ap is_some holds) in (
@@ -219,11 +221,13 @@ loses_no_wake_up caller room changes kq reply sound is birth views steps told re
     sound_next : IsSound next
     sound_next = IsSound-process caller room changes [] kq sound
 
-    all : All (IsAwake caller.views) kq.knotes
-    all =
-        subst (λ (q : Kqueue). All (IsAwake caller.views) q.knotes) reached
-        (awake-view (lived steps (born birth views)).views caller.views (lived steps (born birth views)).kq.knotes (sym same)
-        (life-awake steps (born birth views) told (All-nil (IsAwake views))))
-
     all_next : All (IsAwake caller.views) next.knotes
     all_next = process-awake caller room changes [] kq all
+
+pub loses_no_wake_up : (caller : Caller) (room : ℕ) (changes : List Change) (kq : Kqueue) (reply : Reply) → IsSound kq
+    → reply ≡ (call caller room changes kq).reply → LosesNoWakeUp caller room changes kq reply
+loses_no_wake_up caller room changes kq reply sound is birth views steps told reached same quiet =
+    returns_due caller room changes kq reply sound
+    (subst (λ (q : Kqueue). All (IsAwake caller.views) q.knotes) reached
+    (awake-view (lived steps (born birth views)).views caller.views (lived steps (born birth views)).kq.knotes (sym same)
+    (life-awake steps (born birth views) told (All-nil (IsAwake views))))) is quiet

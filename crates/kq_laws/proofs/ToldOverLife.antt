@@ -133,7 +133,7 @@ module _ (ident since now : ℕ) (views : Views) (ks : List Knote) (within : now
     entries-count es entries.1,
   )
 
-answer-counts : (ident since now room : ℕ) (views : Views) (kq after : Kqueue) (reply : Reply) → now ≤ last_moment
+pub answer-counts : (ident since now room : ℕ) (views : Views) (kq after : Kqueue) (reply : Reply) → now ≤ last_moment
     → AreTold ident since now kq.knotes → IsAnswer views room kq after reply → CountsAll ident kq.knotes since now reply
 answer-counts ident since now room views kq after Done within all is = tt
 answer-counts ident since now room views kq after (Events es) within all (inl entries) =

@@ -1,3 +1,4 @@
 pub mod Life
+pub mod Runs
 pub mod Timers
 pub mod Wakes

@@ -1,6 +1,7 @@
--- That no wake-up is lost (kqueue(2): a filter without EV_CLEAR is level-triggered): where the condition of a knote holds
--- that is enabled and has neither ONESHOT nor CLEAR nor DISPATCH, a call with room for it returns it.
-use Rattle.std.specs.Prelude.{◌≡◌, ℕ, suc, ◌<◌, Bool, true, false, List, [], ◌∷◌, Option, Some, None, if◌then◌else◌, All, ◌⊎◌}
+-- That no wake-up is lost (kqueue(2): a filter without EV_CLEAR is level-triggered): where the condition of a knote
+-- holds that is enabled and has neither ONESHOT nor CLEAR nor DISPATCH, a call with room for it returns it.
+use Rattle.std.specs.Prelude.{◌≡◌, ℕ, suc, ◌<◌, Bool, true, false, List, [], ◌∷◌, Option, Some, None, if◌then◌else◌}
+use Rattle.std.specs.Prelude.{All, ◌⊎◌}
 use Rattle.std.specs.Option.{is_some}
 use Rattle.kq_model.specs.declared.change.Change.{Change}
 use Rattle.kq_model.specs.declared.kevent.Kevent.{Kevent}
@@ -63,15 +64,15 @@ IsAmong e (x ∷ events) = (e ≡ x) ⊎ IsAmong e events
 abbrev pub IsReturned : Kevent → Reply → Type 0
 IsReturned e reply = (events : List Kevent) × (reply ≡ Events events) × IsAmong e events
 
--- The kqueue as a call's changes left it: a level-triggered knote that is enabled and whose condition holds is returned,
--- with what is seen of it now, where there is room for it and for those that wait in front of it.
+-- The kqueue as a call's changes left it: a level-triggered knote that is enabled and whose condition holds is
+-- returned, with what is seen of it now, where there is room for it and for those that wait in front of it.
 abbrev pub ReturnsDue : Views → ℕ → Kqueue → Reply → Type 0
 ReturnsDue views room kq reply =
     (key : Key) (k : Knote) (seen : Seen) → find_knote key kq.knotes ≡ Some k → stays k ≡ true → k.enabled ≡ true
     → look views k ≡ Some seen → ahead views kq.knotes key kq.queue < room → IsReturned (event_of k seen) reply
 
--- The steps led from the kqueue's birth to what it is now, and it was told of the world. Then a call whose changes place
--- no entry, as one without changes, returns what is due.
+-- The steps led from the kqueue's birth to what it is now, and it was told of the world. Then a call whose changes
+-- place no entry, as one without changes, returns what is due.
 abbrev pub LosesNoWakeUp : Caller → ℕ → List Change → Kqueue → Reply → Type 0
 LosesNoWakeUp caller room changes kq reply =
     (birth : ℕ) (views : Views) (steps : List Step)

@@ -3,6 +3,8 @@
 
 mod calling;
 mod polling;
+mod running;
 
 pub use calling::call;
 pub use polling::poll;
+pub use running::apply;

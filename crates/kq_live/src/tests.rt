@@ -2,6 +2,7 @@
 mod calls;
 mod refusals;
 mod runs;
+mod tries;
 
 ghost use Rattle.std.specs.Prelude.{◌≡◌, IfSome};
 ghost use Rattle.kq_lock.specs.Seats.{EachSeat, IsFresh};

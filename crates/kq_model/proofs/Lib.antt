@@ -2,6 +2,7 @@ pub mod ListLaws
 pub mod KeyLaws
 pub mod KnoteLaws
 pub mod KeyLists
+pub mod NoticedKnote
 pub mod HintLaws
 pub mod Subjects
 pub mod SubjectsCall

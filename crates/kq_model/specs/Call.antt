@@ -1,6 +1,7 @@
 -- One kevent call (kqueue(2)): all changes in order, with an entry for each that fails or asks for a
 -- receipt; then, where no entry was placed and no change ended the call, the retrieval.
-use Rattle.std.specs.Prelude.{ℕ, pos, Bool, ◌||◌, List, [], ◌∷◌, ◌++◌, length, nat_lt, Option, Some, None, if◌then◌else◌}
+use Rattle.std.specs.Prelude.{ℕ, pos, Bool, ◌||◌, List, [], ◌∷◌, ◌++◌, length, nat_lt, Option, Some, None}
+use Rattle.std.specs.Prelude.{if◌then◌else◌}
 use Rattle.std.specs.Option.{is_some}
 use Rattle.kq_model.specs.declared.change.Change.{Change}
 use Rattle.kq_model.specs.declared.errno.Errno.{Errno}

@@ -1,7 +1,8 @@
 -- Descriptors and the objects that they name: how many name each, and what happens when one more names
 -- it or one no longer does. The last one that no longer names it ends the object, or its end of a pipe.
 -- Source: dup(2), close(2), fork(2); NOTE_CLOSE and NOTE_CLOSE_WRITE of kqueue(2).
-use Rattle.std.specs.Prelude.{◌≡◌, ◌==◌, ◌≤◌, ℕ, ◌+◌, ℤ, pos, int_le, Bool, true, false, List, [], ◌∷◌, ◌++◌, Option, Some, None, if◌then◌else◌}
+use Rattle.std.specs.Prelude.{◌≡◌, ◌==◌, ◌≤◌, ℕ, ◌+◌, ℤ, pos, int_le, Bool, true, false, List, [], ◌∷◌, ◌++◌, Option}
+use Rattle.std.specs.Prelude.{Some, None, if◌then◌else◌}
 use Rattle.kq_model.specs.declared.act.Act.{Act}
 use Rattle.kq_model.specs.declared.act.Act.TheVariants as act
 use Rattle.kq_model.specs.declared.doing.DescriptionRecord.TheVariants as description

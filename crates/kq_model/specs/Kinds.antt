@@ -2,7 +2,8 @@
 -- (this project's choice).
 use Rattle.std.specs.Prelude.{ℕ, List, [], ◌∷◌, Option, Some, None, codes, if◌then◌else◌}
 use Rattle.kq_model.specs.declared.record_kind.MemberType.{MemberType}
-use Rattle.kq_model.specs.declared.record_kind.MemberType.TheVariants.{Whole, Truth, SideName, ModeName, NoteName, ChangeList}
+use Rattle.kq_model.specs.declared.record_kind.MemberType.TheVariants.{Whole, Truth, SideName, ModeName, NoteName}
+use Rattle.kq_model.specs.declared.record_kind.MemberType.TheVariants.{ChangeList}
 use Rattle.kq_model.specs.declared.record_kind.RecordKind.{RecordKind}
 use Rattle.kq_model.specs.declared.record_kind.RecordKind.TheVariants as kind
 use Rattle.kq_model.specs.Names.{is_text}

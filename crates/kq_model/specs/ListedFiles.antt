@@ -13,7 +13,8 @@ is_listed place None = false
 is_listed place (Some f) = list_any (λ p. p == place) f.descriptions
 
 pub record AreListed (o : Objects counted) : Type 0 where
-  pub listed : (place : ℕ) (s : DescriptionState) → o.description place ≡ Some s → is_listed place (o.file s.file) ≡ true
+  pub listed : (place : ℕ) (s : DescriptionState) → o.description place ≡ Some s
+      → is_listed place (o.file s.file) ≡ true
 
 -- a record, planned at this place in this world, keeps that
 abbrev pub StaysListed : ℕ → World counted → Planned → Type 0

@@ -1,6 +1,7 @@
 -- A filter's look at its target: nothing, or what an event is to say (kqueue(2), the filters). Amounts, sizes and
 -- marks are bytes.
-use Rattle.std.specs.Prelude.{ℕ, min, ℤ, pos, ◌-ℤ◌, int_lt, int_le, ◌==◌, Bool, true, false, not, ◌&&◌, ◌||◌, Option, Some, None, option_and_then, if◌then◌else◌}
+use Rattle.std.specs.Prelude.{ℕ, min, ℤ, pos, ◌-ℤ◌, int_lt, int_le, ◌==◌, Bool, true, false, not, ◌&&◌, ◌||◌, Option}
+use Rattle.std.specs.Prelude.{Some, None, option_and_then, if◌then◌else◌}
 use Rattle.std.specs.Int.{int_min, saturate_signed, w64}
 use Rattle.kq_model.specs.declared.filter.Filter.{Filter}
 use Rattle.kq_model.specs.declared.filter.Filter.TheVariants.{Read, Write, Vnode, Proc, Signal, Timer, User}
@@ -54,16 +55,19 @@ amount_seen ready amount = side_seen ready false 0 amount
 -- the mark is the socket's, or the one that the knote brings
 unfoldable pub read_seen : (ℤ → ℤ) → Option View → Option Seen
 read_seen mark (Some (view.Listen pending)) = amount_seen (int_lt (pos 0) pending) pending
-read_seen mark (Some (view.Sock readable read_mark read_shut read_error connected space write_mark write_shut write_error)) =
+read_seen mark (Some (view.Sock readable read_mark read_shut read_error connected
+    space write_mark write_shut write_error)) =
     side_seen (int_le (mark read_mark) readable) read_shut read_error readable
 read_seen mark (Some (view.Pipe bytes cap writer reader)) = side_seen (int_lt (pos 0) bytes) (not writer) 0 bytes
 read_seen mark (Some (view.Open size offset)) =
-    amount_seen (int_lt (pos 0) (difference size offset) || int_lt (difference size offset) (pos 0)) (difference size offset)
+    amount_seen (int_lt (pos 0) (difference size offset) || int_lt (difference size offset) (pos 0))
+    (difference size offset)
 read_seen mark _ = None
 
 -- a listening socket is never ready for WRITE
 unfoldable pub write_seen : (ℤ → ℤ) → Option View → Option Seen
-write_seen mark (Some (view.Sock readable read_mark read_shut read_error connected space write_mark write_shut write_error)) =
+write_seen mark (Some (view.Sock readable read_mark read_shut read_error connected
+    space write_mark write_shut write_error)) =
     side_seen (connected && int_le (mark write_mark) space) write_shut write_error space
 write_seen mark (Some (view.Pipe bytes cap writer reader)) =
     side_seen (int_le (pipe_mark cap) (difference cap bytes)) (not reader) 0 (difference cap bytes)

@@ -17,7 +17,8 @@ use Rattle.kq_model.specs.declared.object.View.TheVariants as view
 use Rattle.kq_model.specs.Books.{Book}
 use Rattle.kq_model.specs.Sockets.{SocketState, socket_state, socket_after, no_socket, is_socket_held, socket_view}
 use Rattle.kq_model.specs.Pipes.{PipeState, pipe_state, pipe_after, no_pipe, is_pipe_held, pipe_view}
-use Rattle.kq_model.specs.Files.{DescriptionState, description_state, description_after, no_description, is_description_held, FileState, file_state, file_after, no_file}
+use Rattle.kq_model.specs.Files.{DescriptionState, description_state, description_after, no_description}
+use Rattle.kq_model.specs.Files.{is_description_held, FileState, file_state, file_after, no_file}
 
 -- ---- how objects are kept
 

@@ -11,7 +11,8 @@ use Rattle.kq_model.specs.Objects.{Objects, counted}
 use Rattle.kq_model.specs.PipePlans.{plan_pipe, plan_at_pipe}
 use Rattle.kq_model.specs.PipeSteps.{read_pipe, write_pipe}
 use Rattle.kq_model.specs.SocketPlans.{plan_socket, plan_at_socket, plan_accept}
-use Rattle.kq_model.specs.SocketSteps.{listen, arrive, connect, receive, transmit, shut, low_water, read_socket, write_socket}
+use Rattle.kq_model.specs.SocketSteps.{listen, arrive, connect, receive, transmit, shut, low_water, read_socket}
+use Rattle.kq_model.specs.SocketSteps.{write_socket}
 
 unfoldable pub plan_read : Named → ℕ → Objects counted → Planned
 plan_read (named.Socket place) bytes o = plan_at_socket (read_socket bytes) (named.Socket place) o

@@ -6,7 +6,8 @@ use Rattle.kq_model.specs.declared.event.Event.TheVariants as event
 use Rattle.kq_model.specs.DescriptorPlans.{plan_close, plan_dup, plan_kqueue, plan_kevent}
 use Rattle.kq_model.specs.ObjectRecordPlans.{plan_accept, plan_act, plan_at, plan_open, plan_pipe, plan_socket}
 use Rattle.kq_model.specs.Objects.{counted}
-use Rattle.kq_model.specs.ProcessPlans.{plan_clock_at, plan_exec, plan_exit, plan_fork, plan_proc, plan_sig, plan_sigset}
+use Rattle.kq_model.specs.ProcessPlans.{plan_clock_at, plan_exec, plan_exit, plan_fork, plan_proc, plan_sig}
+use Rattle.kq_model.specs.ProcessPlans.{plan_sigset}
 use Rattle.kq_model.specs.World.{World, Planned}
 
 -- the record at a place

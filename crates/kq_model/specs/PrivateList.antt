@@ -1,7 +1,8 @@
 -- The private list of a kqueue: of each possible record what concerns this kqueue alone. These are its calls,
 -- the closes of numbers that it names, the hints for targets that it names, and the steps of the clock if it
 -- has timers.
-use Rattle.std.specs.Prelude.{ℕ, ◌==◌, Bool, true, false, ◌&&◌, List, [], ◌∷◌, map, filter, Option, Some, None, if◌then◌else◌}
+use Rattle.std.specs.Prelude.{ℕ, ◌==◌, Bool, true, false, ◌&&◌, List, [], ◌∷◌, map, filter, Option, Some, None}
+use Rattle.std.specs.Prelude.{if◌then◌else◌}
 use Rattle.kq_model.specs.Clock.{Span}
 use Rattle.kq_model.specs.Close.{Pair}
 use Rattle.kq_model.specs.Moment.{Moment}

@@ -65,7 +65,8 @@ with_process (Some s) ps = with_start s ps
 
 unfoldable pub without_process : Option Exit → List Process → List Process
 without_process None ps = ps
-without_process (Some e) ps = map (λ (p : Process). if p.pid == e.pid then record p { exited = Some e.status } else p) ps
+without_process (Some e) ps =
+    map (λ (p : Process). if p.pid == e.pid then record p { exited = Some e.status } else p) ps
 
 -- the one signal is ignored from now on, or no longer; the others as before
 abbrev pub disposed : ℕ → Bool → (ℕ → Bool) → ℕ → Bool

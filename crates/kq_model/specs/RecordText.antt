@@ -1,5 +1,6 @@
 -- A record: an object whose member `op` names its kind, and with the members of this kind.
-use Rattle.std.specs.Prelude.{ℕ, ℤ, ◌+◌, ◌==◌, Bool, ◌&&◌, List, length, codes, Option, Some, None, option_and_then, Result, Err}
+use Rattle.std.specs.Prelude.{ℕ, ℤ, ◌+◌, ◌==◌, Bool, ◌&&◌, List, length, codes, Option, Some, None, option_and_then}
+use Rattle.std.specs.Prelude.{Result, Err}
 use Rattle.std.specs.List.{list_all}
 use Rattle.std.specs.Option.{is_some}
 use Rattle.serde_json.specs.Data.{Data}
@@ -12,7 +13,8 @@ use Rattle.kq_model.specs.declared.line_fault.LineFault.TheVariants.{Field}
 use Rattle.kq_model.specs.declared.mode.Mode.{Mode}
 use Rattle.kq_model.specs.declared.note.Note.{Note}
 use Rattle.kq_model.specs.declared.record_kind.MemberType.{MemberType}
-use Rattle.kq_model.specs.declared.record_kind.MemberType.TheVariants.{Whole, Truth, SideName, ModeName, NoteName, ChangeList}
+use Rattle.kq_model.specs.declared.record_kind.MemberType.TheVariants.{Whole, Truth, SideName, ModeName, NoteName}
+use Rattle.kq_model.specs.declared.record_kind.MemberType.TheVariants.{ChangeList}
 use Rattle.kq_model.specs.declared.record_kind.RecordKind.{RecordKind}
 use Rattle.kq_model.specs.declared.record_kind.RecordKind.TheVariants as kind
 use Rattle.kq_model.specs.declared.side.Side.{Side}
@@ -108,21 +110,25 @@ event_as kind.Kqueue d = with_pid_fd d (λ pid fd. Some (event.Kqueue pid fd))
 event_as kind.Dup d = with_pid_fd d (λ pid fd. with_u32 (codes "to") d (λ to. Some (event.Dup pid fd to)))
 event_as kind.Close d = with_pid_fd d (λ pid fd. Some (event.Close pid fd))
 event_as kind.Socket d =
-    with_pid_fd d (λ pid fd. with_u32 (codes "rcv") d (λ rcv. with_u32 (codes "snd") d (λ snd. Some (event.Socket pid fd rcv snd))))
+    with_pid_fd d (λ pid fd. with_u32 (codes "rcv") d (λ rcv.
+    with_u32 (codes "snd") d (λ snd. Some (event.Socket pid fd rcv snd))))
 event_as kind.Listen d =
     with_pid_fd d (λ pid fd. with_u32 (codes "backlog") d (λ backlog. Some (event.Listen pid fd backlog)))
 event_as kind.Arrive d = with_pid_fd d (λ pid fd. Some (event.Arrive pid fd))
 event_as kind.Accept d =
-    with_pid_fd d (λ pid fd. with_u32 (codes "to") d (λ to. with_u32 (codes "rcv") d (λ rcv. with_u32 (codes "snd") d (λ snd. Some (event.Accept pid fd to rcv snd)))))
+    with_pid_fd d (λ pid fd. with_u32 (codes "to") d (λ to. with_u32 (codes "rcv") d (λ rcv.
+    with_u32 (codes "snd") d (λ snd. Some (event.Accept pid fd to rcv snd)))))
 event_as kind.Connect d = with_pid_fd d (λ pid fd. Some (event.Connect pid fd))
 event_as kind.Rx d = with_pid_fd d (λ pid fd. with_u32 (codes "n") d (λ n. Some (event.Rx pid fd n)))
 event_as kind.Tx d = with_pid_fd d (λ pid fd. with_u32 (codes "n") d (λ n. Some (event.Tx pid fd n)))
 event_as kind.Shut d =
-    with_pid_fd d (λ pid fd. with_side d (λ side. with_u32 (codes "error") d (λ error. Some (event.Shut pid fd side error))))
+    with_pid_fd d (λ pid fd. with_side d (λ side.
+    with_u32 (codes "error") d (λ error. Some (event.Shut pid fd side error))))
 event_as kind.Lowat d =
     with_pid_fd d (λ pid fd. with_side d (λ side. with_u32 (codes "n") d (λ n. Some (event.Lowat pid fd side n))))
 event_as kind.Pipe d =
-    with_pid d (λ pid. with_u32 (codes "rfd") d (λ rfd. with_u32 (codes "wfd") d (λ wfd. with_u32 (codes "cap") d (λ cap. Some (event.Pipe pid rfd wfd cap)))))
+    with_pid d (λ pid. with_u32 (codes "rfd") d (λ rfd. with_u32 (codes "wfd") d (λ wfd.
+    with_u32 (codes "cap") d (λ cap. Some (event.Pipe pid rfd wfd cap)))))
 event_as kind.Read d = with_pid_fd d (λ pid fd. with_u32 (codes "n") d (λ n. Some (event.Read pid fd n)))
 event_as kind.Write d = with_pid_fd d (λ pid fd. with_u32 (codes "n") d (λ n. Some (event.Write pid fd n)))
 event_as kind.Exec d = with_pid d (λ pid. Some (event.Exec pid))

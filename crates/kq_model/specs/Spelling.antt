@@ -78,7 +78,8 @@ members_of (event.Socket p f rcv snd) =
 members_of (event.Listen p f backlog) = (codes "backlog", Number backlog) ∷ fd f ∷ op (codes "listen") ∷ pid p ∷ []
 members_of (event.Arrive p f) = fd f ∷ op (codes "arrive") ∷ pid p ∷ []
 members_of (event.Accept p f to rcv snd) =
-    fd f ∷ op (codes "accept") ∷ pid p ∷ (codes "rcv", Number rcv) ∷ (codes "snd", Number snd) ∷ (codes "to", Number to) ∷ []
+    fd f ∷ op (codes "accept") ∷ pid p ∷ (codes "rcv", Number rcv) ∷ (codes "snd", Number snd)
+    ∷ (codes "to", Number to) ∷ []
 members_of (event.Connect p f) = fd f ∷ op (codes "connect") ∷ pid p ∷ []
 members_of (event.Rx p f n) = fd f ∷ (codes "n", Number n) ∷ op (codes "rx") ∷ pid p ∷ []
 members_of (event.Tx p f n) = fd f ∷ (codes "n", Number n) ∷ op (codes "tx") ∷ pid p ∷ []

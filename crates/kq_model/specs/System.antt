@@ -95,7 +95,8 @@ row_of place (reply.Events events) = record { at = place; reply = reply.Events e
 row_of place (reply.Failed e) = record { at = place; reply = reply.Failed e } ∷ []
 row_of place (reply.Impossible why) = record { at = place; reply = reply.Impossible why } ∷ []
 
-unfoldable pub rows_after : {S A B C D : Type 0} {h : Hearing S} {k : Keeping A B C D} → ℕ → System h k → List Event → List Row
+unfoldable pub rows_after : {S A B C D : Type 0} {h : Hearing S} {k : Keeping A B C D}
+    → ℕ → System h k → List Event → List Row
 rows_after place s [] = []
 rows_after place s (e ∷ es) = row_of place (step place e s).reply ++ rows_after (place + 1) (step place e s).system es
 

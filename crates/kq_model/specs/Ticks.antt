@@ -3,7 +3,8 @@
 -- fflags name, milliseconds where they name none, and its events count the expirations.
 -- This project's choice: the clock counts from 0, its last moment is 2^63 - 1, two units and unknown
 -- bits are refused, and a period of 0 units counts as 1.
-use Rattle.std.specs.Prelude.{◌≡◌, ℕ, zero, suc, ◌+◌, ◌-◌, ◌*◌, ◌<◌, ◌≤◌, max, Bool, true, false, not, ◌&&◌, ◌||◌, ◌==◌, nat_le, if◌then◌else◌, ℤ, pos, negsuc, ◌<ℤ◌, Option, Some, None}
+use Rattle.std.specs.Prelude.{◌≡◌, ℕ, zero, suc, ◌+◌, ◌-◌, ◌*◌, ◌<◌, ◌≤◌, max, Bool, true, false, not, ◌&&◌, ◌||◌, ◌==◌}
+use Rattle.std.specs.Prelude.{nat_le, if◌then◌else◌, ℤ, pos, negsuc, ◌<ℤ◌, Option, Some, None}
 use Rattle.std.specs.Option.{option_and_then}
 
 -- 2^63 - 1

@@ -15,7 +15,8 @@ use Rattle.kq_model.specs.Clock.{Span}
 use Rattle.kq_model.specs.Close.{Pair}
 use Rattle.kq_model.specs.Descriptors.{Descriptor, named_among, with_descriptor, with_descriptors, without_closed}
 use Rattle.kq_model.specs.Objects.{Keeping, Objects, counted, no_objects, quantities, all_done, view_of}
-use Rattle.kq_model.specs.Processes.{Process, Start, Exit, Disposition, process_of, with_process, without_process, with_disposition}
+use Rattle.kq_model.specs.Processes.{Process, Start, Exit, Disposition, process_of, with_process, without_process}
+use Rattle.kq_model.specs.Processes.{with_disposition}
 use Rattle.kq_model.specs.Targets.{Posted}
 use Rattle.kq_model.specs.Views.{Views}
 
@@ -108,7 +109,8 @@ pub data Planned : Type 0 where
 
 unfoldable pub with_kqueue : ℕ → Option Pair → List Descriptor → List Descriptor
 with_kqueue place None table = table
-with_kqueue place (Some p) table = with_descriptor (record { pid = p.pid; number = p.number; named = named.Kqueue place }) table
+with_kqueue place (Some p) table =
+    with_descriptor (record { pid = p.pid; number = p.number; named = named.Kqueue place }) table
 
 unfoldable pub clock_after : Option Span → ℕ → ℕ
 clock_after None now = now

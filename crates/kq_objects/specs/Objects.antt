@@ -10,7 +10,8 @@ use Rattle.kq_objects.specs.declared.error.PlanError.TheVariants as plan_error
 use Rattle.kq_objects.specs.declared.objects.Objects.{Objects}
 use Rattle.kq_objects.specs.Descriptions.{description_at, HasRoom}
 use Rattle.kq_objects.specs.Files.{file_at, room_on}
-use Rattle.kq_objects.specs.Fits.{FitsSocketAt, FitsPipeAt, FitsDescriptionAt, FitsFileAt, made_socket, made_pipe, made_description, made_file, opened_at, IsNote}
+use Rattle.kq_objects.specs.Fits.{FitsSocketAt, FitsPipeAt, FitsDescriptionAt, FitsFileAt, made_socket, made_pipe}
+use Rattle.kq_objects.specs.Fits.{made_description, made_file, opened_at, IsNote}
 
 -- the quantities of all objects
 abbrev pub objects_of : Objects → model.Objects model.counted

@@ -1,7 +1,8 @@
 // The plans of the records about files by their numbers.
 ghost use Rattle.std.specs.Prelude.{◌≡◌, ◌≤◌, ◌∷◌, [], ◌++◌, None, Some, IfOk, IfSome};
 ghost use Rattle.std.specs.Option.{option_map, option_copied};
-ghost use Rattle.kq_model.specs.FilePlans.{file_amount, noted, readable_each, extending, plan_file, present, plan_open, plan_truncate, sized, plan_note, deletion};
+ghost use Rattle.kq_model.specs.FilePlans.{file_amount, noted, readable_each, extending, plan_file, present, plan_open};
+ghost use Rattle.kq_model.specs.FilePlans.{plan_truncate, sized, plan_note, deletion};
 ghost use Rattle.kq_model.specs.Limits.{most_file_size};
 ghost use Rattle.kq_model.specs.NoteBits.{bit_of};
 ghost use Rattle.kq_objects.specs.Descriptions.{description_at};

@@ -1,7 +1,8 @@
 // Descriptors that name objects: one more, and one less.
 ghost use Rattle.std.specs.Prelude.{◌≡◌, ℕ, nat_eq, pos, ◌≤ℤ◌, None};
 ghost use Rattle.std.specs.HashMap.{get};
-ghost use Rattle.kq_model.specs.Holding.{hold, release, release_hint, end_hint, close_hint, leaving, socket_holders, readers, writers, description_holders};
+ghost use Rattle.kq_model.specs.Holding.{hold, release, release_hint, end_hint, close_hint, leaving, socket_holders};
+ghost use Rattle.kq_model.specs.Holding.{readers, writers, description_holders};
 ghost use Rattle.kq_model.specs.Objects.{all_done};
 ghost use Rattle.kq_model.specs.declared.object.Hint.TheVariants as hint;
 ghost use Rattle.kq_model.specs.declared.object.Named.TheVariants as named;

@@ -1,5 +1,6 @@
 ghost use Rattle.std.specs.Prelude.{◌≡◌, ◌^◌, pos, ◌+ℤ◌, ◌<ℤ◌};
-ghost use Rattle.kq_model.specs.Pipes.{no_pipe, pipe_after, pipe_view, is_pipe_held, has_reader, has_writer, pipe_space};
+ghost use Rattle.kq_model.specs.Pipes.{no_pipe, pipe_after, pipe_view, is_pipe_held, has_reader, has_writer};
+ghost use Rattle.kq_model.specs.Pipes.{pipe_space};
 ghost use Rattle.kq_model.specs.Holding.{is_last};
 ghost use Rattle.kq_objects.specs.Fits.{FitsPipe};
 

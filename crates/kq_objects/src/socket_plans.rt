@@ -2,8 +2,10 @@
 ghost use Rattle.std.specs.Prelude.{◌≡◌, nat_eq, None, Some, IfOk};
 ghost use Rattle.std.specs.HashMap.{get};
 ghost use Rattle.std.specs.Result.{ForOk};
-ghost use Rattle.kq_model.specs.SocketPlans.{plan_socket, socket_at, socket_plan, plan_at_socket, plan_accept, accepted};
-ghost use Rattle.kq_model.specs.SocketSteps.{listen, arrive, accept, connect, receive, transmit, shut, low_water, read_socket, write_socket};
+ghost use Rattle.kq_model.specs.SocketPlans.{plan_socket, socket_at, socket_plan, plan_at_socket, plan_accept};
+ghost use Rattle.kq_model.specs.SocketPlans.{accepted};
+ghost use Rattle.kq_model.specs.SocketSteps.{listen, arrive, accept, connect, receive, transmit, shut, low_water};
+ghost use Rattle.kq_model.specs.SocketSteps.{read_socket, write_socket};
 ghost use Rattle.kq_objects.specs.Fits.{IsNote};
 ghost use Rattle.kq_objects.specs.Objects.{objects_of, AreSocketNotes, IsPlanned, IsReady};
 

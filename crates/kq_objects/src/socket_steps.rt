@@ -1,7 +1,8 @@
 // What a record comes to at one socket: the first reason why it is impossible, or what is noted and the hint.
 ghost use Rattle.std.specs.Prelude.{◌≡◌, ◌^◌, pos, ◌+ℤ◌, ◌<ℤ◌, IfOk};
 ghost use Rattle.kq_model.specs.Sockets.{is_unconnected, socket_space};
-ghost use Rattle.kq_model.specs.SocketSteps.{is_capacity, hint_on, capacity_of, listen, arrive, accept, connect, receive, transmit, shut, low_water, read_socket, write_socket};
+ghost use Rattle.kq_model.specs.SocketSteps.{is_capacity, hint_on, capacity_of, listen, arrive, accept, connect};
+ghost use Rattle.kq_model.specs.SocketSteps.{receive, transmit, shut, low_water, read_socket, write_socket};
 ghost use Rattle.kq_objects.specs.Fits.{IsNoteOn};
 
 use crate::socket::Socket;

@@ -7,6 +7,7 @@ pub mod Opening
 pub mod Told
 pub mod Planned
 pub mod Sums
+pub mod NamesThere
 pub mod Sound
 pub mod CountedSteps
 pub mod Shared

@@ -1,5 +1,6 @@
 -- What contracts see of the processes that the code keeps: the model's processes and its table.
-use Rattle.std.specs.Prelude.{◌≡◌, ℕ, ◌+◌, Bool, false, List, [], ◌∷◌, ◌++◌, map, sum_by, slice_index_or, Option, Some, None}
+use Rattle.std.specs.Prelude.{◌≡◌, ℕ, ◌+◌, Bool, false, List, [], ◌∷◌, ◌++◌, map, sum_by, slice_index_or, Option, Some}
+use Rattle.std.specs.Prelude.{None}
 use Rattle.kq_model.specs.declared.object.Named.{Named}
 use Rattle.kq_model.specs.Descriptors.{Descriptor, without_closed}
 use Rattle.kq_model.specs.ProcessPlans.{pairs_of}

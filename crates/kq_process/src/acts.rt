@@ -3,7 +3,8 @@
 ghost use Rattle.std.specs.Prelude.{◌≡◌, ◌∷◌, [], ◌==◌, IfOk, OnOk, OnErr, None, true, false};
 ghost use Rattle.kq_model.specs.CountedWorld.{IsCountedWorld};
 ghost use Rattle.kq_model.specs.Holding.{made_names};
-ghost use Rattle.kq_model.specs.ObjectRecordPlans.{plan_act, plan_at, plan_socket, plan_accept, plan_pipe, plan_open, pipe_ends};
+ghost use Rattle.kq_model.specs.ObjectRecordPlans.{plan_act, plan_at, plan_socket, plan_accept, plan_pipe, plan_open};
+ghost use Rattle.kq_model.specs.ObjectRecordPlans.{pipe_ends};
 ghost use Rattle.kq_model.specs.Processes.{is_live};
 ghost use Rattle.kq_model.specs.World.{named_by};
 ghost use Rattle.kq_model.specs.declared.act.Act.TheVariants as act;

@@ -1,7 +1,8 @@
 -- Which keys watch which targets: what contracts see of it, and how it is kept. The watches of one target are
 -- linked in their order, each with the one before it and the one behind it. `same` tells whether two keys are one,
 -- and `alike` whether two targets are.
-use Rattle.std.specs.Prelude.{◌≡◌, ◌≤◌, ◌+◌, ℕ, Bool, List, [], ◌∷◌, map, filter, length, Option, Some, None, if◌then◌else◌}
+use Rattle.std.specs.Prelude.{◌≡◌, ◌≤◌, ◌+◌, ℕ, Bool, List, [], ◌∷◌, map, filter, length, Option, Some, None}
+use Rattle.std.specs.Prelude.{if◌then◌else◌}
 use Rattle.kq_table.specs.declared.watch.Watch.{Watch}
 use Rattle.kq_table.specs.declared.watch.Link.{Link}
 use Rattle.kq_table.specs.declared.watch.Ends.{Ends}

@@ -1,4 +1,5 @@
-ghost use Rattle.std.specs.Prelude.{◌≡◌, ◌<◌, ◌≤◌, ◌+◌, ◌++◌, ◌∷◌, ◌↔◌, ℕ, [], None, Some, OnOk, OnErr, IsTrue, MatchOption, length, max, slice_get, if◌then◌else◌};
+ghost use Rattle.std.specs.Prelude.{◌≡◌, ◌<◌, ◌≤◌, ◌+◌, ◌++◌, ◌∷◌, ◌↔◌, ℕ, [], None, Some, OnOk, OnErr, IsTrue};
+ghost use Rattle.std.specs.Prelude.{MatchOption, length, max, slice_get, if◌then◌else◌};
 ghost use Rattle.std.specs.Option.{option_map};
 ghost use Rattle.std.specs.Vec.{vec_len, vec_capacity};
 ghost use Rattle.kq_table.specs.Rows.{find_row, row_after, rows_behind, without_row, HaveOwnKeys};
@@ -104,7 +105,8 @@ impl<K: Copy + Eq + Hash, G: Copy + Eq + Hash> TargetIndex<K, G> {
     pub fn watching(&self, target: G, found: &mut Vec<K>) -> bool
         ensures room { IsTrue result
             ↔ (vec_len found.old + length (keys_watching G.eq target self.now.watches) ≤ vec_capacity found.old) }
-        ensures found { IsTrue result → found.new.items ≡ found.old.items ++ keys_watching G.eq target self.now.watches }
+        ensures found { IsTrue result
+            → found.new.items ≡ found.old.items ++ keys_watching G.eq target self.now.watches }
         ensures capacity { vec_capacity found.new ≡ vec_capacity found.old }
     {
         let mut next = self.first_watching(target);

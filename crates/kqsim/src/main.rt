@@ -6,6 +6,7 @@ mod command_line;
 mod fault;
 mod folding;
 mod input;
+mod living;
 mod order;
 mod output;
 mod replaying;
@@ -24,34 +25,36 @@ use std::io::ErrorKind;
 use std::process::ExitCode;
 
 fn main(rt: HostRuntime) -> ExitCode {
-    match run_words(&rt) {
-        Ok(status) => ExitCode::from(status),
+    let (mut out, mut err) = (rt.stdout(), rt.stderr());
+    let status = match asked(&rt) {
+        Ok((order, file)) => match file {
+            Some(mut file) => run_order(&rt, &order, &mut file, &mut out, &mut err),
+            None => run_order(&rt, &order, &mut rt.stdin(), &mut out, &mut err),
+        },
         Err(fault) => {
-            tell(fault, &mut rt.stderr());
-            ExitCode::from(fault.status())
+            tell(fault, &mut err);
+            fault.status()
         }
-    }
+    };
+    ExitCode::from(status)
 }
 
-/// Carries out the order of the command line, with the file that it names, and gives the exit
-/// status. A fault comes from the words, or from a file that does not open.
-fn run_words(rt: &HostRuntime) -> Result<u8, Fault> {
+/// The order of the command line, and the file that it names, opened; none for standard input.
+fn asked(rt: &HostRuntime) -> Result<(Order, Option<File>), Fault> {
     let words = words(rt)?;
     let mut texts = Vec::new(rt.alloc());
     for word in &words {
         texts.push(word.as_str()).map_err(|_| Fault::Memory)?;
     }
     let order = parse_words(rt.alloc(), texts.as_slice())?;
-    let Order::Replay { file, .. } = &order;
-    let (mut out, mut err) = (rt.stdout(), rt.stderr());
-    if file.as_str() == "-" {
-        return Ok(run_order(rt, &order, &mut rt.stdin(), &mut out, &mut err));
+    if order.file() == "-" {
+        return Ok((order, None));
     }
-    let mut reader = File::open(rt, file.as_str()).map_err(|error| match error.kind() {
+    let file = File::open(rt, order.file()).map_err(|error| match error.kind() {
         ErrorKind::OutOfMemory => Fault::Memory,
         _ => Fault::Read,
     })?;
-    Ok(run_order(rt, &order, &mut reader, &mut out, &mut err))
+    Ok((order, Some(file)))
 }
 
 /// The words after the program's name. Words that are no text are none of the program's.

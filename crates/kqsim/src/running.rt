@@ -1,36 +1,36 @@
-ghost use Rattle.std.specs.Prelude.{◌≡◌, ◌↔◌, IfErr, IsErrOf, OnOk};
+ghost use Rattle.std.specs.Prelude.{◌≡◌, ◌↔◌, IfErr, IfOk, IsErrOf, IsTrue, OnOk};
 ghost use Rattle.std.specs.Io.KnownBytes.{Keeps};
-ghost use Rattle.kqsim.specs.Run.{EndsBy, LeavesBy, WritesReport, workers_of};
-ghost use Rattle.kqsim.specs.Workers.{IsWorkerCount};
+ghost use Rattle.kqsim.specs.Run.{EndsBy, IsInRange, IsOutput, IsOutputFault, LeavesBy, WritesOutput};
 
 use crate::fault::Fault;
 use crate::input::read_in;
+use crate::living::{book_text, live_report};
 use crate::order::Order;
 use crate::output::write_out;
 use crate::replaying::replay;
-use crate::workers::is_worker_count;
+use crate::workers::{is_thread_count, is_worker_count};
 use std::io::{Read, Write};
+use std::sync::Wait;
+use std::thread::Threads;
 
 /// The most bytes of a trace that the program reads: 2^28.
 const MOST_BYTES: usize = 268435456;
 
-/// Carries an order out: reads the trace, writes the report, and prints the line of a fault on
+/// Carries an order out: reads the trace, writes the report or the book, and prints the line of a fault on
 /// `err`. The exit status is 0, or that of the fault, [`Fault::status`].
 ///
-/// An order whose number of workers is out of range is [`Fault::Usage`] before anything is read.
-/// After the statuses 2 to 6 nothing was written to `out`, after 7 a prefix of the report. A
-/// failing `err` changes no status.
-pub fn run_order<R: AllocGlobal, I: Read, O: Write, E: Write>(
+/// An order whose number of workers or threads is out of range is [`Fault::Usage`] before anything is read.
+/// After the statuses 2 to 6 nothing was written to `out`, after 7 a prefix. A failing `err` changes no status.
+pub fn run_order<R: AllocGlobal + Threads + Wait + Sync, I: Read, O: Write, E: Write>(
     rt: &R,
     order: &Order,
     reader: &mut I,
     out: &mut O,
     err: &mut E,
 ) -> u8
-    ensures ends { EndsBy result (workers_of order.now) (I.remaining reader.old)
-        (O.contents out.old) (O.contents out.new) }
-    ensures usage { (result ≡ 2) ↔ ¬ IsWorkerCount (workers_of order.now) }
-    ensures unread { ¬ IsWorkerCount (workers_of order.now) → Keeps (I.remaining reader.old) (I.remaining reader.new) }
+    ensures ends { EndsBy result order.now (I.remaining reader.old) (O.contents out.old) (O.contents out.new) }
+    ensures usage { (result ≡ 2) ↔ ¬ IsInRange order.now }
+    ensures unread { ¬ IsInRange order.now → Keeps (I.remaining reader.old) (I.remaining reader.new) }
 {
     match carry_out(rt, order, reader, out) {
         Ok(()) => 0,
@@ -41,25 +41,52 @@ pub fn run_order<R: AllocGlobal, I: Read, O: Write, E: Write>(
     }
 }
 
-fn carry_out<R: AllocGlobal, I: Read, O: Write>(
+fn carry_out<R: AllocGlobal + Threads + Wait + Sync, I: Read, O: Write>(
     rt: &R,
     order: &Order,
     reader: &mut I,
     out: &mut O,
 ) -> Result<(), Fault>
-    ensures whole { OnOk result (WritesReport (I.remaining reader.old) (O.contents out.old) (O.contents out.new)) }
-    ensures fault { IfErr result (λ f. LeavesBy f (workers_of order.now) (I.remaining reader.old)
-        (O.contents out.old) (O.contents out.new)) }
-    ensures usage { IsErrOf result Fault.Usage ↔ ¬ IsWorkerCount (workers_of order.now) }
-    ensures unread { ¬ IsWorkerCount (workers_of order.now) → Keeps (I.remaining reader.old) (I.remaining reader.new) }
+    ensures whole { OnOk result
+        (WritesOutput order.now (I.remaining reader.old) (O.contents out.old) (O.contents out.new)) }
+    ensures fault { IfErr result (λ f.
+        LeavesBy f order.now (I.remaining reader.old) (O.contents out.old) (O.contents out.new)) }
+    ensures usage { IsErrOf result Fault.Usage ↔ ¬ IsInRange order.now }
+    ensures unread { ¬ IsInRange order.now → Keeps (I.remaining reader.old) (I.remaining reader.new) }
 {
-    let Order::Replay { workers, .. } = order;
-    if !is_worker_count(*workers) {
+    if !is_in_range(order) {
         return Err(Fault::Usage);
     }
     let bytes = read_in(rt.alloc(), reader, MOST_BYTES)?;
-    let report = replay(rt, bytes.as_slice(), *workers)?;
-    write_out(report.as_slice(), out)
+    let text = output_of(rt, order, bytes.as_slice())?;
+    write_out(text.as_slice(), out)
+}
+
+/// Whether the order's number of workers or threads is in range.
+fn is_in_range(order: &Order) -> bool
+    ensures { IsTrue result ↔ IsInRange order.now }
+{
+    match order {
+        Order::Replay { workers, .. } => is_worker_count(*workers),
+        Order::Live { threads, .. } | Order::Book { threads, .. } => is_thread_count(*threads),
+    }
+}
+
+/// What the order makes of the bytes of a trace.
+fn output_of<R: AllocGlobal + Threads + Wait + Sync>(
+    rt: &R,
+    order: &Order,
+    bytes: &[u8],
+) -> Result<Vec<u8>, Fault>
+    ensures usage { IsErrOf result Fault.Usage ↔ ¬ IsInRange order.now }
+    ensures output { IfOk result (λ text. IsOutput order.now bytes.now text.items) }
+    ensures fault { IfErr result (IsOutputFault order.now bytes.now) }
+{
+    match order {
+        Order::Replay { workers, .. } => replay(rt, bytes, *workers),
+        Order::Live { threads, .. } => live_report(rt, bytes, *threads),
+        Order::Book { threads, .. } => book_text(rt, bytes, *threads),
+    }
 }
 
 /// Prints the line of a fault; where that fails nothing else can be done.

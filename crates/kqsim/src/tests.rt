@@ -1,5 +1,6 @@
 mod hints;
 mod library;
+mod living;
 mod merging;
 mod objects;
 mod program;

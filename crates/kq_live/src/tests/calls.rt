@@ -29,7 +29,7 @@ fn seats_share_one_system(rt: HostRuntime) -> Result<(), Fail> {
         told(live.call(&rt, &mut two, poll(alloc, 1))),
         Ok((5, 4, 1))
     );
-    let alone = live.try_call(&mut one, Event::Proc { pid: 2 });
+    let alone = live.try_call(&mut one, Event::Clock { ns: 0 });
     assert_eq!(rt; told(alone), Ok((6, 4, 0)));
     let book = live.close(one)?;
     assert_eq!(rt; book.len(), 6);

@@ -53,7 +53,7 @@ fn the_empty_trace_has_no_header(rt: HostRuntime) {
     assert_eq!(rt; fault.status(), 4);
 }
 
-fn words(rt: &HostRuntime, words: &[&str]) -> Result<Order, Fault> {
+pub fn words(rt: &HostRuntime, words: &[&str]) -> Result<Order, Fault> {
     parse_words(rt.alloc(), words)
 }
 
@@ -90,8 +90,6 @@ fn other_words_are_refused(rt: HostRuntime) {
         )
     );
     assert!(rt; matches!(words(&rt, &["--help"]), Err(Fault::Usage)));
-    assert!(rt; matches!(words(&rt, &["live", "f"]), Err(Fault::Usage)));
-    assert!(rt; matches!(words(&rt, &["book", "f"]), Err(Fault::Usage)));
 }
 
 #[test]

@@ -2,17 +2,20 @@
 use super::program::{REPORT, STORED, replay_of};
 use crate::fault::Fault;
 use crate::input::read_in;
+use crate::order::Order;
 use crate::output::write_out;
 use crate::running::run_order;
 use std::io;
 use std::io::{ErrorKind, Read, Write};
+use std::sync::Wait;
 use std::test::Fail;
+use std::thread::Threads;
 
 /// Gives one byte a read, and fails once it was read so often.
 #[derive(Drop)]
 struct Halting<'a> {
     bytes: &'a [u8],
-    reads: u32,
+    reads: usize,
     kind: ErrorKind,
 }
 
@@ -31,11 +34,28 @@ impl Read for Halting<'_> {
     }
 }
 
+/// Gives one byte a read, for ever, and counts the reads.
+#[derive(Drop)]
+struct Endless {
+    reads: u64,
+}
+
+impl Read for Endless {
+    fn read(&mut self, buf: &mut [u8]) -> io::Result<usize> {
+        self.reads = self.reads.wrapping_add(1);
+        if buf.is_empty() {
+            return Ok(0);
+        }
+        buf[0] = b' ';
+        Ok(1)
+    }
+}
+
 /// Takes one byte a write, and once it was written so often fails, or takes nothing more.
 #[derive(Drop)]
 struct Narrow {
     got: Vec<u8>,
-    writes: u32,
+    writes: usize,
     kind: Option<ErrorKind>,
 }
 
@@ -62,7 +82,7 @@ impl Write for Narrow {
     }
 }
 
-fn taking(rt: &HostRuntime, writes: u32, kind: Option<ErrorKind>) -> Narrow {
+fn taking(rt: &impl AllocGlobal, writes: usize, kind: Option<ErrorKind>) -> Narrow {
     Narrow {
         got: Vec::new(rt.alloc()),
         writes,
@@ -70,7 +90,7 @@ fn taking(rt: &HostRuntime, writes: u32, kind: Option<ErrorKind>) -> Narrow {
     }
 }
 
-fn giving(bytes: &[u8], reads: u32) -> Halting<'_> {
+fn giving(bytes: &[u8], reads: usize) -> Halting<'_> {
     Halting {
         bytes,
         reads,
@@ -88,6 +108,13 @@ fn a_limit_bounds_what_is_read(rt: HostRuntime) -> Result<(), Fail> {
     let mut five = giving(b"abcde", 9);
     assert!(rt; matches!(read_in(rt.alloc(), &mut five, 4), Err(Fault::Read)));
     Ok(())
+}
+
+#[test]
+fn a_reader_without_end_is_left(rt: HostRuntime) {
+    let mut endless = Endless { reads: 0 };
+    assert!(rt; matches!(read_in(rt.alloc(), &mut endless, 100), Err(Fault::Read)));
+    assert_eq!(rt; endless.reads, 101);
 }
 
 #[test]
@@ -162,6 +189,60 @@ fn a_wrong_number_is_refused_before_reading(rt: HostRuntime) -> Result<(), Fail>
     let mut err = taking(&rt, 0, None);
     assert_eq!(rt; run_order(&rt, &order, &mut reader, &mut out, &mut err), 2);
     assert_eq!(rt; out.got.len(), 0);
+    Ok(())
+}
+
+/// Whether the stored run ends with status 3 and nothing is written where the reader fails after so many reads.
+fn is_left_unread<R: AllocGlobal + Threads + Wait + Sync>(
+    rt: &R,
+    order: &Order,
+    reads: usize,
+) -> bool {
+    let mut reader = giving(STORED.as_bytes(), reads);
+    let mut out = taking(rt, 1000, None);
+    let mut err = taking(rt, 1000, None);
+    run_order(rt, order, &mut reader, &mut out, &mut err) == 3 && out.got.is_empty()
+}
+
+#[test]
+fn a_reader_may_fail_at_its_first_second_and_last_read(rt: HostRuntime) -> Result<(), Fail> {
+    let order = replay_of(&rt, 2, "-")?;
+    assert!(rt; is_left_unread(&rt, &order, 0));
+    assert!(rt; is_left_unread(&rt, &order, 1));
+    assert!(rt; is_left_unread(&rt, &order, STORED.len()));
+    Ok(())
+}
+
+/// Whether the stored run ends with status 7 where the writer takes so many bytes and then fails in this way, and what
+/// it took is the beginning of the report.
+fn is_cut_off<R: AllocGlobal + Threads + Wait + Sync>(
+    rt: &R,
+    order: &Order,
+    writes: usize,
+    kind: Option<ErrorKind>,
+) -> bool {
+    let mut reader = giving(STORED.as_bytes(), 1000);
+    let mut out = taking(rt, writes, kind);
+    let mut err = taking(rt, 1000, None);
+    run_order(rt, order, &mut reader, &mut out, &mut err) == 7
+        && out.got.len() == writes
+        && REPORT.as_bytes().starts_with(out.got.as_slice())
+}
+
+#[test]
+fn a_writer_may_fail_at_each_write(rt: HostRuntime) -> Result<(), Fail> {
+    let order = replay_of(&rt, 1, "-")?;
+    for writes in 0..REPORT.len() {
+        assert!(rt;
+            is_cut_off(&rt, &order, writes, Some(ErrorKind::Other)),
+            "an error at {writes}"
+        );
+        assert!(rt;
+            is_cut_off(&rt, &order, writes, Some(ErrorKind::Interrupted)),
+            "interrupted at {writes}"
+        );
+        assert!(rt; is_cut_off(&rt, &order, writes, None), "full at {writes}");
+    }
     Ok(())
 }
 

@@ -4,7 +4,8 @@ use Rattle.kq_objects.specs.Objects.{objects_of}
 use Rattle.kq_process.specs.Processes.{table_of, descriptor_in}
 use Rattle.kq_process.specs.World.{world_of}
 use Rattle.kq_process.proofs.Shared.{close_world}
-use Rattle.kq_process.proofs.Sound.{once-some, can-release_there, named-there, sound-closed}
+use Rattle.kq_process.proofs.NamesThere.{named-there}
+use Rattle.kq_process.proofs.Sound.{once-some, can-release_there, sound-closed}
 use Rattle.kq_process.proofs.world.World.close.Goals as goal
 
 pub overflow_sub-self : goal.overflow_sub-self

@@ -7,7 +7,7 @@ use Rattle.kq_process.specs.Processes.{table_of}
 use Rattle.kq_process.specs.World.{world_of, sharing}
 use Rattle.kq_process.proofs.Planned.{held_anyway}
 use Rattle.kq_process.proofs.Shared.{dup_same, dup_other, idle_world}
-use Rattle.kq_process.proofs.Sound.{named-there}
+use Rattle.kq_process.proofs.NamesThere.{named-there}
 use Rattle.kq_process.proofs.world.World.dup.Goals as goal
 
 pub returns-then-fd-to-clause-effect : goal.returns-then-fd-to-clause-effect

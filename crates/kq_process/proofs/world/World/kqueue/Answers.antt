@@ -10,7 +10,8 @@ use Rattle.kq_process.specs.Processes.{table_of, descriptor_in}
 use Rattle.kq_process.specs.World.{world_of}
 use Rattle.kq_process.proofs.Closing.{opened-anew}
 use Rattle.kq_process.proofs.Planned.{kqueue_plan, kqueue_world}
-use Rattle.kq_process.proofs.Sound.{none-there, sound-shared}
+use Rattle.kq_process.proofs.NamesThere.{none-there}
+use Rattle.kq_process.proofs.Sound.{sound-shared}
 use Rattle.kq_process.proofs.world.World.kqueue.Goals as goal
 
 pub invariant_of-self-2 : goal.invariant_of-self-2

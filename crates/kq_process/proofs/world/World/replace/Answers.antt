@@ -8,7 +8,8 @@ use Rattle.kq_objects.specs.Objects.{objects_of}
 use Rattle.kq_process.specs.Processes.{table_of, descriptor_in}
 use Rattle.kq_process.specs.World.{world_of}
 use Rattle.kq_process.proofs.Shared.{replace_world}
-use Rattle.kq_process.proofs.Sound.{can-release_there, can-hold_again, named-there, sound-replaced}
+use Rattle.kq_process.proofs.NamesThere.{named-there}
+use Rattle.kq_process.proofs.Sound.{can-release_there, can-hold_again, sound-replaced}
 use Rattle.kq_process.proofs.world.World.replace.Goals as goal
 
 -- the number was open, and is closed first

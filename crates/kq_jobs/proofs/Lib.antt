@@ -1,0 +1,4 @@
+pub mod Counting
+pub mod Drawing
+pub mod Claiming
+pub mod Collecting

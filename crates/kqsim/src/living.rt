@@ -1,0 +1,102 @@
+//! A trace on one live system.
+ghost use Rattle.std.specs.Prelude.{◌↔◌, IfErr, IfOk, IsErrOf};
+ghost use Rattle.kq_live.specs.Recorded.{IsRun};
+ghost use Rattle.kqsim.specs.Living.{IsBookOf, IsBookText, IsLiveFault, IsLiveReport, IsRunFault};
+ghost use Rattle.kqsim.specs.Workers.{IsThreadCount};
+
+use crate::fault::Fault;
+use crate::workers::is_thread_count;
+use kq_live::Book;
+use kq_merge::report_text;
+use kq_model::Trace;
+use kq_serve::{Always, Gate, Open, ServeError, Starts};
+use kq_trace::{TraceError, read_trace, write_trace};
+use std::sync::Wait;
+use std::thread::Threads;
+
+/// Runs the trace on one live system by so many threads, 1 to 64; any other number is [`Fault::Usage`],
+/// before all else. The gate is asked before each call, and `starts` before each thread is started.
+pub fn live_run_with<R: AllocGlobal + Threads + Wait + Sync, G: Gate + Sync, S: Starts>(
+    rt: &R,
+    trace: &Trace,
+    threads: u32,
+    gate: &G,
+    starts: &S,
+) -> Result<Book, Fault>
+    ensures threads { IsErrOf result Fault.Usage ↔ ¬ IsThreadCount threads }
+    ensures book { IfOk result (λ b. IsRun trace.now.version threads trace.now.events b) }
+    ensures fault { IfErr result (IsRunFault threads) }
+{
+    if !is_thread_count(threads) {
+        return Err(Fault::Usage);
+    }
+    match kq_live::live_run(rt, rt.alloc(), gate, starts, trace, threads) {
+        Ok(book) => Ok(book),
+        Err(ServeError::Spawn) => Err(Fault::Spawn),
+        Err(ServeError::Call(_)) => Err(Fault::Memory),
+    }
+}
+
+/// The same with a gate that holds nobody, where no start is refused beforehand.
+pub fn live_run<R: AllocGlobal + Threads + Wait + Sync>(
+    rt: &R,
+    trace: &Trace,
+    threads: u32,
+) -> Result<Book, Fault>
+    ensures threads { IsErrOf result Fault.Usage ↔ ¬ IsThreadCount threads }
+    ensures book { IfOk result (λ b. IsRun trace.now.version threads trace.now.events b) }
+    ensures fault { IfErr result (IsRunFault threads) }
+{
+    live_run_with(rt, trace, threads, &Open, &Always)
+}
+
+fn book_of<R: AllocGlobal + Threads + Wait + Sync>(
+    rt: &R,
+    bytes: &[u8],
+    threads: u32,
+) -> Result<Book, Fault>
+    ensures threads { IsErrOf result Fault.Usage ↔ ¬ IsThreadCount threads }
+    ensures book { IfOk result (λ b. IsBookOf bytes.now threads b) }
+    ensures fault { IfErr result (IsLiveFault bytes.now threads) }
+{
+    if !is_thread_count(threads) {
+        return Err(Fault::Usage);
+    }
+    match read_trace(rt, bytes) {
+        Ok(trace) => live_run(rt, &trace, threads),
+        Err(TraceError::Memory) => Err(Fault::Memory),
+        Err(TraceError::Bad { line, fault }) => Err(Fault::Trace { line, fault }),
+    }
+}
+
+/// The report of a book of the trace that the bytes are, run by so many threads, 1 to 64; any other
+/// number is [`Fault::Usage`], before all else.
+#[tactic(auto, unfolding(kq_model::specs::Report::report_of))]
+pub fn live_report<R: AllocGlobal + Threads + Wait + Sync>(
+    rt: &R,
+    bytes: &[u8],
+    threads: u32,
+) -> Result<Vec<u8>, Fault>
+    ensures threads { IsErrOf result Fault.Usage ↔ ¬ IsThreadCount threads }
+    ensures report { IfOk result (λ text. IsLiveReport bytes.now threads text.items) }
+    ensures fault { IfErr result (IsLiveFault bytes.now threads) }
+{
+    let book = book_of(rt, bytes, threads)?;
+    let rows = book.rows().map_err(|_| Fault::Memory)?;
+    report_text(rt.alloc(), rows.as_slice(), book.len() as u64).map_err(|_| Fault::Memory)
+}
+
+/// The canonical text of the trace of such a book.
+pub fn book_text<R: AllocGlobal + Threads + Wait + Sync>(
+    rt: &R,
+    bytes: &[u8],
+    threads: u32,
+) -> Result<Vec<u8>, Fault>
+    ensures threads { IsErrOf result Fault.Usage ↔ ¬ IsThreadCount threads }
+    ensures text { IfOk result (λ text. IsBookText bytes.now threads text.items) }
+    ensures fault { IfErr result (IsLiveFault bytes.now threads) }
+{
+    let book = book_of(rt, bytes, threads)?;
+    let trace = book.trace().map_err(|_| Fault::Memory)?;
+    write_trace(rt.alloc(), &trace).map_err(|_| Fault::Memory)
+}
