@@ -33,11 +33,15 @@ IsRunFault threads Memory = Unit {0}
 IsRunFault threads Spawn = Unit {0}
 IsRunFault threads Write = ⊥
 
--- the fault can come from these bytes and so many threads
+-- the bytes are a trace, whatever its events are
+abbrev pub IsTrace : List ℕ → Type 0
+IsTrace bytes = (version : ℕ) × (events : List Event) × (reading bytes ≡ Good version events)
+
+-- the fault can come from these bytes and so many threads: where they are no trace, no thread is started
 abbrev pub IsLiveFault : List ℕ → ℕ → Fault → Type 0
 IsLiveFault bytes threads Usage = ¬ IsThreadCount threads
 IsLiveFault bytes threads Read = ⊥
 IsLiveFault bytes threads (Trace line fault) = reading bytes ≡ Bad line fault
 IsLiveFault bytes threads Memory = Unit {0}
-IsLiveFault bytes threads Spawn = Unit {0}
+IsLiveFault bytes threads Spawn = IsTrace bytes
 IsLiveFault bytes threads Write = ⊥

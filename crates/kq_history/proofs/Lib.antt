@@ -1,0 +1,32 @@
+mod TimelineLemmas
+mod Rising
+mod Picked
+mod Known
+mod Places
+mod Sourced
+mod PickedPrivate
+mod Following
+mod Altering
+mod AccountedActs
+mod AccountedHolds
+mod RisingTables
+mod WithinRecords
+mod AnyWithin
+mod TouchedKeys
+mod UntouchedRecords
+mod NotedKeys
+mod NotedMarks
+mod SameValues
+mod ListedRecords
+mod TracedWorlds
+mod TrackedRecords
+mod TrackedNext
+pub mod Sayings
+mod FirstTracked
+mod PlainRows
+mod NamedKqueues
+mod SaidItems
+mod SaidNext
+pub mod PrivateOf
+mod SplitNext
+mod Events
