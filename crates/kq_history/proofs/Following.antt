@@ -86,7 +86,7 @@ shows-next place after pairs targets worlds next old new is shows numbers views 
     turned false x y = refl
 
 -- behind its last mark a timeline stays as it is
-settled : {V : Type 0} (place at : ℕ) (before : V) (ms : List (Mark V)) → IsUpTo place ms → place ≤ at
+pub settled : {V : Type 0} (place at : ℕ) (before : V) (ms : List (Mark V)) → IsUpTo place ms → place ≤ at
     → value_at at before ms ≡ last_value before ms
 settled place at before [] up later = refl
 settled place at before (m ∷ ms) up later =

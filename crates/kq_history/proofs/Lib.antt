@@ -14,6 +14,7 @@ mod WithinRecords
 mod AnyWithin
 mod TouchedKeys
 mod UntouchedRecords
+mod NamedTargets
 mod NotedKeys
 mod NotedMarks
 mod SameValues

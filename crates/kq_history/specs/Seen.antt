@@ -1,11 +1,15 @@
 -- What was seen of a world after each place, by its marks; and when that is what a trace's worlds show.
-use Rattle.std.specs.Prelude.{◌≡◌, ◌&&◌, ◌==◌, ℕ, Bool, [], None}
+use Rattle.std.specs.Prelude.{◌≡◌, ◌&&◌, ◌==◌, ◌++◌, ℕ, Bool, List, [], Option, None}
+use Rattle.std.specs.HashMap.{HashMap}
 use Rattle.kq_model.specs.contracts.object.TargetPartialEq.TheImpl as target_equal
+use Rattle.kq_model.specs.declared.object.Named.{Named}
 use Rattle.kq_model.specs.declared.object.Target.{Target}
 use Rattle.kq_model.specs.Views.{Views}
 use Rattle.kq_history.specs.declared.seen.Seen.{Seen}
+use Rattle.kq_history.specs.declared.timeline.Mark.{Mark}
 use Rattle.kq_history.specs.Timeline.{value_at}
 use Rattle.kq_history.specs.Timelines.{marks_at}
+use Rattle.kq_history.specs.Touched.{targets_named}
 
 abbrev pub pair_eq : ℕ × ℕ → ℕ × ℕ → Bool
 pair_eq a b = (a.0 == b.0) && (a.1 == b.1)
@@ -20,6 +24,11 @@ seen_by s place = record {
   descriptor = λ pid number. value_at place None (marks_at pair_eq s.numbers.table (pid, number));
   now = value_at place 0 s.clock;
 }
+
+-- the targets that a number names by its marks at a place, and in a world of these views
+abbrev pub named_around : {S : Type 0} → HashMap (ℕ × ℕ) (List (Mark (Option Named))) S → ℕ → Views → ℕ × ℕ → List Target
+named_around table place after p =
+    targets_named (value_at place None (marks_at pair_eq table p)) ++ targets_named (after.descriptor p.0 p.1)
 
 -- at every place what was seen is what these worlds show
 pub record Shows (worlds : ℕ → Views) (s : Seen) : Type 0 where

@@ -1,6 +1,6 @@
 -- What may be another one after a record: the numbers that it closed or speaks of, and those of a process that it
 -- started; what these name before it and after it, whom it told, and what it speaks of.
-use Rattle.std.specs.Prelude.{ℕ, ◌==◌, Bool, ◌&&◌, List, [], ◌∷◌, ◌++◌, map, Option, Some, None}
+use Rattle.std.specs.Prelude.{◌≡◌, ℕ, ◌==◌, Bool, true, ◌&&◌, List, [], ◌∷◌, ◌++◌, map, Option, Some, None}
 use Rattle.std.specs.List.{flat_map, list_any}
 use Rattle.kq_model.specs.declared.event.Event.{Event}
 use Rattle.kq_model.specs.declared.object.Named.{Named}
@@ -20,6 +20,10 @@ has_number pid number pairs = list_any (λ (p : ℕ × ℕ). (p.0 == pid) && (p.
 
 abbrev pub has_target : Target → List Target → Bool
 has_target t targets = list_any (λ x. target_eq x t) targets
+
+-- each of these is one of those
+abbrev pub AreAmong : List Target → List Target → Type 0
+AreAmong xs ys = (t : Target) → has_target t xs ≡ true → has_target t ys ≡ true
 
 -- ---- numbers
 
@@ -52,6 +56,10 @@ targets_of before after p = targets_named (before.descriptor p.0 p.1) ++ targets
 abbrev pub told_targets : List Posted → List Target
 told_targets hints = map (λ (p : Posted). p.0) hints
 
+-- besides those that its numbers name
+abbrev pub other_targets : Event → List Posted → List Target
+other_targets e hints = told_targets hints ++ spoken_targets e
+
 abbrev pub touched_targets : Event → List Posted → Views → Views → List (ℕ × ℕ) → List Target
 touched_targets e hints before after numbers =
-    flat_map (targets_of before after) numbers ++ (told_targets hints ++ spoken_targets e)
+    flat_map (targets_of before after) numbers ++ other_targets e hints

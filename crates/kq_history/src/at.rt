@@ -1,4 +1,3 @@
-use crate::seen::Seen;
 use crate::split::Split;
 use kq_filters::Views;
 use kq_model::{Named, Target, View};
@@ -25,30 +24,5 @@ impl<'s, 'a> Views for HistoryAt<'s, 'a> {
 
     fn now(&self) -> u64 {
         self.split.now(self.place)
-    }
-}
-
-/// What was noted of the world at a place.
-#[derive(Drop, Clone, Copy)]
-pub struct SeenAt<'s> {
-    pub(crate) seen: &'s Seen,
-    pub(crate) place: u64,
-}
-
-impl<'s> Views for SeenAt<'s> {
-    ghost use Rattle.kq_history.specs.Seen.{seen_by};
-
-    ghost sees = { λ h. seen_by h.seen.now h.place };
-
-    fn view(&self, target: Target) -> Option<View> {
-        self.seen.view(self.place, target)
-    }
-
-    fn descriptor(&self, pid: u32, number: u32) -> Option<Named> {
-        self.seen.descriptor(self.place, pid, number)
-    }
-
-    fn now(&self) -> u64 {
-        self.seen.now(self.place)
     }
 }

@@ -66,14 +66,15 @@ impl Log {
         Ok(picked)
     }
 
-    /// The items that come from these sources, in their order. It costs these items alone.
+    /// The items that come from these sources, in their order. It costs these items alone: those of
+    /// each source are a run in order, and the sort merges runs.
     pub fn pick(&self, sources: &[Source]) -> Result<Vec<Item>, Memory>
         requires distinct { IsDistinct source_eq sources.now }
         requires shelved { AreShelved self.now.items.items self.now.shelves.table }
         ensures { IfOk result (λ picked. picked.items ≡ filter (is_from sources.now) self.now.items.items) }
     {
         let mut numbers = self.numbers_of(sources)?;
-        numbers.sort_unstable();
+        numbers.sort().map_err(|_| Memory)?;
         self.items_at(numbers.as_slice())
     }
 }

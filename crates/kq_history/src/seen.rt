@@ -1,13 +1,15 @@
-ghost use Rattle.std.specs.Prelude.{◌≡◌, ℕ, ◌&&◌, nat_le, None, OnOk, if◌then◌else◌};
+ghost use Rattle.std.specs.Prelude.{◌≡◌, ◌++◌, ℕ, ◌&&◌, nat_le, None, OnOk, if◌then◌else◌};
+ghost use Rattle.std.specs.List.{flat_map};
 ghost use Rattle.kq_model.specs.Views as model;
 ghost use Rattle.kq_history.specs.Noted.{AreAllUpTo, IsNextWorld};
-ghost use Rattle.kq_history.specs.Seen.{pair_eq, IsBlank, seen_by, target_key, Shows};
+ghost use Rattle.kq_history.specs.Seen.{named_around, pair_eq, IsBlank, seen_by, target_key, Shows};
 ghost use Rattle.kq_history.specs.Timeline.{value_at};
 ghost use Rattle.kq_history.specs.Timelines.{marks_at, AreUpTo};
-ghost use Rattle.kq_history.specs.Touched.{has_number, has_target};
+ghost use Rattle.kq_history.specs.Touched.{has_number, has_target, targets_of, AreAmong};
 
 use crate::timeline::Timeline;
 use crate::timelines::Timelines;
+use crate::touched::add_both;
 use kq_filters::Views;
 use kq_model::{Memory, Named, Target, View};
 use std::alloc::Global;
@@ -55,31 +57,35 @@ impl Seen {
     }
 
     /// Notes the world after the record of a place: of the numbers and the targets that the record
-    /// touched, and of the clock. What is as it was has no mark. After Memory nothing is known.
+    /// touched, of the targets that these numbers name before it and after it, which it adds to the
+    /// others, and of the clock. What is as it was has no mark. After Memory nothing is known.
     pub fn note<V: Views>(
         &mut self,
         place: u64,
         numbers: &[(u32, u32)],
-        targets: &[Target],
+        targets: &mut Vec<Target>,
         views: &V,
     ) -> Result<(), Memory>
         requires { AreAllUpTo place self.old }
         ensures up_to { OnOk result (AreAllUpTo place self.new) }
         ensures shows { OnOk result ((worlds next : ℕ → model.Views)
-            → IsNextWorld place (V.sees views.now) numbers.now targets.now worlds next
+            → IsNextWorld place (V.sees views.now) numbers.now
+            (flat_map (targets_of (seen_by self.old place) (V.sees views.now)) numbers.now ++ targets.old.items) worlds next
             → Shows worlds self.old → Shows next self.new) }
     {
-        note_numbers(&mut self.numbers, place, numbers, views)?;
-        note_targets(&mut self.views, place, targets, views)?;
-        self.clock.note(place, 0, views.now())
+        note_numbers(&mut self.numbers, place, numbers, targets, views)?;
+        note_targets(&mut self.views, place, targets.as_slice(), views)?;
+        self.clock.note(place, 0, views.now())?;
+        Ok(())
     }
 }
 
-/// What these numbers name.
+/// What these numbers name, and the targets that they name before the place and after it.
 fn note_numbers<V: Views>(
     timelines: &mut Timelines<(u32, u32), Option<Named>>,
     place: u64,
     numbers: &[(u32, u32)],
+    targets: &mut Vec<Target>,
     views: &V,
 ) -> Result<(), Memory>
     requires { AreUpTo pair_eq place timelines.old.table }
@@ -89,10 +95,14 @@ fn note_numbers<V: Views>(
         ≡ (if has_number pid number numbers.now && nat_le place at
         then (V.sees views.now).descriptor pid number
         else value_at at None (marks_at pair_eq timelines.old.table (pid, number)))) }
+    ensures named { OnOk result (AreAmong
+        (flat_map (named_around timelines.old.table place (V.sees views.now)) numbers.now ++ targets.old.items)
+        targets.new.items) }
 {
     for number in numbers {
         let named = views.descriptor(number.0, number.1);
-        timelines.note(*number, place, None, named)?;
+        let had = timelines.note(*number, place, None, named)?;
+        add_both(targets, had, named)?;
     }
     Ok(())
 }

@@ -62,18 +62,22 @@ impl<V> Timeline<V> {
         self.marks.push(Mark { place, value }).map_err(|_| Memory)
     }
 
-    /// From this place on the value is this one. There is no mark where it is that one already.
-    pub fn note(&mut self, place: u64, before: V, value: V) -> Result<(), Memory>
+    /// From this place on the value is this one; what it was before is returned. There is no mark
+    /// where it was this one already.
+    pub fn note(&mut self, place: u64, before: V, value: V) -> Result<V, Memory>
     where
         V: Copy + Drop + PartialEq,
         requires { IsUpTo place self.old }
-        ensures { OnOk result (self.new
+        ensures had { IfOk result (λ had. had ≡ last_value before self.old) }
+        ensures pushed { OnOk result (self.new
             ≡ self.old ++ marked (not (V.eq (last_value before self.old) value)) place value) }
     {
-        if self.last(before) == value {
-            return Ok(());
+        let had = self.last(before);
+        if had == value {
+            return Ok(had);
         }
-        self.push(place, value)
+        self.push(place, value)?;
+        Ok(had)
     }
 
     /// The value behind all marks, else the value before them.

@@ -1,4 +1,4 @@
-ghost use Rattle.std.specs.Prelude.{◌≡◌, ◌++◌, ◌&&◌, [], not, OnOk};
+ghost use Rattle.std.specs.Prelude.{◌≡◌, ◌++◌, ◌&&◌, [], not, IfOk, OnOk};
 ghost use Rattle.kq_history.specs.Timeline.{last_value, marked, value_at};
 ghost use Rattle.kq_history.specs.Timelines.{marks_at, AreUpTo};
 
@@ -37,13 +37,15 @@ impl<K: Copy + Eq + Hash, V: Copy + Drop> Timelines<K, V> {
         }
     }
 
-    /// From this place on a key has this value; there is no mark where it has it already. A key has
-    /// `before` where it was never marked. After Memory nothing is known.
-    pub fn note(&mut self, key: K, place: u64, before: V, value: V) -> Result<(), Memory>
+    /// From this place on a key has this value; what it had is returned, which is `before` where it
+    /// was never marked. There is no mark where it has the value already. After Memory nothing is
+    /// known.
+    pub fn note(&mut self, key: K, place: u64, before: V, value: V) -> Result<V, Memory>
     where
         V: PartialEq,
         requires { AreUpTo K.eq place self.old.table }
-        ensures { OnOk result ((other : K) → marks_at K.eq self.new.table other
+        ensures had { IfOk result (λ had. had ≡ last_value before (marks_at K.eq self.old.table key)) }
+        ensures noted { OnOk result ((other : K) → marks_at K.eq self.new.table other
             ≡ marks_at K.eq self.old.table other ++ marked (K.eq key other
             && not (V.eq (last_value before (marks_at K.eq self.old.table key)) value)) place value) }
     {
@@ -51,11 +53,11 @@ impl<K: Copy + Eq + Hash, V: Copy + Drop> Timelines<K, V> {
             Some(timeline) => timeline.note(place, before, value),
             None => {
                 if before == value {
-                    return Ok(());
+                    return Ok(before);
                 }
                 let timeline = Timeline::one(self.alloc, place, value)?;
                 self.table.insert(key, timeline).map_err(|_| Memory)?;
-                Ok(())
+                Ok(before)
             }
         }
     }

@@ -1,16 +1,13 @@
 // What may be another one after a record. To name too much does no harm: what did not change is
 // noted as it was.
 ghost use Rattle.std.specs.Prelude.{◌≡◌, ◌++◌, ◌∷◌, [], OnOk};
-ghost use Rattle.std.specs.List.{flat_map};
 ghost use Rattle.kq_history.specs.Spoken.{file_targets, option_list, process_targets};
 ghost use Rattle.kq_history.specs.Touched.{keys_of, open_numbers, touched_numbers};
-ghost use Rattle.kq_history.specs.Touched.{targets_named, targets_of, told_targets, touched_targets};
-ghost use Rattle.kq_model.specs.World.{views_of};
+ghost use Rattle.kq_history.specs.Touched.{other_targets, targets_named, told_targets, AreAmong};
 ghost use Rattle.kq_process.specs.Processes.{descriptors_in};
 ghost use Rattle.kq_process.specs.World.{world_of};
 
 use crate::spoken::{first_number, second_number, spoken_file, spoken_process};
-use kq_filters::Views;
 use kq_model::{Event, Hint, Memory, Named, Target};
 use kq_process::{Effect, World};
 use std::alloc::Global;
@@ -31,30 +28,15 @@ impl Touched {
         }
     }
 
-    /// What this record touched, in place of what another one did. The world is that after the
-    /// record.
-    pub fn fill<B: Views>(
-        &mut self,
-        event: &Event,
-        effect: &Effect,
-        before: &B,
-        world: &World,
-    ) -> Result<(), Memory>
+    /// The numbers that this record touched, and the targets but those that its numbers name, in
+    /// place of what another one did. The world is that after the record.
+    pub fn fill(&mut self, event: &Event, effect: &Effect, world: &World) -> Result<(), Memory>
         ensures numbers { OnOk result (self.new.numbers.items
             ≡ touched_numbers event.now effect.now.closed (world_of world.now)) }
-        ensures targets { OnOk result (self.new.targets.items ≡ touched_targets event.now effect.now.hints
-            (B.sees before.now) (views_of (world_of world.now))
-            (touched_numbers event.now effect.now.closed (world_of world.now))) }
+        ensures targets { OnOk result (self.new.targets.items ≡ other_targets event.now effect.now.hints) }
     {
         put_numbers(&mut self.numbers, event, effect.closed.as_slice(), world)?;
-        put_targets(
-            &mut self.targets,
-            event,
-            effect.hints.as_slice(),
-            before,
-            world,
-            self.numbers.as_slice(),
-        )
+        put_targets(&mut self.targets, event, effect.hints.as_slice())
     }
 }
 
@@ -111,56 +93,62 @@ fn push_numbers(
     Ok(())
 }
 
-/// The targets of which something else may be seen after a record: what those numbers name before
-/// it and after it, whom it told, and what it speaks of.
-fn put_targets<B: Views, A: Views>(
+/// The targets of which something else may be seen after a record, besides those that its numbers
+/// name: whom it told, and what it speaks of.
+fn put_targets(
     targets: &mut Vec<Target>,
     event: &Event,
     hints: &[(Target, Hint)],
-    before: &B,
-    after: &A,
-    numbers: &[(u32, u32)],
 ) -> Result<(), Memory>
-    ensures { OnOk result (targets.new.items
-        ≡ touched_targets event.now hints.now (B.sees before.now) (A.sees after.now) numbers.now) }
+    ensures { OnOk result (targets.new.items ≡ other_targets event.now hints.now) }
 {
     targets.clear();
-    push_all_named(targets, before, after, numbers)?;
     push_told(targets, hints)?;
     push_process(targets, spoken_process(event))?;
     push_file(targets, spoken_file(event))
 }
 
-fn push_all_named<B: Views, A: Views>(
+/// Adds what filters may watch by a number that named one thing and names another.
+pub fn add_both(
     targets: &mut Vec<Target>,
-    before: &B,
-    after: &A,
-    numbers: &[(u32, u32)],
+    had: Option<Named>,
+    named: Option<Named>,
 ) -> Result<(), Memory>
-    ensures { OnOk result (targets.new.items
-        ≡ targets.old.items ++ flat_map (targets_of (B.sees before.now) (A.sees after.now)) numbers.now) }
+    ensures { OnOk result (AreAmong (targets_named had ++ targets_named named ++ targets.old.items) targets.new.items) }
 {
-    for number in numbers {
-        push_named(targets, before.descriptor(number.0, number.1))?;
-        push_named(targets, after.descriptor(number.0, number.1))?;
+    add_named(targets, had)?;
+    if had == named {
+        return Ok(());
     }
-    Ok(())
+    add_named(targets, named)
 }
 
-/// What filters may watch by a number.
-fn push_named(targets: &mut Vec<Target>, named: Option<Named>) -> Result<(), Memory>
-    ensures { OnOk result (targets.new.items ≡ targets.old.items ++ targets_named named) }
+/// Adds what filters may watch by a number.
+fn add_named(targets: &mut Vec<Target>, named: Option<Named>) -> Result<(), Memory>
+    ensures { OnOk result (AreAmong (targets_named named ++ targets.old.items) targets.new.items) }
 {
     match named {
         None | Some(Named::Kqueue(_)) => Ok(()),
-        Some(Named::Socket(place)) => push(targets, Target::Socket(place)),
-        Some(Named::PipeRead(place)) => push(targets, Target::Pipe(place)),
-        Some(Named::PipeWrite(place)) => push(targets, Target::Pipe(place)),
+        Some(Named::Socket(place)) => add(targets, Target::Socket(place)),
+        Some(Named::PipeRead(place)) => add(targets, Target::Pipe(place)),
+        Some(Named::PipeWrite(place)) => add(targets, Target::Pipe(place)),
         Some(Named::Open { description, file }) => {
-            push(targets, Target::Open(description))?;
-            push(targets, Target::File(file))
+            add(targets, Target::Open(description))?;
+            add(targets, Target::File(file))
         }
     }
+}
+
+/// Adds a target, unless it came last.
+fn add(targets: &mut Vec<Target>, target: Target) -> Result<(), Memory>
+    ensures { OnOk result (AreAmong (target ∷ targets.old.items) targets.new.items) }
+{
+    if let Some(last) = targets.last() {
+        if *last == target {
+            return Ok(());
+        }
+    }
+    targets.push(target).map_err(|_| Memory)
 }
 
 fn push(targets: &mut Vec<Target>, target: Target) -> Result<(), Memory>

@@ -7,7 +7,6 @@ ghost use Rattle.kq_history.specs.Noted.{AreAllUpTo};
 ghost use Rattle.kq_history.specs.Traced.{longer, Traced};
 ghost use Rattle.kq_history.specs.Tracked.{IsFollowed, IsNoted, IsTracked};
 
-use crate::at::SeenAt;
 use crate::seen::Seen;
 use crate::touched::Touched;
 use kq_model::{Event, Memory};
@@ -65,11 +64,6 @@ fn note(
     ensures noted { OnOk result (IsNoted place event.now effect.now.closed effect.now.hints (world_of world.now)
         seen.old seen.new) }
 {
-    let before = SeenAt {
-        seen: &*seen,
-        place,
-    };
-    touched.fill(event, effect, &before, world)?;
-    let numbers = touched.numbers.as_slice();
-    seen.note(place, numbers, touched.targets.as_slice(), world)
+    touched.fill(event, effect, world)?;
+    seen.note(place, touched.numbers.as_slice(), &mut touched.targets, world)
 }

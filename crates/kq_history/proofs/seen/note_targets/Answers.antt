@@ -23,7 +23,7 @@ loop-target-preserved g c =
     let old = c.loop-target.timelines.table in
     let had : Bool = view_eq (last_value None (marks_at target_key old x)) here in
     let came : (t : Target) → marks_at target_key c.note.new.self.table t
-    ≡ marks_at target_key old t ++ marked (target_key x t && not had) c.args.place here = c.in_ok-note.ensures in
+    ≡ marks_at target_key old t ++ marked (target_key x t && not had) c.args.place here = c.in_ok-note.ensures.noted in
     let put : (t : Target) → marks_at target_key c.note.new.self.table t
     ≡ marks_at target_key old t ++ marked (target_eq x t && not had) c.args.place here =
     λ t. came t ∙ ap (λ b. marks_at target_key old t ++ marked (b && not had) c.args.place here) (as_target x t) in

@@ -1,7 +1,7 @@
 use Rattle.std.proofs.Common.{◌≡◌, ◌∙◌, ◌++◌, ◌∷◌, [], Bool, false, not, None, Option, Some, List, sym, ap, ap₂, subst, rules}
 use Rattle.std.specs.HashMap.{get, Updates}
 use Rattle.std.specs.Option.{IsSome}
-use Rattle.std.proofs.lemmas.Result.{on_ok_weaker}
+use Rattle.std.proofs.lemmas.Result.{IfOk-weaker, on_ok_weaker}
 use Rattle.kq_history.specs.declared.timeline.Mark.{Mark}
 use Rattle.kq_history.specs.Timeline.{last_value, marked, IsUpTo}
 use Rattle.kq_history.specs.Timelines.{marks_at, or_none}
@@ -11,8 +11,13 @@ use Rattle.kq_history.proofs.timelines.Timelines.note.Goals as goal
 pub note-requires : goal.note-requires
 note-requires g c = subst (IsUpTo c.args.place) (ap or_none (sym c.in-Some.ensures.value)) (c.requires c.args.key)
 
-pub returns-in-Some : goal.returns-in-Some
-returns-in-Some g c =
+pub returns-in-Some-clause-had : goal.returns-in-Some-clause-had
+returns-in-Some-clause-had g c =
+    let found : get g.K.PartialEq.eq c.args.self.now.table c.args.key ≡ Some c.in-Some.timeline.now = sym c.in-Some.ensures.value in
+    IfOk-weaker c.note.result _ _ (λ had is. is ∙ ap (λ ms. last_value c.args.before ms) (sym (ap or_none found))) c.note.ensures.had
+
+pub returns-in-Some-clause-noted : goal.returns-in-Some-clause-noted
+returns-in-Some-clause-noted g c =
     let same = g.K.PartialEq.eq in
     let old = c.args.self.now.table in
     let key = c.args.key in
@@ -28,10 +33,10 @@ returns-in-Some g c =
     (pushed ∙ ap (λ ms. ms ++ marked (not (g.V.PartialEq.eq (last_value c.args.before ms) c.args.value)) c.args.place c.args.value)
     (sym (ap or_none found)))
     (writes.3 some).0 other)
-    c.note.ensures
+    c.note.ensures.pushed
 
-pub returns-in_ok-map_err-in-None : goal.returns-in_ok-map_err-in-None
-returns-in_ok-map_err-in-None g c =
+pub returns-in_ok-map_err-in-None-clause-noted : goal.returns-in_ok-map_err-in-None-clause-noted
+returns-in_ok-map_err-in-None-clause-noted g c =
     let same = g.K.PartialEq.eq in
     let old = c.args.self.now.table in
     let key = c.args.key in
