@@ -1,3 +1,3 @@
-pub mod FoldLemmas
 pub mod Played
+pub mod Replaying
 pub mod Living

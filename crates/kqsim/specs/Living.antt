@@ -5,6 +5,7 @@ use Rattle.kq_model.specs.Reading.{Good, Bad, reading}
 use Rattle.kq_model.specs.Report.{report_of}
 use Rattle.kq_model.specs.Spelling.{spelling}
 use Rattle.kq_live.specs.Recorded.{IsRun, Recorded}
+use Rattle.kqsim.specs.Replay.{IsTrace}
 use Rattle.kqsim.specs.Workers.{IsThreadCount}
 use Rattle.kqsim.specs.declared.fault.Fault.{Fault}
 use Rattle.kqsim.specs.declared.fault.Fault.TheVariants.{Usage, Read, Trace, Memory, Spawn, Write}
@@ -32,10 +33,6 @@ IsRunFault threads (Trace line fault) = ⊥
 IsRunFault threads Memory = Unit {0}
 IsRunFault threads Spawn = Unit {0}
 IsRunFault threads Write = ⊥
-
--- the bytes are a trace, whatever its events are
-abbrev pub IsTrace : List ℕ → Type 0
-IsTrace bytes = (version : ℕ) × (events : List Event) × (reading bytes ≡ Good version events)
 
 -- the fault can come from these bytes and so many threads: where they are no trace, no thread is started
 abbrev pub IsLiveFault : List ℕ → ℕ → Fault → Type 0
