@@ -18,3 +18,11 @@ private-requires g c =
 pub private-requires-2 : goal.private-requires-2
 private-requires-2 g c =
     stands (places_of c.in_ok-split.split) c.kqueues-kqueues.result.now 2 c.kqueues-kqueues.ensures (omega arith)
+
+pub answering-requires : goal.answering-requires
+answering-requires g c =
+    stands (places_of c.in_ok-split.split) c.kqueues-kqueues.result.now 0 c.kqueues-kqueues.ensures (omega arith)
+
+pub answering-requires-2 : goal.answering-requires-2
+answering-requires-2 g c =
+    stands (places_of c.in_ok-split.split) c.kqueues-kqueues.result.now 2 c.kqueues-kqueues.ensures (omega arith)
