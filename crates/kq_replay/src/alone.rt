@@ -77,7 +77,7 @@ impl<'s, 'a> Alone<'s, 'a> {
 
     /// Its rows so far.
     pub fn into_rows(self) -> Series<Row>
-        ensures { result ≡ self.rows }
+        ensures { result ≡ self.entry.rows }
     {
         let Alone { rows, .. } = self;
         Series::from_vec(rows)
