@@ -1,6 +1,6 @@
 -- Before its first call a kqueue has no knotes, so nothing makes a difference to it; and behind the last call nothing
 -- makes a row.
-use Rattle.std.proofs.Common.{◌≡◌, ◌==◌, ◌||◌, ◌++◌, ℕ, Bool, true, false, cond, eqb, List, [], ◌∷◌, Some, refl, sym, ap, ap₂, subst, ◌∙◌, arith}
+use Rattle.std.proofs.Common.{◌≡◌, ◌||◌, ◌++◌, ℕ, true, false, cond, eqb, List, [], ◌∷◌, Some, refl, sym, ap, ◌∙◌, arith}
 use Rattle.std.proofs.lemmas.Bool.{eqb-true, or_parts}
 use Rattle.kq_model.specs.declared.row.Row.{Row}
 use Rattle.kq_model.specs.Clock.{Span, clocked}
@@ -8,7 +8,6 @@ use Rattle.kq_model.specs.Close.{closed}
 use Rattle.kq_model.specs.Hearing.{tallying}
 use Rattle.kq_model.specs.Hints.{notified, knotes_noticing, queue_after_all}
 use Rattle.kq_model.specs.Kqueue.{empty_kqueue}
-use Rattle.kq_model.specs.Tallied.{Kqueue}
 use Rattle.kq_model.specs.Targets.{Posted}
 use Rattle.kq_model.specs.Views.{Views}
 use Rattle.kq_model.proofs.KnoteLaws.{by_test}
