@@ -1,6 +1,7 @@
 mod TimelineLemmas
 mod Rising
 mod Picked
+mod Between
 mod Known
 mod Places
 mod Sourced
@@ -29,5 +30,6 @@ mod NamedKqueues
 mod SaidItems
 mod SaidNext
 pub mod PrivateOf
+mod AnsweringOf
 mod SplitNext
 mod Events

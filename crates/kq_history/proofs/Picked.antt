@@ -32,7 +32,7 @@ module _ {X : Type 0} where
 
   -- ---- the places rise
 
-  standing-from : (test : X → Bool) (n from : ℕ) (xs : List X) → n ≤ from → AreFrom n (standing test from xs)
+  pub standing-from : (test : X → Bool) (n from : ℕ) (xs : List X) → n ≤ from → AreFrom n (standing test from xs)
   standing-from test n from [] le = tt
   standing-from test n from (x ∷ xs) le =
       by_test (λ b. AreFrom n (shelved b from ++ standing test (from + 1) xs)) (test x)
@@ -81,7 +81,7 @@ module _ (laws : IsEquivalence source_eq) (items : List Item) where
   not_listed s [] all = refl
   not_listed s (y ∷ ss) all = ap₂ (λ a b. a || b) all.0 (not_listed s ss all.1)
 
-  sources_merged : (sources : List Source) → IsDistinct source_eq sources → IsPermutation (all_standing items sources) (standing (is_from sources) 0 items)
+  pub sources_merged : (sources : List Source) → IsDistinct source_eq sources → IsPermutation (all_standing items sources) (standing (is_from sources) 0 items)
   unfolding IsDistinct
   sources_merged [] distinct = subst (IsPermutation []) (sym (standing-none 0 items)) (IsPermutation-refl [])
   sources_merged (s ∷ ss) distinct =

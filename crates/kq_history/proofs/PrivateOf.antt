@@ -30,7 +30,7 @@ target-is : (a b : Target) → source_eq (source.Of a) (source.Of b) ≡ target_
 unfolding target_eq
 target-is a b = search rules
 
-eq_is : (a b : Source) → source_eq a b ≡ same_source a b
+pub eq_is : (a b : Source) → source_eq a b ≡ same_source a b
 eq_is (source.Of a) (source.Of b) = target-is a b
 eq_is a b = search rules
 
@@ -49,11 +49,11 @@ place-at [] index b within = absurd (omega (arith, within))
 place-at (x ∷ bs) zero b within = refl
 place-at (x ∷ bs) (suc index) b within = place-at bs index b (omega (arith, within))
 
-abbrev no_birth : Birth
+abbrev pub no_birth : Birth
 no_birth = record { place = 0; owner = 0; number = 0 }
 
 -- the kqueue of a place is one of those that were born, with the sources of what concerns it
-named-there : (t : Traced) (said : Said) → IsSaid t said → (place : ℕ) (c : Concerned) → IsAtPlace place said.kqueues c
+pub named-there : (t : Traced) (said : Said) → IsSaid t said → (place : ℕ) (c : Concerned) → IsAtPlace place said.kqueues c
     → (index : ℕ) × (index < length (births_of t)) × ((get_or (births_of t) index no_birth).place ≡ place)
     × IsNamedBy (moments_of t) (get_or (births_of t) index no_birth) c
 named-there t said is place c at =

@@ -18,5 +18,6 @@ pub mod Sayings
 pub mod Plain
 pub mod Split
 pub mod Said
+pub mod BetweenCalls
 pub mod Private
 pub mod Heard

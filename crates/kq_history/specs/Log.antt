@@ -1,5 +1,5 @@
 -- Where the items of each source stand in a log.
-use Rattle.std.specs.Prelude.{◌≡◌, ℕ, ◌+◌, Bool, List, [], ◌∷◌, ◌++◌, slice_index_or}
+use Rattle.std.specs.Prelude.{◌≡◌, ℕ, ◌+◌, Bool, ◌&&◌, nat_le, List, [], ◌∷◌, ◌++◌, filter, slice_index_or}
 use Rattle.std.specs.List.{flat_map}
 use Rattle.std.specs.HashMap.{HashMap}
 use Rattle.kq_history.specs.declared.item.Item.{Item}
@@ -23,6 +23,14 @@ AreShelved items table = (s : Source) → shelf_at source_eq table s ≡ standin
 -- where those of these sources stand, source by source
 abbrev pub all_standing : List Item → List Source → List ℕ
 all_standing items sources = flat_map (λ s. standing (comes_from s) 0 items) sources
+
+-- from the one number to the other
+abbrev pub is_within : ℕ → ℕ → ℕ → Bool
+is_within first last number = nat_le first number && nat_le number last
+
+abbrev pub all_within : ℕ → ℕ → List Item → List Source → List ℕ
+all_within first last items sources =
+    flat_map (λ s. filter (is_within first last) (standing (comes_from s) 0 items)) sources
 
 -- the item that stands for none, behind the end
 abbrev pub no_item : Item

@@ -2,6 +2,7 @@
 //! that each kqueue can be replayed alone.
 #![tactic(auto)]
 
+mod answering;
 mod at;
 mod item;
 mod kqueues;
@@ -18,6 +19,7 @@ mod timelines;
 mod touched;
 mod tracking;
 
+pub use answering::Answering;
 pub use at::HistoryAt;
 pub use item::{Item, Source, What};
 pub use private::Private;

@@ -1,7 +1,9 @@
-ghost use Rattle.std.specs.Prelude.{◌≡◌, ◌<◌, ◌++◌, ◌∷◌, [], All, filter, length, map, IfOk, OnOk};
+ghost use Rattle.std.specs.Prelude.{◌≡◌, ◌<◌, ◌++◌, ◌∷◌, [], true, All, filter, length, map, IfOk, OnOk};
 ghost use Rattle.std.specs.List.{IsDistinct};
-ghost use Rattle.kq_history.specs.Items.{is_from, source_eq};
-ghost use Rattle.kq_history.specs.Log.{all_standing, item_at, AreShelved};
+ghost use Rattle.std.specs.List.Sorted.{IsNonDecreasing};
+ghost use Rattle.kq_history.specs.BetweenCalls.{between};
+ghost use Rattle.kq_history.specs.Items.{has_source, is_from, source_eq};
+ghost use Rattle.kq_history.specs.Log.{all_standing, all_within, comes_from, is_within, item_at, AreShelved};
 
 use crate::item::{Item, Source};
 use crate::shelves::Shelves;
@@ -77,4 +79,55 @@ impl Log {
         numbers.sort().map_err(|_| Memory)?;
         self.items_at(numbers.as_slice())
     }
+    /// Where the items of these sources stand from one number to another, source by source.
+    fn numbers_within(
+        &self,
+        sources: &[Source],
+        first: usize,
+        last: usize,
+    ) -> Result<Vec<usize>, Memory>
+        requires { AreShelved self.now.items.items self.now.shelves.table }
+        ensures { IfOk result (λ numbers. numbers.items ≡ all_within first last self.now.items.items sources.now) }
+    {
+        let mut numbers = Vec::new(self.alloc);
+        for source in sources {
+            let standing = self.shelves.at(*source);
+            numbers
+                .extend_from_slice(within(standing, first, last))
+                .map_err(|_| Memory)?;
+        }
+        Ok(numbers)
+    }
+
+    /// The items that come from these sources, from the first one of this source among them to its
+    /// last one, in their order. It costs these items, and two searches for each source.
+    pub fn pick_between(&self, sources: &[Source], source: Source) -> Result<Vec<Item>, Memory>
+        requires distinct { IsDistinct source_eq sources.now }
+        requires there { has_source sources.now source ≡ true }
+        requires shelved { AreShelved self.now.items.items self.now.shelves.table }
+        ensures { IfOk result (λ picked. picked.items
+            ≡ between (comes_from source) (filter (is_from sources.now) self.now.items.items)) }
+    {
+        let standing = self.shelves.at(source);
+        if standing.is_empty() {
+            return Ok(Vec::new(self.alloc));
+        }
+        let first = standing[0];
+        let last = standing[standing.len() - 1];
+        let mut chosen = self.numbers_within(sources, first, last)?;
+        chosen.sort().map_err(|_| Memory)?;
+        self.items_at(chosen.as_slice())
+    }
+}
+
+/// Those of rising numbers that are neither below the one nor above the other.
+fn within(numbers: &[usize], first: usize, last: usize) -> &[usize]
+    requires { IsNonDecreasing numbers.now }
+    ensures { result.now ≡ filter (is_within first last) numbers.now }
+{
+    let below = numbers.partition_point(|number| *number < first);
+    let (_, rest) = numbers.split_at(below);
+    let count = rest.partition_point(|number| *number <= last);
+    let (inside, _) = rest.split_at(count);
+    inside
 }

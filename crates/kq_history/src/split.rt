@@ -7,7 +7,9 @@ ghost use Rattle.kq_model.specs.Objects.{counted};
 ghost use Rattle.kq_model.specs.World as model;
 ghost use Rattle.std.specs.List.Sorted.{IsStrictlyIncreasing};
 
+use crate::answering::Answering;
 use crate::at::HistoryAt;
+use crate::item::Source;
 use crate::private::Private;
 use crate::said::{Before, Said};
 use crate::seen::Seen;
@@ -86,6 +88,25 @@ impl<'a> Split<'a> {
         let concerned = self.said.kqueues.of(kqueue);
         let items = self.said.log.pick(concerned.sources.as_slice())?;
         Ok(Private {
+            split: self,
+            kqueue,
+            owner: concerned.owner,
+            items,
+        })
+    }
+
+    /// What of that can show in its rows: the items from its first call to its last one. Its cost is
+    /// that of these items, and two searches for each source of what concerns the kqueue.
+    pub fn answering<'s>(&'s self, kqueue: u64) -> Result<Answering<'s, 'a>, Memory>
+        requires { IsBorn kqueue self.now }
+        ensures split { IfOk result (λ p. p.split.now ≡ self.now) }
+        ensures kqueue { IfOk result (λ p. p.kqueue ≡ kqueue) }
+    {
+        let kqueues = &self.said.kqueues;
+        let concerned = kqueues.of(kqueue);
+        let sources = concerned.sources.as_slice();
+        let items = self.said.log.pick_between(sources, Source::Kqueue(kqueue))?;
+        Ok(Answering {
             split: self,
             kqueue,
             owner: concerned.owner,

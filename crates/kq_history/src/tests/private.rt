@@ -47,7 +47,7 @@ fn poll(alloc: Global, pid: u32, fd: u32) -> Event {
 }
 
 /// Two kqueues of process 1 and one of its child watch number 3, and another socket takes it in
-/// process 1.
+/// process 1. When all calls are over, the child receives once more by the number.
 fn dup_over(alloc: Global) -> Result<Trace, Memory> {
     let events = [
         Event::Proc { pid: 1 },
@@ -75,6 +75,11 @@ fn dup_over(alloc: Global) -> Result<Trace, Memory> {
         poll(alloc, 1, 10),
         poll(alloc, 2, 9),
         read(alloc, 1, 9, EvFlags::DELETE)?,
+        Event::Rx {
+            pid: 2,
+            fd: 3,
+            n: 1,
+        },
     ];
     let events = Vec::from_array(alloc, events).map_err(|_| Memory)?;
     Ok(Trace {
@@ -119,18 +124,24 @@ fn private_lists_hold_what_concerns_each(rt: HostRuntime) -> Result<(), Fail> {
         closed,
         called(14, 2),
         called(17, 2),
+        told(18, Hint::Readable),
     ];
     let private = split.private(kqueues[0])?;
     assert_eq!(rt; private.items(), first.as_slice());
     assert_eq!(rt; private.owner(), 1);
+    let answering = split.answering(kqueues[0])?;
+    assert_eq!(rt; answering.items(), &first[1..6]);
     let child = [
         told(5, Hint::Writable),
         called(11, 8),
         told(12, Hint::Readable),
         called(16, 8),
+        told(18, Hint::Readable),
     ];
     let private = split.private(kqueues[2])?;
     assert_eq!(rt; private.items(), child.as_slice());
     assert_eq!(rt; private.owner(), 2);
+    let answering = split.answering(kqueues[2])?;
+    assert_eq!(rt; answering.items(), &child[1..4]);
     Ok(())
 }
