@@ -59,9 +59,12 @@ fn all_come<R: Threads + Wait + Sync, G: Gate + Sync, S: Starts>(
 fn one_kqueue_gives_its_rows(rt: HostRuntime) -> Result<(), Fail> {
     let trace = dup_over(rt.alloc())?;
     let split = Split::of(rt.alloc(), &trace)?;
-    let one = [split.private(8)?.replay()?];
-    let told = told(rt.alloc(), one.as_slice())?;
-    assert_eq!(rt; told.as_slice(), &EXPECTED[5..]);
+    let whole = [split.private(8)?.replay()?];
+    let whole = told(rt.alloc(), whole.as_slice())?;
+    assert_eq!(rt; whole.as_slice(), &EXPECTED[5..]);
+    let answering = [split.answering(8)?.replay()?];
+    let answering = told(rt.alloc(), answering.as_slice())?;
+    assert_eq!(rt; answering.as_slice(), &EXPECTED[5..]);
     Ok(())
 }
 
