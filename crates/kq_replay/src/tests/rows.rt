@@ -59,7 +59,10 @@ fn all_come<R: Threads + Wait + Sync, G: Gate + Sync, S: Starts>(
 fn one_kqueue_gives_its_rows(rt: HostRuntime) -> Result<(), Fail> {
     let trace = dup_over(rt.alloc())?;
     let split = Split::of(rt.alloc(), &trace)?;
-    let one = [split.private(8)?.replay()?];
+    let kqueues = split.kqueues();
+    assert_eq!(rt; kqueues, [2, 3, 8].as_slice());
+    assert_eq!(rt; kqueues.len(), 3);
+    let one = [split.private(kqueues[2])?.replay()?];
     let told = told(rt.alloc(), one.as_slice())?;
     assert_eq!(rt; told.as_slice(), &EXPECTED[5..]);
     Ok(())
