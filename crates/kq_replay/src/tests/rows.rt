@@ -59,10 +59,13 @@ fn all_come<R: Threads + Wait + Sync, G: Gate + Sync, S: Starts>(
 fn one_kqueue_gives_its_rows(rt: HostRuntime) -> Result<(), Fail> {
     let trace = dup_over(rt.alloc())?;
     let split = Split::of(rt.alloc(), &trace)?;
-    let whole = [split.private(8)?.replay()?];
+    let kqueues = split.kqueues();
+    assert_eq!(rt; kqueues, [2, 3, 8].as_slice());
+    assert_eq!(rt; kqueues.len(), 3);
+    let whole = [split.private(kqueues[2])?.replay()?];
     let whole = told(rt.alloc(), whole.as_slice())?;
     assert_eq!(rt; whole.as_slice(), &EXPECTED[5..]);
-    let answering = [split.answering(8)?.replay()?];
+    let answering = [split.answering(kqueues[2])?.replay()?];
     let answering = told(rt.alloc(), answering.as_slice())?;
     assert_eq!(rt; answering.as_slice(), &EXPECTED[5..]);
     Ok(())
