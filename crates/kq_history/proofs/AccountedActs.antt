@@ -1,5 +1,5 @@
 -- The plan of each record about objects: its hints, and what the record names, account for all that it does.
-use Rattle.std.proofs.Common.{◌≡◌, ◌∙◌, ◌==◌, ◌+◌, ◌-◌, not, nat_lt, nat_le, ◌&&◌, ◌||◌, eqb, ℕ, ℤ, Bool, true, false, cond, List, [], ◌∷◌, ◌++◌, map, Option, None, Some, Result, Ok, Err, refl, sym, ap, subst, if◌then◌else◌}
+use Rattle.std.proofs.Common.{◌≡◌, ◌∙◌, ◌==◌, ◌+◌, ◌-◌, not, nat_lt, ◌&&◌, ◌||◌, ℕ, ℤ, Bool, true, false, cond, List, [], ◌∷◌, ◌++◌, Option, None, Some, Ok, Err, refl, sym, ap}
 use Rattle.std.specs.Prelude.{All}
 use Rattle.std.specs.List.{list_any}
 use Rattle.std.specs.Option.{is_some}
@@ -20,11 +20,11 @@ use Rattle.kq_model.specs.declared.object.Target.{Target}
 use Rattle.kq_model.specs.declared.object.Target.TheVariants as target
 use Rattle.kq_model.specs.declared.why.Why.{Why}
 use Rattle.kq_model.specs.declared.why.Why.TheVariants.{WrongKind, TooMany, UsedFile}
-use Rattle.kq_model.specs.FilePlans.{extending, file_amount, grows, made_file, noted, opened, plan_file, plan_note, plan_open, plan_seek, plan_truncate, present, read_file, readable_each, reached, said, deletion, sized, sought, sought_in, truncated, write_file, written}
+use Rattle.kq_model.specs.FilePlans.{file_amount, made_file, noted, opened, plan_file, plan_note, plan_open, plan_seek, plan_truncate, present, read_file, readable_each, reached, said, deletion, sized, sought, sought_in, truncated, write_file, written}
 use Rattle.kq_model.specs.Files.{DescriptionState, FileState, may_read, may_write}
 use Rattle.kq_model.specs.Limits.{most_file_size}
 use Rattle.kq_model.specs.ListedFiles.{is_listed}
-use Rattle.kq_model.specs.ObjectPlan.{Planned, hints_for}
+use Rattle.kq_model.specs.ObjectPlan.{Planned}
 use Rattle.kq_model.specs.Objects.{Objects, counted, size_of}
 use Rattle.kq_model.specs.PipePlans.{pipe_plan, plan_at_pipe, plan_pipe}
 use Rattle.kq_model.specs.PipeSteps.{PipeStep, read_pipe, write_pipe}

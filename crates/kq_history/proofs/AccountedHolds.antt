@@ -1,5 +1,5 @@
 -- Descriptors that are shared and closed: what they name, and whom the last ones tell, accounts for all that is noted.
-use Rattle.std.proofs.Common.{◌≡◌, ◌∙◌, ℕ, Bool, true, false, cond, List, [], ◌∷◌, ◌++◌, map, Option, None, Some, refl, sym, ap}
+use Rattle.std.proofs.Common.{◌≡◌, ℕ, Bool, true, cond, List, [], ◌∷◌, ◌++◌, Option, None, Some, refl, sym, ap}
 use Rattle.std.specs.Prelude.{All}
 use Rattle.std.proofs.lemmas.Bool.{true≢false}
 use Rattle.std.proofs.lemmas.List.Elements.{All-nil, All-cons, All-head, All-tail, All-append, All-weaker}
@@ -18,7 +18,6 @@ use Rattle.kq_model.specs.Objects.{Objects, counted}
 use Rattle.kq_model.specs.ProcessPlans.{hold_all}
 use Rattle.kq_model.specs.Targets.{Posted}
 use Rattle.kq_model.proofs.KnoteLaws.{by_test}
-use Rattle.kq_model.proofs.ListFilters.{All-left, All-right}
 use Rattle.kq_history.specs.Accounts.{Accounts, resizes}
 use Rattle.kq_history.specs.Touched.{targets_named, told_targets}
 use Rattle.kq_history.proofs.AccountedActs.{HasAll}

@@ -1,5 +1,5 @@
 -- What a record's doings do not account for keeps its view.
-use Rattle.std.proofs.Common.{◌≡◌, ◌∙◌, ◌==◌, ◌&&◌, eqb, ℕ, pos, Bool, true, false, cond, List, [], ◌∷◌, Option, None, Some, option_map, refl, sym, ap, ap₂, if◌then◌else◌}
+use Rattle.std.proofs.Common.{◌≡◌, ◌∙◌, ◌==◌, ◌&&◌, eqb, ℕ, pos, Bool, true, false, cond, List, [], ◌∷◌, Option, None, Some, option_map, refl, sym, ap, if◌then◌else◌}
 use Rattle.std.specs.Prelude.{All}
 use Rattle.std.proofs.lemmas.Bool.{both_ways, eqb-true, false_from_ne_true}
 use Rattle.std.proofs.lemmas.List.Elements.{All-head, All-tail, All-weaker}
@@ -10,7 +10,7 @@ use Rattle.kq_model.specs.declared.doing.FileRecord.TheVariants as file
 use Rattle.kq_model.specs.declared.object.Target.{Target}
 use Rattle.kq_model.specs.declared.object.Target.TheVariants.{Socket, Pipe, Open, File, Process, Signal, Own}
 use Rattle.kq_model.specs.declared.object.View.TheVariants as view
-use Rattle.kq_model.specs.Files.{DescriptionState, FileState, file_after, no_file}
+use Rattle.kq_model.specs.Files.{DescriptionState, FileState, file_after}
 use Rattle.kq_model.specs.ListedFiles.{AreListed}
 use Rattle.kq_model.specs.Objects.{Objects, counted, done, all_done, size_of, description_view, view_of, told_of}
 use Rattle.kq_model.specs.Touching.{is_on, touches}

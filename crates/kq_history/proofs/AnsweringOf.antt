@@ -1,5 +1,5 @@
 -- Between its first call and its last one a private list has what comes between the first item of the kqueue and its last.
-use Rattle.std.proofs.Common.{◌≡◌, ◌∙◌, ◌==◌, ◌||◌, ℕ, Bool, true, false, cond, List, [], ◌∷◌, filter, get_or, refl, sym, ap, ap₂, subst}
+use Rattle.std.proofs.Common.{◌≡◌, ◌∙◌, ◌||◌, ℕ, Bool, true, cond, List, [], ◌∷◌, filter, get_or, refl, sym, ap, ap₂, subst}
 use Rattle.std.specs.List.{flat_map, list_any}
 use Rattle.std.proofs.lemmas.Bool.{eq-eqb, eqb-true}
 use Rattle.kq_model.specs.Items as model
@@ -13,7 +13,7 @@ use Rattle.kq_history.specs.declared.kqueues.Concerned.{Concerned}
 use Rattle.kq_history.specs.declared.said.Said.{Said}
 use Rattle.kq_history.specs.BetweenCalls.{between, between_calls, calls, from_first, is_call, to_last}
 use Rattle.kq_history.specs.Concerned.{private_items}
-use Rattle.kq_history.specs.Items.{bare, bare_items, bare_what, has_source, is_from, source_eq, source_of}
+use Rattle.kq_history.specs.Items.{bare_items, bare_what, has_source, is_from, source_eq, source_of}
 use Rattle.kq_history.specs.Kqueues.{IsAtPlace}
 use Rattle.kq_history.specs.Log.{comes_from}
 use Rattle.kq_history.specs.Private.{IsAnswering}

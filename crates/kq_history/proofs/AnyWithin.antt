@@ -1,9 +1,7 @@
 -- Any record stays within what it touches.
-use Rattle.std.proofs.Common.{◌≡◌, ◌∙◌, ℕ, ◌&&◌, ◌||◌, Bool, true, false, eq-eqb, List, [], ◌∷◌, ◌++◌, Some, refl, ap, ap₂}
-use Rattle.kq_model.specs.declared.act.Act.TheVariants as act
+use Rattle.std.proofs.Common.{◌≡◌, ℕ, ◌||◌, true, eq-eqb, List, [], ◌∷◌, refl, ap}
 use Rattle.kq_model.specs.declared.event.Event.{Event}
 use Rattle.kq_model.specs.declared.event.Event.TheVariants as event
-use Rattle.kq_model.specs.declared.object.Named.{Named}
 use Rattle.kq_model.specs.declared.object.Target.{Target}
 use Rattle.kq_model.specs.declared.object.Target.TheVariants as target
 use Rattle.kq_model.specs.Descriptors.{IsRising}

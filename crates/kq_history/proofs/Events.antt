@@ -1,5 +1,5 @@
 -- The event of the record at a place.
-use Rattle.std.proofs.Common.{◌≡◌, ◌∙◌, ◌+◌, ◌<◌, ◌≤◌, ℕ, zero, suc, List, length, get_or, Option, None, Some, Bor, ltb, refl, sym, ap, arith}
+use Rattle.std.proofs.Common.{◌≡◌, ◌∙◌, ◌+◌, ◌≤◌, ℕ, zero, suc, List, length, get_or, Option, None, Some, Bor, ltb, refl, sym, ap, arith}
 use Rattle.std.specs.List.{slice_get}
 use Rattle.std.specs.Option.{IfSome, MatchOption, is_some}
 use Rattle.std.proofs.lemmas.Bool.{ltb-false, ltb-true}

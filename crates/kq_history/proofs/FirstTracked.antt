@@ -1,5 +1,5 @@
 -- Before the first record: the empty world, of which nothing was seen.
-use Rattle.std.proofs.Common.{◌≡◌, ◌≤◌, ℕ, List, [], ◌∷◌, Option, None, take, refl, sym, ap, subst, ◌∙◌}
+use Rattle.std.proofs.Common.{◌≡◌, ℕ, List, [], ◌∷◌, None, take, refl, sym, ap, subst, ◌∙◌}
 use Rattle.std.proofs.lemmas.List.Elements.{All-nil}
 use Rattle.kq_model.specs.declared.object.Target.{Target}
 use Rattle.kq_model.specs.declared.object.Target.TheVariants.{Socket, Pipe, Open, File, Process, Signal, Own}
@@ -7,7 +7,7 @@ use Rattle.kq_model.specs.CountedWorld.{IsCountedWorld}
 use Rattle.kq_model.specs.Descriptors.{named_among}
 use Rattle.kq_model.specs.ListedFiles.{AreListed}
 use Rattle.kq_model.specs.Moments.{plans_from, world_after, world_at}
-use Rattle.kq_model.specs.Objects.{counted, quantities, view_of}
+use Rattle.kq_model.specs.Objects.{counted, view_of}
 use Rattle.kq_model.specs.OwnedRows.{plain_from}
 use Rattle.kq_model.specs.Processes.{process_of}
 use Rattle.kq_model.specs.World as model
@@ -18,11 +18,10 @@ use Rattle.kq_process.specs.declared.world.World.{World}
 use Rattle.kq_process.specs.World.{world_of}
 use Rattle.kq_history.specs.declared.seen.Seen.{Seen}
 use Rattle.kq_history.specs.declared.timeline.Mark.{Mark}
-use Rattle.kq_history.specs.Noted.{AreAllUpTo}
-use Rattle.kq_history.specs.Seen.{pair_eq, seen_by, target_key, IsBlank, Shows}
+use Rattle.kq_history.specs.Seen.{pair_eq, target_key, IsBlank}
 use Rattle.kq_history.specs.Timeline.{value_at, IsUpTo}
 use Rattle.kq_history.specs.Timelines.{marks_at}
-use Rattle.kq_history.specs.Traced.{Traced, plain_rows_of, seen_at}
+use Rattle.kq_history.specs.Traced.{plain_rows_of}
 use Rattle.kq_history.specs.Tracked.{IsTracked}
 
 no-view : (t : Target) → view_in (empty_world counted) t ≡ None

@@ -1,16 +1,15 @@
 -- What comes to sources that stand each once: nothing, one that was there, one that was not, and one part after the other.
-use Rattle.std.proofs.Common.{◌≡◌, ◌||◌, Bool, true, false, cond, List, [], ◌∷◌, ◌++◌, refl, sym, ap, ap₂, subst, ◌∙◌}
+use Rattle.std.proofs.Common.{◌≡◌, ◌||◌, Bool, true, false, cond, List, [], ◌∷◌, ◌++◌, refl, sym, ap, subst, ◌∙◌}
 use Rattle.std.specs.Cmp.{IsEquivalence}
 use Rattle.std.specs.HashSet.{contains}
-use Rattle.std.specs.List.{IsDistinct, list_any}
+use Rattle.std.specs.List.{IsDistinct}
 use Rattle.std.proofs.lemmas.List.Folds.{list_any-append}
 use Rattle.std.proofs.lemmas.Map.Keys.{IsDistinct-push}
 use Rattle.std.proofs.lemmas.Map.Steps.{list_any_congr}
-use Rattle.kq_model.proofs.KnoteLaws.{by_test}
 use Rattle.kq_history.specs.declared.item.Source.{Source}
 use Rattle.kq_history.specs.declared.sources.Sources.{Sources}
 use Rattle.kq_history.specs.Items.{has_source, source_eq}
-use Rattle.kq_history.specs.Sources.{AreKnown, Grows}
+use Rattle.kq_history.specs.Sources.{Grows}
 
 or_nothing : (b : Bool) → (b || false) ≡ b
 or_nothing true = refl

@@ -1,5 +1,5 @@
 -- Any record keeps each file's list of its open descriptions whole.
-use Rattle.std.proofs.Common.{◌≡◌, ℕ, pos, negsuc}
+use Rattle.std.proofs.Common.{ℕ, pos, negsuc}
 use Rattle.kq_model.specs.declared.act.Act.TheVariants as act
 use Rattle.kq_model.specs.declared.event.Event.{Event}
 use Rattle.kq_model.specs.declared.event.Event.TheVariants as event

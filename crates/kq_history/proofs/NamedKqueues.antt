@@ -1,8 +1,8 @@
 -- One moment more: what each kqueue is concerned by goes on to be its calls and what its changes name.
-use Rattle.std.proofs.Common.{◌≡◌, ◌≢◌, ◌∙◌, ◌<◌, ◌+◌, ◌||◌, ◌==◌, ℕ, zero, suc, Bool, true, false, cond, eqb, length, get_or, List, [], ◌∷◌, ◌++◌, map, Option, None, Some, refl, sym, ap, ap₂, subst, arith}
+use Rattle.std.proofs.Common.{◌≡◌, ◌≢◌, ◌∙◌, ◌<◌, ◌||◌, ◌==◌, ℕ, zero, suc, Bool, true, false, cond, length, get_or, List, [], ◌∷◌, ◌++◌, map, Option, None, Some, refl, sym, ap, ap₂, subst, arith}
 use Rattle.std.specs.Prelude.{All}
-use Rattle.std.specs.List.{flat_map, list_any}
-use Rattle.std.proofs.lemmas.Bool.{eqb-true, false_from_ne_true, true≢false}
+use Rattle.std.specs.List.{flat_map}
+use Rattle.std.proofs.lemmas.Bool.{eqb-true, true≢false}
 use Rattle.std.proofs.lemmas.Bool.Decides.{nat_tests}
 use Rattle.std.proofs.lemmas.List.{append-nil}
 use Rattle.std.proofs.lemmas.List.Elements.{All-head, All-tail}
@@ -22,7 +22,7 @@ use Rattle.kq_history.specs.declared.kqueues.Concerned.{Concerned}
 use Rattle.kq_history.specs.Items.{has_source, source_eq}
 use Rattle.kq_history.specs.Kqueues.{IsNew}
 use Rattle.kq_history.specs.Said.{AreNamedBy, CallsBelow, IsNamedBy}
-use Rattle.kq_history.specs.Sources.{AreKnown, Grows, call_sources, named_sources, reference_sources}
+use Rattle.kq_history.specs.Sources.{Grows, call_sources, named_sources, reference_sources}
 
 or_nothing : (b : Bool) → (b || false) ≡ b
 or_nothing true = refl

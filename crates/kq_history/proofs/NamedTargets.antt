@@ -1,6 +1,6 @@
 -- The targets that numbers name before a record and after it are among those that were added one number after the other.
-use Rattle.std.proofs.Common.{◌≡◌, ◌∙◌, ◌==◌, ◌&&◌, ◌||◌, ◌++◌, ◌∷◌, ◌-◌, ◌<◌, [], ℕ, zero, suc, Bool, true, false, length, get_or, take, List, Option, None, Some, refl, sym, ap, ap₂, subst, arith}
-use Rattle.std.specs.List.{flat_map, list_any, slice_get}
+use Rattle.std.proofs.Common.{◌≡◌, ◌∙◌, ◌==◌, ◌||◌, ◌++◌, ◌∷◌, ◌-◌, ◌<◌, [], ℕ, zero, suc, Bool, true, false, length, get_or, List, Option, Some, refl, sym, ap, ap₂, subst, arith}
+use Rattle.std.specs.List.{flat_map, slice_get}
 use Rattle.std.proofs.lemmas.Bool.{and_parts, eqb-true, false≢true}
 use Rattle.std.proofs.lemmas.List.{append-nil}
 use Rattle.std.proofs.lemmas.List.Folds.{list_any-append}

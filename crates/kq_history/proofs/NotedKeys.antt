@@ -1,5 +1,5 @@
 -- One key more among those that are gone through, and when two keys are the same.
-use Rattle.std.proofs.Common.{◌≡◌, ◌∙◌, ◌<◌, ◌+◌, ◌||◌, ◌&&◌, ◌==◌, ℕ, Bool, true, false, eqb, length, get_or, take, List, [], ◌∷◌, ◌++◌, refl, sym, ap, ap₂, rules}
+use Rattle.std.proofs.Common.{◌≡◌, ◌∙◌, ◌<◌, ◌+◌, ◌||◌, ◌==◌, ℕ, Bool, true, false, length, get_or, take, List, [], ◌∷◌, refl, ap, ap₂, rules}
 use Rattle.std.specs.List.{list_any}
 use Rattle.std.proofs.lemmas.Bool.{and_parts, eqb-true}
 use Rattle.std.proofs.lemmas.List.{take_more}

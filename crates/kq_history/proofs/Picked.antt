@@ -1,21 +1,20 @@
 -- Where the items of some sources stand, in rising order, gives the items of these sources in their order.
 use Rattle.std.proofs.Common.{◌≡◌, ◌+◌, ◌<◌, ◌≤◌, ◌||◌, ℕ, suc, Bool, true, false, cond, List, [], ◌∷◌, ◌++◌, map, filter, length, refl, sym, ap, ap₂, subst, ◌∙◌, arith}
 use Rattle.std.specs.Cmp.{IsEquivalence}
-use Rattle.std.specs.List.{All, AllByRecursion, IsDistinct, list_any, flat_map, sum_by}
-use Rattle.std.specs.List.Sorted.{IsPermutation, IsNonDecreasing}
-use Rattle.std.proofs.lemmas.Bool.{both_ways}
+use Rattle.std.specs.List.{All, AllByRecursion, IsDistinct, list_any}
+use Rattle.std.specs.List.Sorted.{IsPermutation}
 use Rattle.std.proofs.lemmas.List.{append_assoc, append-nil}
-use Rattle.std.proofs.lemmas.List.Elements.{All-nil, All-cons, All-weaker}
-use Rattle.std.proofs.lemmas.List.Sorted.{IsPermutation-refl, IsPermutation-trans, IsPermutation-cons, IsPermutation-middle, IsPermutation-append_right, IsPermutation-sym, sum_by-IsPermutation}
+use Rattle.std.proofs.lemmas.List.Elements.{All-nil, All-cons}
+use Rattle.std.proofs.lemmas.List.Sorted.{IsPermutation-refl, IsPermutation-trans, IsPermutation-cons, IsPermutation-middle, IsPermutation-append_right, sum_by-IsPermutation}
 use Rattle.std.proofs.lemmas.Map.Steps.{list_any_congr}
 use Rattle.kq_model.proofs.KnoteLaws.{by_test}
 use Rattle.kq_history.specs.declared.item.Item.{Item}
 use Rattle.kq_history.specs.declared.item.Source.{Source}
-use Rattle.kq_history.specs.Items.{source_eq, source_of, has_source, is_from}
+use Rattle.kq_history.specs.Items.{source_eq, source_of, is_from}
 use Rattle.std.specs.HashMap.{HashMap}
 use Rattle.kq_history.specs.Log.{standing, comes_from, all_standing, item_at, AreShelved}
 use Rattle.kq_history.specs.Shelves.{shelf_at, shelved}
-use Rattle.kq_history.proofs.Rising.{AreFrom, DoNotFall, from_less, one_order}
+use Rattle.kq_history.proofs.Rising.{AreFrom, DoNotFall, one_order}
 
 module _ {X : Type 0} where
   -- one element more

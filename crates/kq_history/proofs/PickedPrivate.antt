@@ -1,5 +1,5 @@
 -- What is picked from the log by the sources of a kqueue is its private list, item by item.
-use Rattle.std.proofs.Common.{◌≡◌, ℕ, Bool, true, false, cond, List, [], ◌∷◌, map, filter, refl, sym, ap, ◌∙◌}
+use Rattle.std.proofs.Common.{◌≡◌, ℕ, Bool, cond, List, [], ◌∷◌, filter, refl, ap, ◌∙◌}
 use Rattle.kq_model.specs.Births.{Birth}
 use Rattle.kq_model.specs.Items as model
 use Rattle.kq_model.specs.Moment.{Moment}

@@ -1,9 +1,8 @@
 -- One record more: its row, if it is impossible.
-use Rattle.std.proofs.Common.{◌≡◌, ◌∙◌, ◌+◌, ℕ, length, List, [], ◌∷◌, ◌++◌, Result, Ok, Err, refl, sym, ap, subst, arith}
+use Rattle.std.proofs.Common.{◌≡◌, ◌∙◌, ◌+◌, ℕ, length, [], ◌++◌, Result, Ok, Err, refl, sym, ap, subst}
 use Rattle.std.proofs.lemmas.Bool.{false≢true}
 use Rattle.std.specs.Prelude.{IsOk}
 use Rattle.kq_model.specs.declared.event.Event.{Event}
-use Rattle.kq_model.specs.declared.row.Row.{Row}
 use Rattle.kq_model.specs.declared.why.Why.{Why}
 use Rattle.kq_model.specs.Objects.{counted}
 use Rattle.kq_model.specs.OwnedRows.{plain_by, plain_from}

@@ -1,5 +1,5 @@
 -- What is picked by the sources of a kqueue is its private list.
-use Rattle.std.proofs.Common.{◌≡◌, ◌∙◌, ◌<◌, ◌+◌, ◌==◌, ◌&&◌, ◌||◌, ℕ, zero, suc, Bool, true, false, eqb, List, [], ◌∷◌, map, filter, length, get_or, refl, sym, ap, ap₂, subst, arith, rules}
+use Rattle.std.proofs.Common.{◌≡◌, ◌∙◌, ◌<◌, ◌==◌, ◌&&◌, ◌||◌, ℕ, zero, suc, Bool, true, false, List, [], ◌∷◌, map, filter, length, get_or, refl, sym, ap, ap₂, subst, arith, rules}
 use Rattle.std.specs.List.{Contains, list_any}
 use Rattle.std.proofs.lemmas.Bool.{and_from, and_parts, eq-eqb, eqb-true, false≢true}
 use Rattle.std.proofs.lemmas.List.{length-map}
@@ -15,15 +15,14 @@ use Rattle.kq_history.specs.declared.kqueues.Concerned.{Concerned}
 use Rattle.kq_history.specs.declared.said.Said.{Said}
 use Rattle.kq_model.proofs.KnoteLaws.{by_test}
 use Rattle.kq_history.specs.Concerned.{IsConcerned, private_items}
-use Rattle.kq_history.specs.Items.{bare_what, has_source, is_from, source_eq, source_of}
+use Rattle.kq_history.specs.Items.{bare_what, is_from, source_eq, source_of}
 use Rattle.kq_history.specs.Kqueues.{IsAtPlace}
 use Rattle.kq_history.specs.Private.{IsPrivate}
-use Rattle.kq_history.specs.Said.{AreNamedBy, IsNamedBy, IsSaid}
+use Rattle.kq_history.specs.Said.{IsNamedBy, IsSaid}
 use Rattle.kq_history.specs.Sources.{AreKnown}
 use Rattle.kq_history.specs.Traced.{Traced, births_of, moments_of}
 use Rattle.kq_history.proofs.NamedKqueues.{named-at}
 use Rattle.kq_history.proofs.PickedPrivate.{picked-private}
-use Rattle.kq_history.proofs.Places.{other-none}
 use Rattle.kq_history.proofs.Sourced.{own-source, same_source}
 
 target-is : (a b : Target) → source_eq (source.Of a) (source.Of b) ≡ target_eq b a

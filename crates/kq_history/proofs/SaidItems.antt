@@ -1,16 +1,13 @@
 -- The items that are pushed for a record are those of its moment.
-use Rattle.std.proofs.Common.{◌≡◌, ◌∙◌, ℕ, List, [], ◌∷◌, ◌++◌, map, Option, None, Some, refl, sym, ap, ap₂}
-use Rattle.std.specs.List.{flat_map}
+use Rattle.std.proofs.Common.{◌≡◌, ◌∙◌, ℕ, List, [], ◌∷◌, ◌++◌, map, Option, None, Some, refl, ap}
 use Rattle.std.proofs.lemmas.List.{append-nil, map-append}
 use Rattle.std.proofs.lemmas.Grind.{flat_map-append}
 use Rattle.kq_model.specs.Clock.{Span}
-use Rattle.kq_model.specs.Items as model
 use Rattle.kq_model.specs.Items.{What, Closed, Told, all_items, call_whats, clock_whats, items_at, items_in, whats}
 use Rattle.kq_model.specs.Moment.{Moment}
 use Rattle.kq_model.specs.Targets.{Posted}
 use Rattle.kq_model.specs.World.{Call}
 use Rattle.kq_process.specs.Effects.{pairs_in}
-use Rattle.kq_history.specs.declared.item.Item.{Item}
 use Rattle.kq_history.specs.Items.{bare, bare_items}
 use Rattle.kq_history.specs.Said.{called_items, said_items, said_whats}
 

@@ -1,5 +1,5 @@
 -- What was heard is what the trace with one record more says.
-use Rattle.std.proofs.Common.{◌≡◌, ◌≢◌, ◌∙◌, ◌<◌, ◌≤◌, ◌+◌, ℕ, Bool, true, false, length, get_or, List, [], ◌∷◌, ◌++◌, map, Option, None, Some, Result, Ok, Err, refl, sym, ap, ap₂, subst, arith}
+use Rattle.std.proofs.Common.{◌≡◌, ◌∙◌, ◌<◌, ◌+◌, ℕ, length, get_or, List, [], ◌∷◌, ◌++◌, map, Option, None, Some, Result, Ok, Err, refl, sym, ap, ap₂, subst, arith}
 use Rattle.std.specs.Prelude.{All, IsOk}
 use Rattle.std.proofs.lemmas.Bool.{false≢true}
 use Rattle.std.proofs.lemmas.List.{append-nil, length-append, length-map, map-append}
@@ -19,7 +19,7 @@ use Rattle.kq_model.specs.Moments.{moment_by, moments_from}
 use Rattle.kq_model.specs.Objects.{counted}
 use Rattle.kq_model.specs.Plans.{plan}
 use Rattle.kq_model.specs.Views.{Views}
-use Rattle.kq_model.specs.World.{World, Call, Plan, Planned, Impossible, Possible, carried_out, empty_world, named_by, seen_world, views_of}
+use Rattle.kq_model.specs.World.{World, Call, Plan, Planned, Impossible, Possible, carried_out, empty_world, named_by, views_of}
 use Rattle.kq_model.proofs.CountedTables.{named_among-all}
 use Rattle.kq_model.proofs.HistoryPushed.{births-push, moments-push}
 use Rattle.kq_model.proofs.SeenWorld.{seen-counted}
@@ -29,13 +29,11 @@ use Rattle.kq_history.specs.declared.kqueues.Kqueues.{Kqueues}
 use Rattle.kq_history.specs.declared.said.Said.{Said}
 use Rattle.kq_history.specs.Heard.{IsHeard, IsHeardBy, IsSaidOnce}
 use Rattle.kq_history.specs.Items.{bare_items}
-use Rattle.kq_history.specs.Kqueues.{IsNamedAt}
-use Rattle.kq_history.specs.Log.{AreShelved}
 use Rattle.kq_history.specs.Said.{AreHeard, AreNamedBy, CallsBelow, IsSaid, said_items}
 use Rattle.kq_history.specs.Sayings.{born_of, call_by, call_of, call_on, clock_of, kqueue_named, kqueue_of, Says, SaysBy}
 use Rattle.kq_history.specs.Sources.{Grows, call_sources}
 use Rattle.kq_history.specs.Traced.{Traced, births_of, longer, moments_of, places_of}
-use Rattle.kq_history.proofs.NamedKqueues.{all-called, all-quiet, named-length, new-named, one-more}
+use Rattle.kq_history.proofs.NamedKqueues.{all-called, all-quiet, new-named, one-more}
 use Rattle.kq_history.proofs.SaidItems.{items-longer, kqueue_in, said-parts}
 use Rattle.kq_history.proofs.Sayings.{says}
 use Rattle.kq_history.proofs.TracedWorlds.{end, now, past, pushed, reached}

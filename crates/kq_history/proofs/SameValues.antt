@@ -1,5 +1,5 @@
 -- Two values that the tests find equal are one.
-use Rattle.std.proofs.Common.{◌≡◌, ℕ, ℤ, Bool, nat_eq, true, false, Option, Some, None, refl, ap, ap₂}
+use Rattle.std.proofs.Common.{◌≡◌, ℕ, Bool, nat_eq, true, Option, Some, None, refl, ap, ap₂}
 use Rattle.std.specs.Option.{option_eq}
 use Rattle.std.specs.Cmp.{booleans_Decides}
 use Rattle.std.proofs.lemmas.Bool.{and_parts, eqb-true, false≢true}

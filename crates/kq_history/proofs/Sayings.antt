@@ -1,5 +1,5 @@
 -- What each possible record says of itself.
-use Rattle.std.proofs.Common.{◌≡◌, ℕ, ℤ, pos, negsuc, ◌==◌, nat_lt, ◌||◌, not, Bool, true, false, length, List, [], ◌∷◌, ◌++◌, Option, Some, None, Ok, Err, refl, sym, ap, subst, ◌∙◌, if◌then◌else◌}
+use Rattle.std.proofs.Common.{◌≡◌, ℕ, ℤ, pos, negsuc, ◌==◌, nat_lt, ◌||◌, not, Bool, length, List, [], ◌∷◌, ◌++◌, Some, None, Ok, Err, refl, sym, subst, if◌then◌else◌}
 use Rattle.std.specs.Option.{is_some}
 use Rattle.kq_model.specs.declared.act.Act.{Act}
 use Rattle.kq_model.specs.declared.act.Act.TheVariants as act

@@ -30,7 +30,7 @@ use Rattle.kq_history.specs.Traced.{Traced, births_of, longer, places_of}
 use Rattle.kq_history.specs.Tracked.{IsTracked}
 use Rattle.kq_history.proofs.NamedKqueues.{named-length}
 use Rattle.kq_history.proofs.SaidNext.{said-next}
-use Rattle.kq_history.proofs.TracedWorlds.{end, next, now, plans-length, world-longer}
+use Rattle.kq_history.proofs.TracedWorlds.{end, now, plans-length, world-longer}
 use Rattle.kq_history.proofs.TrackedRecords.{next-is}
 
 -- ---- the places of births rise

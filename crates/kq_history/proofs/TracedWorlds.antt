@@ -1,12 +1,11 @@
 -- A trace with one record more: the world at its end, and what is seen at each place.
-use Rattle.std.proofs.Common.{◌≡◌, ◌+◌, ◌<◌, ◌≤◌, ℕ, Bool, true, false, cond, ltb, length, List, [], ◌∷◌, ◌++◌, refl, sym, ap, ◌∙◌, arith}
+use Rattle.std.proofs.Common.{◌≡◌, ◌+◌, ◌≤◌, ℕ, false, cond, ltb, length, List, [], ◌∷◌, ◌++◌, refl, ap, ◌∙◌, arith}
 use Rattle.std.proofs.lemmas.Bool.{cond-false, le-ltb, ltb-false}
 use Rattle.kq_model.specs.declared.event.Event.{Event}
 use Rattle.kq_model.specs.Moments.{world_by, plans_from, world_at, world_after}
 use Rattle.kq_model.specs.Objects.{Keeping, counted}
 use Rattle.kq_model.specs.Plans.{plan}
 use Rattle.kq_model.specs.Projection.{plans}
-use Rattle.kq_model.specs.Views.{Views}
 use Rattle.kq_model.specs.World.{World, Planned, empty_world, seen_world, views_of}
 use Rattle.kq_model.proofs.HistoryPushed.{plans-push, world_at-push}
 use Rattle.kq_model.proofs.KnoteLaws.{by_test}

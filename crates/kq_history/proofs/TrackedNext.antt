@@ -1,5 +1,5 @@
 -- The world and what was seen of it are those of the trace with the record that was applied and followed.
-use Rattle.std.proofs.Common.{◌≡◌, ◌+◌, ◌≤◌, ℕ, Bool, true, false, length, List, [], ◌∷◌, ◌++◌, map, Result, Ok, Err, refl, sym, ap, subst, ◌∙◌, arith}
+use Rattle.std.proofs.Common.{◌≡◌, ◌+◌, ◌≤◌, ℕ, length, List, [], ◌∷◌, ◌++◌, Result, Ok, Err, refl, sym, ap, subst, ◌∙◌, arith}
 use Rattle.std.specs.Prelude.{IsOk}
 use Rattle.std.proofs.lemmas.Bool.{false≢true}
 use Rattle.std.proofs.lemmas.List.{length-append}
@@ -14,7 +14,7 @@ use Rattle.kq_model.specs.World as model
 use Rattle.kq_model.specs.World.{Plan, Planned, Impossible, Possible, carried_out, views_of}
 use Rattle.kq_process.specs.declared.effect.Effect.{Effect}
 use Rattle.kq_process.specs.declared.world.World.{World}
-use Rattle.kq_process.specs.Effects.{IsDone, IsEffectOf, IsRefused, world_after}
+use Rattle.kq_process.specs.Effects.{IsEffectOf, world_after}
 use Rattle.kq_process.specs.World.{world_of, IsEffectBy, IsNext}
 use Rattle.kq_history.specs.declared.seen.Seen.{Seen}
 use Rattle.kq_history.specs.declared.timeline.Mark.{Mark}
@@ -22,10 +22,10 @@ use Rattle.kq_history.specs.Noted.{AreAllUpTo, IsNextWorld}
 use Rattle.kq_history.specs.Seen.{pair_eq, seen_by, target_key, Shows}
 use Rattle.kq_history.specs.Timeline.{IsUpTo}
 use Rattle.kq_history.specs.Touched.{touched_numbers, touched_targets}
-use Rattle.kq_history.specs.Traced.{Traced, longer, seen_at, world_at_end}
+use Rattle.kq_history.specs.Traced.{Traced, longer, seen_at}
 use Rattle.kq_history.specs.Timelines.{marks_at}
 use Rattle.kq_history.specs.Tracked.{IsFollowed, IsFollowedBy, IsNoted, IsTracked}
-use Rattle.kq_history.proofs.TracedWorlds.{end, next, now, world-longer}
+use Rattle.kq_history.proofs.TracedWorlds.{end, now, world-longer}
 use Rattle.kq_history.proofs.TrackedRecords.{next-is, next-listed, next-stays, next-world, shows-still}
 
 pub up-later : (n m : ℕ) (s : Seen) → n ≤ m → AreAllUpTo n s → AreAllUpTo m s

@@ -1,6 +1,5 @@
 -- One record more: what was seen goes on to be that of the worlds, where all that the record touches was noted.
-use Rattle.std.proofs.Common.{◌≡◌, ◌+◌, ◌<◌, ◌≤◌, ℕ, Bool, true, false, cond, ltb, length, List, [], ◌∷◌, ◌++◌, map, Option, None, Some, Ok, Err, refl, sym, ap, ap₂, subst, ◌∙◌, arith}
-use Rattle.std.specs.Prelude.{All}
+use Rattle.std.proofs.Common.{◌≡◌, ◌+◌, ℕ, Bool, true, false, cond, ltb, List, ◌++◌, map, Option, refl, sym, ap, subst, ◌∙◌, arith}
 use Rattle.std.specs.List.{flat_map}
 use Rattle.std.proofs.Math.Path.{fun_ext}
 use Rattle.std.proofs.lemmas.Bool.{le-ltb}
@@ -9,22 +8,22 @@ use Rattle.kq_model.specs.declared.object.Named.{Named}
 use Rattle.kq_model.specs.declared.object.Target.{Target}
 use Rattle.kq_model.specs.declared.why.Why.{Why}
 use Rattle.kq_model.specs.CountedWorld.{IsCountedWorld}
-use Rattle.kq_model.specs.ListedFiles.{AreListed, KeepsLists, StaysListed}
+use Rattle.kq_model.specs.ListedFiles.{AreListed, KeepsLists}
 use Rattle.kq_model.specs.Moments.{world_by}
 use Rattle.kq_model.specs.Objects.{counted}
 use Rattle.kq_model.specs.Plans.{plan}
 use Rattle.kq_model.specs.Views.{Views}
-use Rattle.kq_model.specs.World.{World, Plan, Planned, Impossible, Possible, carried_out, named_by, views_of}
+use Rattle.kq_model.specs.World.{World, Plan, Impossible, Possible, carried_out, named_by, views_of}
 use Rattle.kq_history.specs.declared.seen.Seen.{Seen}
 use Rattle.kq_history.specs.Noted.{IsNextWorld}
 use Rattle.kq_history.specs.Seen.{seen_by, Shows}
-use Rattle.kq_history.specs.Touched.{has_number, has_target, targets_named, targets_of, told_targets, touched_numbers, touched_targets}
+use Rattle.kq_history.specs.Touched.{has_target, targets_named, told_targets, touched_numbers, touched_targets}
 use Rattle.kq_history.specs.Spoken.{spoken_targets}
-use Rattle.kq_history.specs.Traced.{Traced, longer, seen_at, world_at_end}
+use Rattle.kq_history.specs.Traced.{Traced, longer, seen_at}
 use Rattle.kq_history.proofs.AnyWithin.{any-within}
 use Rattle.kq_history.proofs.ListedRecords.{listed-record}
 use Rattle.kq_history.proofs.TouchedKeys.{to_pair}
-use Rattle.kq_history.proofs.TracedWorlds.{end, next, now, seen-longer, seen-stands, world-longer}
+use Rattle.kq_history.proofs.TracedWorlds.{end, next, now, seen-longer, seen-stands}
 use Rattle.kq_history.proofs.UntouchedRecords.{untouched_number, untouched_view}
 use Rattle.kq_history.specs.Within.{IsWithin, IsWithinRecord}
 use Rattle.kq_history.specs.Spoken.{spoken_numbers}

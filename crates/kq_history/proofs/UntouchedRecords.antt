@@ -1,33 +1,31 @@
 -- What a record does not touch is after it as it was: what a number names, and what is seen of a target.
-use Rattle.std.proofs.Common.{◌≡◌, ◌∙◌, ◌==◌, ℕ, ◌+◌, ◌&&◌, ◌||◌, Bool, true, false, cond, eqb, List, [], ◌∷◌, ◌++◌, map, Option, None, Some, refl, sym, ap, ap₂, subst}
+use Rattle.std.proofs.Common.{◌≡◌, ◌∙◌, ◌==◌, ℕ, ◌&&◌, ◌||◌, Bool, true, false, eqb, List, ◌++◌, map, Option, None, Some, refl, sym, ap, ap₂}
 use Rattle.std.specs.Prelude.{All}
 use Rattle.std.specs.List.{flat_map, list_any}
-use Rattle.std.proofs.lemmas.Bool.{and_parts, both_ways, eqb-true, false_from_ne_true, or_parts, true≢false}
-use Rattle.std.proofs.lemmas.List.Elements.{All-map, All-weaker}
+use Rattle.std.proofs.lemmas.Bool.{and_parts, both_ways, eqb-true, false_from_ne_true}
+use Rattle.std.proofs.lemmas.List.Elements.{All-map}
 use Rattle.kq_model.proofs.ListFilters.{All-both}
 use Rattle.std.proofs.lemmas.List.Folds.{list_any-append}
 use Rattle.kq_model.specs.declared.event.Event.{Event}
 use Rattle.kq_model.specs.declared.object.Target.{Target}
 use Rattle.kq_model.specs.declared.object.Target.TheVariants as target
 use Rattle.kq_model.specs.Close.{Pair, has_pair}
-use Rattle.kq_model.specs.Descriptors.{Descriptor, IsRising, named_among, with_descriptors, without_closed}
+use Rattle.kq_model.specs.Descriptors.{Descriptor, IsRising, named_among, without_closed}
 use Rattle.kq_model.specs.ListedFiles.{AreListed}
 use Rattle.kq_model.specs.Objects.{counted, all_done, view_of}
-use Rattle.kq_model.specs.ProcessPlans.{descriptors_of}
 use Rattle.kq_model.specs.Targets.{target_eq}
 use Rattle.kq_model.specs.TouchedNumbers.{born_numbers, pair_of}
 use Rattle.kq_model.specs.TouchedTargets.{starts, ends, is_touched}
-use Rattle.kq_model.specs.Views.{Views}
-use Rattle.kq_model.specs.World.{World, Plan, carried_out, named_by, view_in, views_of, with_kqueue}
+use Rattle.kq_model.specs.World.{World, Plan, carried_out, named_by, view_in, views_of}
 use Rattle.kq_model.proofs.KnoteLaws.{by_test}
 use Rattle.kq_model.proofs.UntouchedNumbers.{untouched-number}
 use Rattle.kq_model.proofs.UntouchedTargets.{untouched-target}
 use Rattle.kq_history.specs.Spoken.{spoken_file, spoken_numbers, spoken_process, spoken_targets}
-use Rattle.kq_history.specs.Touched.{has_number, has_target, keys_of, open_numbers, targets_named, targets_of, told_targets, touched_numbers, touched_targets}
+use Rattle.kq_history.specs.Touched.{has_number, has_target, open_numbers, targets_named, targets_of, told_targets, touched_numbers, touched_targets}
 use Rattle.kq_history.specs.Within.{IsWithin, PassesAll}
 use Rattle.kq_history.proofs.Altering.{unaltered}
 use Rattle.kq_history.proofs.RisingTables.{IsNamedIn, is_same, named-rising, opened-put, stand-there}
-use Rattle.kq_history.proofs.TouchedKeys.{all-have, in_left, in_right, named-have, none-passes, open-has, or_true, pairs-have, process-spoken, table-has, target-itself, to_pair}
+use Rattle.kq_history.proofs.TouchedKeys.{all-have, in_left, in_right, named-have, none-passes, open-has, pairs-have, process-spoken, table-has, to_pair}
 
 module _ (place : ℕ) (e : Event) (w : World counted) (p : Plan) (closed : List (ℕ × ℕ)) (shut : map to_pair closed ≡ p.closed)
     (within : IsWithin (spoken_numbers e) (spoken_targets e) w p) where

@@ -1,7 +1,6 @@
 -- Each record stays within what it touches.
-use Rattle.std.proofs.Common.{◌≡◌, ◌∙◌, ◌==◌, not, nat_lt, ◌&&◌, ◌||◌, eqb, eq-eqb, length, ℕ, ℤ, pos, negsuc, Bool, true, false, cond, List, [], ◌∷◌, ◌++◌, map, filter, Option, None, Some, Ok, Err, refl, sym, ap, ap₂, subst, if◌then◌else◌}
+use Rattle.std.proofs.Common.{◌≡◌, ◌∙◌, ◌==◌, not, nat_lt, ◌&&◌, ◌||◌, eq-eqb, length, ℕ, ℤ, pos, negsuc, Bool, true, false, List, [], ◌∷◌, ◌++◌, Option, None, Some, Ok, Err, refl, sym, ap, ap₂, subst, if◌then◌else◌}
 use Rattle.std.specs.Prelude.{All}
-use Rattle.std.specs.List.{list_any}
 use Rattle.std.specs.Option.{is_some}
 use Rattle.std.proofs.lemmas.Bool.{eqb-true, true≢false}
 use Rattle.std.proofs.lemmas.List.Elements.{All-nil, All-cons, All-head, All-tail, All-append, All-filter, All-map, All-weaker}
@@ -9,41 +8,34 @@ use Rattle.kq_model.specs.declared.act.Act.{Act}
 use Rattle.kq_model.specs.declared.act.Act.TheVariants as act
 use Rattle.kq_model.specs.declared.change.Change.{Change}
 use Rattle.kq_model.specs.declared.doing.Doing.{Doing}
-use Rattle.kq_model.specs.declared.doing.Doing.TheVariants.{ToSocket, ToPipe, ToDescription, ToFile}
-use Rattle.kq_model.specs.declared.doing.FileRecord.TheVariants as file
-use Rattle.kq_model.specs.declared.event.Event.{Event}
-use Rattle.kq_model.specs.declared.event.Event.TheVariants as event
 use Rattle.kq_model.specs.declared.mode.Mode.{Mode}
 use Rattle.kq_model.specs.declared.object.Named.{Named}
 use Rattle.kq_model.specs.declared.object.Named.TheVariants as named
 use Rattle.kq_model.specs.declared.object.Target.{Target}
 use Rattle.kq_model.specs.declared.object.Target.TheVariants as target
 use Rattle.kq_model.specs.declared.why.Why.{Why}
-use Rattle.kq_model.specs.declared.why.Why.TheVariants.{NoProcess, UsedDescriptor, UsedPid, ClockBack, TooMany, WrongKind}
+use Rattle.kq_model.specs.declared.why.Why.TheVariants.{UsedDescriptor, UsedPid, ClockBack, TooMany}
 use Rattle.kq_model.specs.Bits.{fork_note, exec_note, exit_note}
 use Rattle.kq_model.specs.Close.{Pair, has_pair}
 use Rattle.kq_model.specs.Descriptors.{Descriptor, IsRising, named_among}
 use Rattle.kq_model.specs.DescriptorPlans.{close_doings, close_hints, closes, duplicated, plan_call, plan_close, plan_dup, plan_kevent, plan_kqueue}
-use Rattle.kq_model.specs.Files.{DescriptionState, FileState, may_write}
-use Rattle.kq_model.specs.Holding.{close_hint, hold_doings, is_last, leaving, left, option_list, release, release_all, release_doings, release_hint, release_hints}
+use Rattle.kq_model.specs.Holding.{hold_doings, option_list, release_all, release_doings, release_hint, release_hints}
 use Rattle.kq_model.specs.Limits.{most_changes, most_room}
 use Rattle.kq_model.specs.ObjectPlan as object
 use Rattle.kq_model.specs.ObjectRecordPlans.{descriptor, pipe_ends, plan_accept, plan_act, plan_at, plan_open, plan_pipe, plan_socket, unless_open, with_objects}
-use Rattle.kq_model.specs.Objects.{Objects, counted}
+use Rattle.kq_model.specs.Objects.{counted}
 use Rattle.kq_model.specs.Planning as object_planning
-use Rattle.kq_model.specs.Plans.{plan}
 use Rattle.kq_model.specs.Processes.{ignored_by, ignores_none, process_of, was_used}
 use Rattle.kq_model.specs.ProcessPlans.{delivery, descriptors_of, hold_all, inheritable, inherited, is_signal, names_of, noted, pairs_of, plan_clock, plan_clock_at, plan_exec, plan_exit, plan_fork, plan_proc, plan_sig, plan_sigset}
-use Rattle.kq_model.specs.Targets.{Posted, target_eq}
+use Rattle.kq_model.specs.Targets.{target_eq}
 use Rattle.kq_model.specs.TouchedTargets.{starts, ends}
 use Rattle.kq_model.specs.World.{World, Plan, Planned, Impossible, Possible, idle, named_by}
 use Rattle.kq_model.proofs.KnoteLaws.{by_test}
 use Rattle.kq_model.proofs.ListFilters.{All-both}
 use Rattle.kq_model.proofs.PlanReasons.{if_live-holds, on_descriptor-holds, unless, unless_gone, unless_open-holds}
-use Rattle.kq_history.specs.Accounts.{Accounts, resizes}
-use Rattle.kq_history.specs.Spoken.{first_number, second_number, spoken_process, spoken_file, spoken_numbers, spoken_targets}
+use Rattle.kq_history.specs.Accounts.{Accounts}
 use Rattle.kq_history.specs.Touched.{has_number, has_target, targets_named, told_targets}
-use Rattle.kq_history.specs.Within.{HasEach, PassesAll, IsWithin, StaysWithin, IsWithinRecord}
+use Rattle.kq_history.specs.Within.{PassesAll, IsWithin, StaysWithin}
 use Rattle.kq_history.proofs.AccountedActs.{AreAccounted, accounted, act_targets}
 use Rattle.kq_history.proofs.AccountedHolds.{held-accounted, released-accounted, all_held-accounted, all_released-accounted}
 use Rattle.kq_history.proofs.RisingTables.{named-rising, pairs-there}

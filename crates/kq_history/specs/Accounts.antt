@@ -1,6 +1,6 @@
 -- Whose views a record's doings can alter: those of the objects themselves, and where the size of a file changes,
 -- those of the open descriptions on it.
-use Rattle.std.specs.Prelude.{◌≡◌, ℕ, Bool, true, false, List, [], ◌∷◌, All}
+use Rattle.std.specs.Prelude.{◌≡◌, ℕ, Bool, true, false}
 use Rattle.kq_model.specs.declared.doing.Doing.{Doing}
 use Rattle.kq_model.specs.declared.doing.Doing.TheVariants.{ToSocket, ToPipe, ToDescription, ToFile}
 use Rattle.kq_model.specs.declared.doing.FileRecord.{FileRecord}

@@ -1,5 +1,5 @@
 -- The sources of what concerns a kqueue, and its private list item by item.
-use Rattle.std.specs.Prelude.{◌≡◌, ℕ, List, [], ◌∷◌}
+use Rattle.std.specs.Prelude.{◌≡◌, ℕ, List}
 use Rattle.std.specs.List.{flat_map}
 use Rattle.kq_model.specs.Births.{Birth}
 use Rattle.kq_model.specs.Items as model

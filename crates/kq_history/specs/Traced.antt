@@ -1,5 +1,5 @@
 -- A trace as far as it was gone through: the version of its format and its events, and what its definitions say.
-use Rattle.std.specs.Prelude.{◌≡◌, ℕ, zero, suc, ◌+◌, List, ◌∷◌, [], ◌++◌, length, map, slice_get, Option, None}
+use Rattle.std.specs.Prelude.{ℕ, zero, suc, List, ◌∷◌, [], ◌++◌, map, slice_get, Option, None}
 use Rattle.std.specs.List.{Contains}
 use Rattle.kq_model.specs.declared.event.Event.{Event}
 use Rattle.kq_model.specs.declared.row.Row.{Row}

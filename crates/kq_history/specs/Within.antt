@@ -1,7 +1,7 @@
 -- What a record does stays within what it touches: it opens no numbers but those that it speaks of and those of a
 -- process that it starts, and what it alters is accounted for by whom it tells, by what it speaks of, and by what its
 -- numbers name before it and after it.
-use Rattle.std.specs.Prelude.{◌≡◌, ℕ, Bool, true, ◌||◌, List, Option, Some, All}
+use Rattle.std.specs.Prelude.{◌≡◌, ℕ, Bool, true, ◌||◌, List, Some, All}
 use Rattle.kq_model.specs.declared.event.Event.{Event}
 use Rattle.kq_model.specs.declared.object.Target.{Target}
 use Rattle.kq_model.specs.declared.object.Target.TheVariants.{Process}

@@ -65,5 +65,10 @@ fn note(
         seen.old seen.new) }
 {
     touched.fill(event, effect, world)?;
-    seen.note(place, touched.numbers.as_slice(), &mut touched.targets, world)
+    seen.note(
+        place,
+        touched.numbers.as_slice(),
+        &mut touched.targets,
+        world,
+    )
 }

@@ -1,7 +1,6 @@
 use Rattle.std.proofs.Common.{◌≡◌, ◌++◌, ◌∷◌, [], rules}
 use Rattle.std.specs.Result.{OnOk}
 use Rattle.std.proofs.lemmas.Result.{on_ok_weaker}
-use Rattle.kq_history.specs.declared.kqueues.Concerned.{Concerned}
 use Rattle.kq_history.specs.Kqueues.{IsNew}
 use Rattle.kq_history.proofs.kqueues.Kqueues.bear.Goals as goal
 

@@ -1,11 +1,11 @@
-use Rattle.std.proofs.Common.{◌≡◌, ◌<◌, All, List, ℕ, length, map, filter, sym, ap, subst, ◌∙◌, rules}
+use Rattle.std.proofs.Common.{◌≡◌, ◌<◌, All, List, ℕ, length, map, sym, ap, subst, ◌∙◌, rules}
 use Rattle.std.specs.List.Sorted.{IsPermutation, IsSortedByKey}
 use Rattle.std.specs.Ordering.{nat_cmp}
 use Rattle.std.proofs.lemmas.List.Sorted.{IsNonDecreasingBy-from_sort}
 use Rattle.std.proofs.lemmas.Result.{IfOk-weaker}
 use Rattle.kq_history.specs.contracts.item.SourceEq.TheImpl.Laws.{laws-law}
 use Rattle.kq_history.specs.Items.{is_from}
-use Rattle.kq_history.specs.Log.{all_standing, item_at, standing}
+use Rattle.kq_history.specs.Log.{item_at, standing}
 use Rattle.kq_history.proofs.Picked.{sorted_is, standing-inside, read_all}
 use Rattle.kq_history.proofs.Rising.{do_not_fall}
 use Rattle.kq_history.proofs.log.Log.pick.Goals as goal

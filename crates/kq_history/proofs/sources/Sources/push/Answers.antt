@@ -1,8 +1,6 @@
-use Rattle.std.proofs.Common.{◌≡◌, ◌++◌, ◌∷◌, [], cond, true, rules}
-use Rattle.std.specs.HashSet.{contains, Updates}
-use Rattle.std.proofs.lemmas.Result.{on_ok_weaker}
+use Rattle.std.proofs.Common.{◌≡◌, ◌++◌, ◌∷◌, [], true, rules}
+use Rattle.std.specs.HashSet.{Updates}
 use Rattle.kq_history.specs.contracts.item.SourceEq.TheImpl.Laws.{laws-law}
-use Rattle.kq_history.specs.declared.item.Source.{Source}
 use Rattle.kq_history.specs.Items.{source_eq}
 use Rattle.kq_history.proofs.Known.{grows-by}
 use Rattle.kq_history.proofs.sources.Sources.push.Goals as goal

@@ -1,4 +1,4 @@
-use Rattle.std.proofs.Common.{◌≡◌, ◌∙◌, ◌+◌, ℕ, sym, ap, arith, rules}
+use Rattle.std.proofs.Common.{◌≡◌, ◌∙◌, ◌+◌, sym, ap, arith, rules}
 use Rattle.kq_history.specs.Traced.{Traced, event_at}
 use Rattle.kq_history.proofs.Events.{event-behind, event-found, event-none}
 use Rattle.kq_history.proofs.split.Split.event.Goals as goal
