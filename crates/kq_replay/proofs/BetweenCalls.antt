@@ -1,25 +1,44 @@
 -- Before its first call a kqueue has no knotes, so nothing makes a difference to it; and behind the last call nothing
 -- makes a row.
-use Rattle.std.proofs.Common.{◌≡◌, ◌==◌, ◌||◌, ◌++◌, ℕ, Bool, true, false, cond, eqb, List, [], ◌∷◌, refl, sym, ap, ap₂, subst, ◌∙◌, arith}
+use Rattle.std.proofs.Common.{◌≡◌, ◌||◌, ◌++◌, ℕ, true, false, cond, eqb, List, [], ◌∷◌, Some, refl, sym, ap, ◌∙◌, arith}
 use Rattle.std.proofs.lemmas.Bool.{eqb-true, or_parts}
+use Rattle.std.proofs.lemmas.List.Elements.{All-nil, All-cons, All-head, All-tail}
+use Rattle.std.specs.List.{All, list_any}
 use Rattle.kq_model.specs.declared.row.Row.{Row}
 use Rattle.kq_model.specs.Clock.{Span, clocked}
 use Rattle.kq_model.specs.Close.{closed}
 use Rattle.kq_model.specs.Hearing.{tallying}
 use Rattle.kq_model.specs.Hints.{notified, knotes_noticing, queue_after_all}
 use Rattle.kq_model.specs.Kqueue.{empty_kqueue}
-use Rattle.kq_model.specs.Tallied.{Kqueue}
 use Rattle.kq_model.specs.Targets.{Posted}
-use Rattle.kq_model.specs.Views.{Views}
 use Rattle.kq_model.proofs.KnoteLaws.{by_test}
 use Rattle.kq_model.proofs.PrivateParts as parts
 use Rattle.kq_history.specs.declared.item.Item.{Item}
 use Rattle.kq_history.specs.declared.item.What.{What}
 use Rattle.kq_history.specs.declared.item.What.TheVariants as what
+use Rattle.kq_history.specs.BetweenCalls.{between_calls, calls, from_first, is_call, to_last}
 use Rattle.kq_history.specs.Traced.{Traced, event_at}
 use Rattle.kq_replay.specs.Alone.{LoneKqueue, after_item, after_items, arrived, called, gone_on, heard, unborn}
-use Rattle.kq_replay.specs.BetweenCalls.{between_calls, from_call, has_call, is_call, to_call}
 use Rattle.kq_replay.proofs.AtOnePlace.{no_names}
+
+-- ---- what holds of each item
+
+module _ (P : Item → Type 0) where
+  from-each : (is : List Item) → All P is → All P (from_first calls is)
+  unfolding from_first
+  from-each [] all = all
+  from-each (i ∷ is) all =
+      by_test (λ b. All P (cond b (i ∷ is) (from_first calls is))) (calls i) (λ _. all) (λ _. from-each is (All-tail P i is all))
+
+  to-each : (is : List Item) → All P is → All P (to_last calls is)
+  unfolding to_last
+  to-each [] all = all
+  to-each (i ∷ is) all =
+      by_test (λ b. All P (cond b (i ∷ to_last calls is) [])) (calls i || list_any calls is)
+      (λ _. All-cons P i (to_last calls is) (All-head P i is all) (to-each is (All-tail P i is all))) (λ _. All-nil P)
+
+  pub each-between : (is : List Item) → All P is → All P (between_calls is)
+  each-between is all = to-each (from_first calls is) (from-each is all)
 
 -- ---- behind the last call
 
@@ -39,29 +58,25 @@ item-rows : (i : Item) (a : LoneKqueue) → is_call i.what ≡ false → (after_
 unfolding after_item
 item-rows i a none = gone-rows i.what (arrived i.place a) none ∙ arrived-rows i.place a
 
-no-rows : (is : List Item) (a : LoneKqueue) → has_call is ≡ false → (after_items is a).rows ≡ a.rows
+no-rows : (is : List Item) (a : LoneKqueue) → list_any calls is ≡ false → (after_items is a).rows ≡ a.rows
 unfolding after_items
 no-rows [] a none = refl
 no-rows (i ∷ is) a none =
-    let both = or_parts (is_call i.what) (has_call is) none in
+    let both = or_parts (calls i) (list_any calls is) none in
     no-rows is (after_item i a) both.1 ∙ item-rows i a both.0
 
-last-call : (is : List Item) (a : LoneKqueue) → (after_items (to_call is) a).rows ≡ (after_items is a).rows
-unfolding to_call after_items
+last-call : (is : List Item) (a : LoneKqueue) → (after_items (to_last calls is) a).rows ≡ (after_items is a).rows
+unfolding to_last after_items
 last-call [] a = refl
 last-call (i ∷ is) a =
-    by_test (λ b. (is_call i.what || has_call is) ≡ b → (after_items (cond b (i ∷ to_call is) []) a).rows ≡ (after_items is (after_item i a)).rows)
-    (is_call i.what || has_call is) (λ _ _. last-call is (after_item i a)) (λ _ none. sym (no-rows (i ∷ is) a none)) refl
+    by_test (λ b. (calls i || list_any calls is) ≡ b → (after_items (cond b (i ∷ to_last calls is) []) a).rows ≡ (after_items is (after_item i a)).rows)
+    (calls i || list_any calls is) (λ _ _. last-call is (after_item i a)) (λ _ none. sym (no-rows (i ∷ is) a none)) refl
 
 -- ---- before the first call
 
 -- it has no knotes; nothing else differs from another that has none but its place and what it was told
 abbrev idle : Traced → ℕ → ℕ → List Posted → List Row → LoneKqueue
 idle t owner place told rows = record { trace = t; owner = owner; place = place; told = told; kq = empty_kqueue; rows = rows }
-
-empty-heard : (views : Views) (hints : List Posted) → notified views hints empty_kqueue ≡ empty_kqueue
-unfolding notified knotes_noticing queue_after_all
-empty-heard views hints = refl
 
 -- once its place is reached and the hints are heard, a kqueue without knotes is the same wherever it was
 all-one : (t : Traced) (owner low place : ℕ) (told : List Posted) (rows : List Row)
@@ -71,8 +86,8 @@ all-one t owner low place told rows =
     by_test (λ b. eqb place low ≡ b → heard (cond b (idle t owner low told rows) (record (heard (idle t owner low told rows)) { place = place })) ≡ idle t owner place [] rows)
     (eqb place low) (λ _ same. ap (λ p. idle t owner p [] rows) (sym (eqb-true place low same))) (λ _ _. refl) refl
 
-idle-clocked : (span : Span) → clocked (Some span) empty_kqueue ≡ empty_kqueue
-idle-clocked span = parts.clock_stays tallying no_names (Some span) empty_kqueue (λ k d within. absurd (omega (arith, within)))
+idle-clocked : (span : Span) → clocked (Some span) (empty_kqueue {h = tallying}) ≡ empty_kqueue {h = tallying}
+idle-clocked span = parts.clock_stays tallying no_names (Some span) (empty_kqueue {h = tallying}) (λ k d within. absurd (omega (arith, within)))
 
 module _ (t : Traced) (owner : ℕ) (rows : List Row) where
   abbrev at : ℕ → List Posted → LoneKqueue
@@ -107,11 +122,11 @@ module _ (t : Traced) (owner : ℕ) (rows : List Row) where
   calls-alike _ a b call same = absurd (cc)
 
   first-call : (is : List Item) (low other : ℕ) (told otherwise : List Posted)
-      → (after_items (from_call is) (at low told)).rows ≡ (after_items is (at other otherwise)).rows
-  unfolding from_call after_items after_item
+      → (after_items (from_first calls is) (at low told)).rows ≡ (after_items is (at other otherwise)).rows
+  unfolding from_first after_items after_item
   first-call [] low other told otherwise = refl
   first-call (i ∷ is) low other told otherwise =
-      by_test (λ b. is_call i.what ≡ b → (after_items (cond b (i ∷ is) (from_call is)) (at low told)).rows ≡ (after_items is (after_item i (at other otherwise))).rows)
+      by_test (λ b. is_call i.what ≡ b → (after_items (cond b (i ∷ is) (from_first calls is)) (at low told)).rows ≡ (after_items is (after_item i (at other otherwise))).rows)
       (is_call i.what)
       (λ _ call. ap (λ a. (after_items is a).rows)
       (calls-alike i.what (arrived i.place (at low told)) (arrived i.place (at other otherwise)) call
@@ -123,4 +138,4 @@ module _ (t : Traced) (owner : ℕ) (rows : List Row) where
 
 pub shown-alike : (t : Traced) (owner : ℕ) (items : List Item)
     → (after_items (between_calls items) (unborn t owner)).rows ≡ (after_items items (unborn t owner)).rows
-shown-alike t owner items = last-call (from_call items) (unborn t owner) ∙ first-call t owner [] items 0 0 [] []
+shown-alike t owner items = last-call (from_first calls items) (unborn t owner) ∙ first-call t owner [] items 0 0 [] []

@@ -1,5 +1,5 @@
 // One kqueue that goes on alone.
-ghost use Rattle.std.specs.Prelude.{◌≡◌, ◌≤◌, ◌++◌, ℕ, pos, Some, All, List, OnOk};
+ghost use Rattle.std.specs.Prelude.{◌≡◌, ◌≤◌, ◌++◌, ℕ, pos, Some, All, List, IfOk, OnOk};
 ghost use Rattle.kq_model.specs.declared.change.Change.{Change};
 ghost use Rattle.kq_model.specs.declared.event.Event.TheVariants as event_of;
 ghost use Rattle.kq_model.specs.System.{row_of};
@@ -77,7 +77,7 @@ impl<'s, 'a> Alone<'s, 'a> {
 
     /// Its rows so far.
     pub fn into_rows(self) -> Series<Row>
-        ensures { result ≡ self.rows }
+        ensures { result ≡ self.entry.rows }
     {
         let Alone { rows, .. } = self;
         Series::from_vec(rows)
@@ -153,11 +153,7 @@ impl<'s, 'a> Alone<'s, 'a> {
     {
         self.hear();
         // The type of a record keeps its moment in range, and that of an item does not.
-        let moment = if to <= LAST_MOMENT {
-            to
-        } else {
-            self.moment()
-        };
+        let moment = if to <= LAST_MOMENT { to } else { self.moment() };
         self.kq.clock(from, moment);
     }
 
@@ -194,6 +190,16 @@ impl<'s, 'a> Alone<'s, 'a> {
         let reply = self.kq.call(changes.as_slice(), *room, &views)?;
         put_row(&mut self.rows, self.place, reply)
     }
+}
+
+/// The rows that a kqueue of this process gives alone, from these items.
+pub fn rows_alone(split: &Split, owner: u32, items: &[Item]) -> Result<Series<Row>, Memory>
+    requires { All (IsRecorded split.now) items.now }
+    ensures { IfOk result (λ rows. rows ≡ (after_items items.now (unborn split.now owner)).rows) }
+{
+    let mut alone = Alone::new(split, owner);
+    alone.go_over(items)?;
+    Ok(alone.into_rows())
 }
 
 /// Adds the row of the reply to the record at a place, if it has one.

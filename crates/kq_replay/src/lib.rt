@@ -3,6 +3,7 @@
 #![tactic(auto)]
 
 mod alone;
+mod answering;
 mod kqueues;
 mod replay;
 mod running;

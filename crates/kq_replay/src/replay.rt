@@ -1,7 +1,7 @@
 ghost use Rattle.std.specs.Prelude.{IfOk};
 ghost use Rattle.kq_model.specs.declared.rows.Rows as declared_rows;
 
-use crate::alone::Alone;
+use crate::alone::rows_alone;
 use kq_history::Private;
 use kq_model::{Memory, Rows};
 
@@ -23,11 +23,10 @@ impl<'s, 'a> Replay for Private<'s, 'a> {
     /// The rows that the kqueue gives alone: from its private list and the world at its places, and from nothing else.
     /// The cost is that of the list and of what the kqueue does.
     fn replay(&self) -> Result<Rows, Memory> {
-        let mut alone = Alone::new(self.split(), self.owner());
-        alone.go_over(self.items())?;
+        let rows = rows_alone(self.split(), self.owner(), self.items())?;
         Ok(Rows {
             kqueue: self.kqueue(),
-            rows: alone.into_rows(),
+            rows,
         })
     }
 }

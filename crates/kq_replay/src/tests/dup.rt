@@ -17,76 +17,68 @@ fn read(alloc: Global, flags: EvFlags) -> Result<Series<Change>, Memory> {
     Ok(Series::from_vec(changes))
 }
 
-fn put(events: &mut Vec<Event>, event: Event) -> Result<(), Memory> {
-    events.push(event).map_err(|_| Memory)
+fn kqueue(pid: u32, fd: u32) -> Event {
+    Event::Kqueue { pid, fd }
 }
 
-/// Two kqueues of process 1 and one of its child.
-fn made(events: &mut Vec<Event>) -> Result<(), Memory> {
-    put(events, Event::Proc { pid: 1 })?;
-    put(events, Event::Kqueue { pid: 1, fd: 9 })?;
-    put(events, Event::Kqueue { pid: 1, fd: 10 })?;
-    let socket = Event::Socket {
+fn socket(fd: u32) -> Event {
+    Event::Socket {
         pid: 1,
-        fd: 3,
+        fd,
         rcv: 100,
         snd: 100,
-    };
-    put(events, socket)?;
-    put(events, Event::Connect { pid: 1, fd: 3 })?;
-    let socket = Event::Socket {
-        pid: 1,
-        fd: 5,
-        rcv: 100,
-        snd: 100,
-    };
-    put(events, socket)?;
-    put(events, Event::Fork { pid: 1, child: 2 })?;
-    put(events, Event::Kqueue { pid: 2, fd: 9 })
+    }
 }
 
-fn call(
-    events: &mut Vec<Event>,
-    pid: u32,
-    fd: u32,
-    changes: Series<Change>,
-    room: u32,
-) -> Result<(), Memory> {
-    let call = Event::Kevent {
+/// A call that reads number 3 from now on, or no more.
+fn reads(alloc: Global, pid: u32, fd: u32, flags: EvFlags, room: u32) -> Result<Event, Memory> {
+    Ok(Event::Kevent {
         pid,
         fd,
-        changes,
+        changes: read(alloc, flags)?,
         room,
-    };
-    put(events, call)
+    })
+}
+
+/// A call for one event.
+fn poll(alloc: Global, pid: u32, fd: u32) -> Event {
+    Event::Kevent {
+        pid,
+        fd,
+        changes: Series::from_vec(Vec::new(alloc)),
+        room: 1,
+    }
 }
 
 pub fn dup_over(alloc: Global) -> Result<Trace, Memory> {
-    let mut events = Vec::new(alloc);
-    made(&mut events)?;
-    call(&mut events, 1, 9, read(alloc, EvFlags::ADD)?, 0)?;
-    call(&mut events, 1, 10, read(alloc, EvFlags::ADD)?, 0)?;
-    call(&mut events, 2, 9, read(alloc, EvFlags::ADD)?, 0)?;
-    put(
-        &mut events,
+    let events = [
+        Event::Proc { pid: 1 },
+        kqueue(1, 9),
+        kqueue(1, 10),
+        socket(3),
+        Event::Connect { pid: 1, fd: 3 },
+        socket(5),
+        Event::Fork { pid: 1, child: 2 },
+        kqueue(2, 9),
+        reads(alloc, 1, 9, EvFlags::ADD, 0)?,
+        reads(alloc, 1, 10, EvFlags::ADD, 0)?,
+        reads(alloc, 2, 9, EvFlags::ADD, 0)?,
         Event::Rx {
             pid: 1,
             fd: 3,
             n: 1,
         },
-    )?;
-    put(
-        &mut events,
         Event::Dup {
             pid: 1,
             fd: 5,
             to: 3,
         },
-    )?;
-    call(&mut events, 1, 9, Series::from_vec(Vec::new(alloc)), 1)?;
-    call(&mut events, 1, 10, Series::from_vec(Vec::new(alloc)), 1)?;
-    call(&mut events, 2, 9, Series::from_vec(Vec::new(alloc)), 1)?;
-    call(&mut events, 1, 9, read(alloc, EvFlags::DELETE)?, 1)?;
+        poll(alloc, 1, 9),
+        poll(alloc, 1, 10),
+        poll(alloc, 2, 9),
+        reads(alloc, 1, 9, EvFlags::DELETE, 1)?,
+    ];
+    let events = Vec::from_array(alloc, events).map_err(|_| Memory)?;
     Ok(Trace {
         version: 1,
         events: Series::from_vec(events),

@@ -59,16 +59,25 @@ fn all_come<R: Threads + Wait + Sync, G: Gate + Sync, S: Starts>(
 fn one_kqueue_gives_its_rows(rt: HostRuntime) -> Result<(), Fail> {
     let trace = dup_over(rt.alloc())?;
     let split = Split::of(rt.alloc(), &trace)?;
-    let one = [split.private(8)?.replay()?];
-    let told = told(rt.alloc(), one.as_slice())?;
-    assert_eq!(rt; told.as_slice(), &EXPECTED[5..]);
+    let kqueues = split.kqueues();
+    assert_eq!(rt; kqueues, [2, 3, 8].as_slice());
+    assert_eq!(rt; kqueues.len(), 3);
+    let whole = [split.private(kqueues[2])?.replay()?];
+    let whole = told(rt.alloc(), whole.as_slice())?;
+    assert_eq!(rt; whole.as_slice(), &EXPECTED[5..]);
+    let answering = [split.answering(kqueues[2])?.replay()?];
+    let answering = told(rt.alloc(), answering.as_slice())?;
+    assert_eq!(rt; answering.as_slice(), &EXPECTED[5..]);
     Ok(())
 }
 
 #[test]
 fn any_number_of_workers_gives_all_rows(rt: HostRuntime) -> Result<(), Fail> {
     for workers in [1, 2, 256] {
-        assert_eq!(rt; all_come(&rt, rt.alloc(), workers, &Open, &Always), Ok(true));
+        assert_eq!(rt;
+            all_come(&rt, rt.alloc(), workers, &Open, &Always),
+            Ok(true)
+        );
     }
     for workers in [0, 257] {
         let refused = all_come(&rt, rt.alloc(), workers, &Open, &Always);
@@ -100,6 +109,9 @@ fn a_start_is_refused(rt: HostRuntime) -> Result<(), Fail> {
         let refused = all_come(&rt, rt.alloc(), 256, &Open, &Without(worker));
         assert_eq!(rt; refused, Err(RunFault::Spawn));
     }
-    assert_eq!(rt; all_come(&rt, rt.alloc(), 256, &Open, &Without(4)), Ok(true));
+    assert_eq!(rt;
+        all_come(&rt, rt.alloc(), 256, &Open, &Without(4)),
+        Ok(true)
+    );
     Ok(())
 }
