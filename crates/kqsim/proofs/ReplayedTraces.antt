@@ -1,8 +1,8 @@
 -- The report of a trace whose kqueues were replayed alone, and its faults.
-use Rattle.std.proofs.Common.{◌≡◌, ◌∙◌, ℕ, ◌≤◌, ◌<◌, ◌⊎◌, List, map, length, Result, Ok, Err, IfErr, sym, ap, subst, arith, ⊎_elim}
+use Rattle.std.proofs.Common.{◌≡◌, ◌∙◌, ℕ, ◌≤◌, ◌<◌, ◌⊎◌, List, map, length, Result, Ok, Err, IfErr, IsErrOf, sym, ap, subst, arith, ⊎_elim}
 use Rattle.std.proofs.lemmas.List.{length-map}
 use Rattle.std.proofs.lemmas.List.Elements.{All-weaker}
-use Rattle.std.proofs.lemmas.Result.{IfErr-weaker}
+use Rattle.std.proofs.lemmas.Result.{IfErr-at_err, IfErr-weaker}
 use Rattle.std.specs.List.{All}
 use Rattle.kq_model.specs.declared.event.Event.{Event}
 use Rattle.kq_model.specs.declared.row.Row.{Row}
@@ -50,7 +50,7 @@ report_again t kqueues merged records text are only counts is =
 -- ---- the faults
 
 pub has_kqueues : (t : Traced) → 2 ≤ length (places_of t) → HasKqueues t.version t.events
-has_kqueues t more = subst (λ n. 2 ≤ n) (length-map (λ (b : Birth). b.place) (births_of t)) more
+has_kqueues t more = subst (λ n. 2 ≤ n) (length-map (births_of t) (λ (b : Birth). b.place)) more
 
 -- a start that was refused, and a number of workers that is out of range
 pub spawned : (t : Traced) (workers : ℕ) → IsRunFault (length (places_of t)) workers RunFault.Spawn
@@ -69,6 +69,11 @@ fault_of_replay bytes workers version events good (Trace line fault) h = absurd 
 fault_of_replay bytes workers version events good Memory h = tt
 fault_of_replay bytes workers version events good Spawn h = (h.0, (version, (events, (good, h.1))))
 fault_of_replay bytes workers version events good Write h = h
+
+-- what was read has no fault of the command line
+pub no_usage : {B : Type 0} (version workers : ℕ) (events : List Event) (r : Result B Fault)
+    → IfErr r (IsReplayFault version events workers) → IsErrOf r Usage → ⊥
+no_usage version workers events r is usage = IfErr-at_err (IsReplayFault version events workers) usage is
 
 pub replay_fault : {B : Type 0} (bytes : List ℕ) (workers version : ℕ) (events : List Event) (r : Result B Fault)
     → reading bytes ≡ Good version events → IfErr r (IsReplayFault version events workers) → IfErr r (IsFault bytes workers)
