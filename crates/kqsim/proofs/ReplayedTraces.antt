@@ -17,12 +17,10 @@ use Rattle.kq_model.specs.System.{rows}
 use Rattle.kq_model.proofs.Projection.{merged, rising}
 use Rattle.kq_model.proofs.RecastSystem.{rows-tallied}
 use Rattle.kq_history.specs.Traced.{Traced, births_of, places_of, plain_rows_of}
-use Rattle.kq_jobs.specs.declared.fault.RunFault.TheVariants as RunFault
-use Rattle.kq_jobs.specs.Outcomes.{IsRunFault}
 use Rattle.kq_merge.specs.ByPlace.{IsOnlyOrder, NeverFall, rows_in}
 use Rattle.kq_merge.proofs.Places.{never_fall}
 use Rattle.kq_replay.specs.Replayed.{AreReplayed}
-use Rattle.kqsim.specs.Replay.{HasKqueues, IsFault, IsReplayFault}
+use Rattle.kqsim.specs.Replay.{IsFault, IsReplayFault}
 use Rattle.kqsim.specs.Workers.{IsWorkerCount}
 use Rattle.kqsim.specs.declared.fault.Fault.{Fault}
 use Rattle.kqsim.specs.declared.fault.Fault.TheVariants.{Usage, Read, Trace, Memory, Spawn, Write}
@@ -49,14 +47,11 @@ report_again t kqueues merged records text are only counts is =
 
 -- ---- the faults
 
-pub has_kqueues : (t : Traced) → 2 ≤ length (places_of t) → HasKqueues t.version t.events
-has_kqueues t more = subst (λ n. 2 ≤ n) (length-map (births_of t) (λ (b : Birth). b.place)) more
+-- a start that was refused
+pub spawned : (t : Traced) (workers : ℕ) → 2 ≤ workers → 2 ≤ length (places_of t) → IsReplayFault t.version t.events workers Spawn
+spawned t workers many more = (many, subst (λ n. 2 ≤ n) (length-map (births_of t) (λ (b : Birth). b.place)) more)
 
--- a start that was refused, and a number of workers that is out of range
-pub spawned : (t : Traced) (workers : ℕ) → IsRunFault (length (places_of t)) workers RunFault.Spawn
-    → IsReplayFault t.version t.events workers Spawn
-spawned t workers is = (is.0, has_kqueues t is.2)
-
+-- a number of workers that is out of range
 pub in_range : (workers : ℕ) → IsWorkerCount workers → (workers ≡ 0) ⊎ (256 < workers) → ⊥
 in_range workers is out =
     ⊎_elim (λ none. absurd (omega (arith, is.0, none))) (λ many. absurd (omega (arith, is.1, many))) out
@@ -67,7 +62,7 @@ fault_of_replay bytes workers version events good Usage h = absurd h
 fault_of_replay bytes workers version events good Read h = h
 fault_of_replay bytes workers version events good (Trace line fault) h = absurd h
 fault_of_replay bytes workers version events good Memory h = tt
-fault_of_replay bytes workers version events good Spawn h = (h.0, (version, (events, (good, h.1))))
+fault_of_replay bytes workers version events good Spawn h = (h.0, version, events, good, h.1)
 fault_of_replay bytes workers version events good Write h = h
 
 -- what was read has no fault of the command line
