@@ -1,12 +1,10 @@
 -- The items of one place, kind by kind, make of a kqueue what the moment of that place makes of it.
-use Rattle.std.proofs.Common.{◌≡◌, ◌==◌, ℕ, Bool, true, false, cond, eqb, List, [], ◌∷◌, ◌++◌, map, Option, Some, None, refl, sym, ap, ap₂, ◌∙◌}
+use Rattle.std.proofs.Common.{◌≡◌, ℕ, false, eqb, List, [], ◌∷◌, ◌++◌, map, Option, Some, None, refl, sym, ap, ◌∙◌}
 use Rattle.std.proofs.lemmas.Bool.{cond-true, cond-false, eq-eqb}
 use Rattle.std.proofs.lemmas.List.{map-append, append_assoc, append-nil}
 use Rattle.kq_model.specs.declared.event.Event.{Event}
-use Rattle.kq_model.specs.declared.event.Event.TheVariants as event
 use Rattle.kq_model.specs.declared.row.Row.{Row}
 use Rattle.kq_model.specs.Call.{call}
-use Rattle.kq_model.specs.Caller.{Caller}
 use Rattle.kq_model.specs.Clock.{Span, clocked}
 use Rattle.kq_model.specs.Close.{Pair, closed}
 use Rattle.kq_model.specs.Hearing.{tallying}
@@ -23,7 +21,7 @@ use Rattle.kq_model.proofs.PrivateParts as parts
 use Rattle.kq_history.specs.declared.item.Item.{Item}
 use Rattle.kq_history.specs.Items.{bare, bare_items, bare_what}
 use Rattle.kq_history.specs.Traced.{Traced, event_at, seen_at}
-use Rattle.kq_replay.specs.Alone.{LoneKqueue, after_item, after_items, answered, arrived, called, caller_of, gone_on, heard}
+use Rattle.kq_replay.specs.Alone.{LoneKqueue, after_item, after_items, arrived, called, gone_on}
 use Rattle.kq_replay.specs.Recorded.{IsCallOf}
 use Rattle.kq_replay.proofs.Closes.{close-first}
 
@@ -105,10 +103,10 @@ module _ (t : Traced) (owner : ℕ) where
   unfolding clock_whats after_items after_item gone_on
   clock-one place None told kq rows = (told, kq, refl, sym (parts.clocked-none tallying no_names (notified (seen_at t place) told kq)))
   clock-one place (Some span) told kq rows = (
-      [],
-      clocked (Some span) (notified (seen_at t place) told kq),
-      ap (gone_on (bare_what (model.Clocked span))) (stays place told kq rows),
-      hear-none (seen_at t place) (clocked (Some span) (notified (seen_at t place) told kq)),
+    [],
+    clocked (Some span) (notified (seen_at t place) told kq),
+    ap (gone_on (bare_what (model.Clocked span))) (stays place told kq rows),
+    hear-none (seen_at t place) (clocked (Some span) (notified (seen_at t place) told kq)),
   )
 
   abbrev pub answer_of : ℕ → Call → Kqueue → Called

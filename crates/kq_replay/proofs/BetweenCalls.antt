@@ -1,6 +1,6 @@
 -- Before its first call a kqueue has no knotes, so nothing makes a difference to it; and behind the last call nothing
 -- makes a row.
-use Rattle.std.proofs.Common.{◌≡◌, ◌==◌, ◌||◌, ◌++◌, ℕ, Bool, true, false, cond, eqb, List, [], ◌∷◌, refl, sym, ap, ap₂, subst, ◌∙◌, arith}
+use Rattle.std.proofs.Common.{◌≡◌, ◌||◌, ◌++◌, ℕ, true, false, cond, eqb, List, [], ◌∷◌, Some, refl, sym, ap, ◌∙◌, arith}
 use Rattle.std.proofs.lemmas.Bool.{eqb-true, or_parts}
 use Rattle.kq_model.specs.declared.row.Row.{Row}
 use Rattle.kq_model.specs.Clock.{Span, clocked}
@@ -8,7 +8,6 @@ use Rattle.kq_model.specs.Close.{closed}
 use Rattle.kq_model.specs.Hearing.{tallying}
 use Rattle.kq_model.specs.Hints.{notified, knotes_noticing, queue_after_all}
 use Rattle.kq_model.specs.Kqueue.{empty_kqueue}
-use Rattle.kq_model.specs.Tallied.{Kqueue}
 use Rattle.kq_model.specs.Targets.{Posted}
 use Rattle.kq_model.specs.Views.{Views}
 use Rattle.kq_model.proofs.KnoteLaws.{by_test}
@@ -59,7 +58,8 @@ last-call (i ∷ is) a =
 abbrev idle : Traced → ℕ → ℕ → List Posted → List Row → LoneKqueue
 idle t owner place told rows = record { trace = t; owner = owner; place = place; told = told; kq = empty_kqueue; rows = rows }
 
-empty-heard : (views : Views) (hints : List Posted) → notified views hints empty_kqueue ≡ empty_kqueue
+empty-heard : (views : Views) (hints : List Posted)
+    → notified views hints (empty_kqueue {h = tallying}) ≡ empty_kqueue {h = tallying}
 unfolding notified knotes_noticing queue_after_all
 empty-heard views hints = refl
 
@@ -71,8 +71,8 @@ all-one t owner low place told rows =
     by_test (λ b. eqb place low ≡ b → heard (cond b (idle t owner low told rows) (record (heard (idle t owner low told rows)) { place = place })) ≡ idle t owner place [] rows)
     (eqb place low) (λ _ same. ap (λ p. idle t owner p [] rows) (sym (eqb-true place low same))) (λ _ _. refl) refl
 
-idle-clocked : (span : Span) → clocked (Some span) empty_kqueue ≡ empty_kqueue
-idle-clocked span = parts.clock_stays tallying no_names (Some span) empty_kqueue (λ k d within. absurd (omega (arith, within)))
+idle-clocked : (span : Span) → clocked (Some span) (empty_kqueue {h = tallying}) ≡ empty_kqueue {h = tallying}
+idle-clocked span = parts.clock_stays tallying no_names (Some span) (empty_kqueue {h = tallying}) (λ k d within. absurd (omega (arith, within)))
 
 module _ (t : Traced) (owner : ℕ) (rows : List Row) where
   abbrev at : ℕ → List Posted → LoneKqueue

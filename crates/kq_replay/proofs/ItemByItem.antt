@@ -1,5 +1,5 @@
 -- Going on item by item over a private list gives the rows of its replay.
-use Rattle.std.proofs.Common.{◌≡◌, ◌<◌, ℕ, false, eqb, List, [], ◌∷◌, ◌++◌, map, refl, sym, ap, ◌∙◌, arith}
+use Rattle.std.proofs.Common.{◌≡◌, ◌<◌, ℕ, false, eqb, List, [], ◌∷◌, ◌++◌, sym, ap, ◌∙◌, arith}
 use Rattle.std.proofs.lemmas.Bool.{ne_eqb}
 use Rattle.std.proofs.lemmas.List.{map-append, append_assoc, append-nil}
 use Rattle.std.specs.List.{flat_map}

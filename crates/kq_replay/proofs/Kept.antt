@@ -1,5 +1,5 @@
 -- What a kqueue is after an item, where little is done.
-use Rattle.std.proofs.Common.{◌≡◌, ◌==◌, ℕ, cond, eqb, [], ◌∷◌, Option, Some, None, refl, sym, ap, ap₂, subst, ◌∙◌}
+use Rattle.std.proofs.Common.{◌≡◌, ℕ, cond, eqb, [], Option, Some, refl, sym, ap, ap₂, subst, ◌∙◌}
 use Rattle.std.proofs.lemmas.Bool.{eqb-true}
 use Rattle.kq_model.specs.declared.event.Event.{Event}
 use Rattle.kq_model.specs.declared.event.Event.TheVariants as event

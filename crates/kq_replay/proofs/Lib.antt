@@ -10,3 +10,4 @@ pub mod Private
 pub mod Rejoined
 pub mod Collected
 pub mod Kept
+pub mod BetweenCalls

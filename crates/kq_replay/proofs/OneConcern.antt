@@ -1,5 +1,5 @@
 -- All items of one place of a private list make of a kqueue what the moment of that place makes of it.
-use Rattle.std.proofs.Common.{◌≡◌, ◌==◌, ℕ, Bool, true, false, cond, eqb, List, [], ◌∷◌, ◌++◌, map, Option, Some, None, refl, sym, ap, ap₂, subst, ◌∙◌}
+use Rattle.std.proofs.Common.{◌≡◌, ℕ, true, false, eqb, List, [], ◌∷◌, ◌++◌, map, Option, Some, None, refl, sym, ap, subst, ◌∙◌}
 use Rattle.std.proofs.lemmas.Bool.{cond-true, true≢false}
 use Rattle.std.proofs.lemmas.List.{append-nil}
 use Rattle.kq_model.specs.declared.reply.Reply.TheVariants.{Done}
@@ -55,16 +55,15 @@ module _ (t : Traced) (kqueue owner : ℕ) where
       (rows ++ row_of c.place (own_reply kqueue owner (moment_at c) call kq))
   unfolding call_whats after_items after_call own_reply row_of called_at
   then-call c None kq a rows own reached = (
-      reached.0,
-      reached.1,
-      reached.2 ∙ ap (state t owner c.place reached.0 reached.1) (sym (append-nil rows)),
-      reached.3,
+    reached.0,
+    reached.1,
+    reached.2 ∙ ap (state t owner c.place reached.0 reached.1) (sym (append-nil rows)),
+    reached.3,
   )
   then-call c (Some x) kq a rows own reached =
       let before = happened owner (moment_at c) kq in
       let r = answer_of t owner c.place x before in
-      let own_call = (own x refl).0 in
-      (
+      let own_call = (own x refl).0 in (
         [],
         r.kq,
         ap (after_items (said t owner c.place (model.Called x ∷ []))) reached.2
@@ -87,16 +86,16 @@ module _ (t : Traced) (kqueue owner : ℕ) where
       let start = state t owner c.place [] kq rows in
       let told = state t owner c.place c.hints left rows in
       let heard : after_items (said t owner c.place hints) (after_items (said t owner c.place closes) start) ≡ told =
-          ap (after_items (said t owner c.place hints)) (close-all t owner c.place c.closed [] kq rows)
-          ∙ tell-all t owner c.place c.hints [] left rows in
+      ap (after_items (said t owner c.place hints)) (close-all t owner c.place c.closed [] kq rows)
+      ∙ tell-all t owner c.place c.hints [] left rows in
       let all : after_items (bare_items (items_of c)) start
-              ≡ after_items (said t owner c.place (call_whats c.call)) (after_items (said t owner c.place clock) told) =
-          after-parts c.place closes (hints ++ (clock ++ call_whats c.call)) start
-          ∙ after-parts c.place hints (clock ++ call_whats c.call) (after_items (said t owner c.place closes) start)
-          ∙ ap (after_items (said t owner c.place (clock ++ call_whats c.call))) heard
-          ∙ after-parts c.place clock (call_whats c.call) told in
+      ≡ after_items (said t owner c.place (call_whats c.call)) (after_items (said t owner c.place clock) told) =
+      after-parts c.place closes (hints ++ (clock ++ call_whats c.call)) start
+      ∙ after-parts c.place hints (clock ++ call_whats c.call) (after_items (said t owner c.place closes) start)
+      ∙ ap (after_items (said t owner c.place (clock ++ call_whats c.call))) heard
+      ∙ after-parts c.place clock (call_whats c.call) told in
       let reached = then-call c c.call kq (after_items (said t owner c.place clock) told) rows own.calls
-          (clock-one t owner c.place c.clock c.hints left rows) in
+      (clock-one t owner c.place c.clock c.hints left rows) in
       (reached.0, reached.1, all ∙ reached.2, reached.3)
 
   -- the same from an earlier place, whose hints are heard first
@@ -108,7 +107,7 @@ module _ (t : Traced) (kqueue owner : ℕ) where
       let before = notified (seen_at t low) told kq in
       let first = first-what c.closed c.hints c.clock c.call own.some in
       let moved : after_items (bare_items (items_of c)) (state t owner low told kq rows) ≡ after_items (bare_items (items_of c)) (state t owner c.place [] before rows) =
-          subst (λ ws. after_items (said t owner c.place ws) (state t owner low told kq rows) ≡ after_items (said t owner c.place ws) (state t owner c.place [] before rows)) (sym first.2)
-          (first-moves t owner low c.place told kq rows first.0 first.1 other) in
+      subst (λ ws. after_items (said t owner c.place ws) (state t owner low told kq rows) ≡ after_items (said t owner c.place ws) (state t owner c.place [] before rows)) (sym first.2)
+      (first-moves t owner low c.place told kq rows first.0 first.1 other) in
       let reached = at-place c own before rows in
       (reached.0, reached.1, moved ∙ reached.2, reached.3)

@@ -1,5 +1,5 @@
 -- The private list of a kqueue stands by rising place, and its records have the rest of its items.
-use Rattle.std.proofs.Common.{◌≡◌, ◌<◌, ℕ, suc, ℤ, pos, negsuc, ◌+◌, Bool, true, false, cond, eqb, List, [], ◌∷◌, ◌++◌, map, filter, slice_get, Option, Some, None, refl, sym, ap, subst, ◌∙◌, arith}
+use Rattle.std.proofs.Common.{◌≡◌, ◌<◌, ℕ, suc, ℤ, pos, negsuc, ◌+◌, true, cond, eqb, List, [], ◌∷◌, Option, Some, None, refl, sym, ap, subst, ◌∙◌, arith}
 use Rattle.std.proofs.lemmas.List.Elements.{All-head, All-tail}
 use Rattle.std.specs.List.{All}
 use Rattle.kq_model.specs.declared.change.Change.{Change}
@@ -32,6 +32,7 @@ call-on pid fd changes room (Some (named.Kqueue place)) c is = (pid, fd, ap (λ 
     changes_in : Option Call → List Change
     changes_in None = changes
     changes_in (Some x) = x.changes
+
     room_in : Option Call → ℕ
     room_in None = room
     room_in (Some x) = x.room
@@ -49,6 +50,7 @@ span-on (pos moment) now s is = (ap (λ x. event.Clock (pos (to_in x))) is, sym 
     to_in : Option Span → ℕ
     to_in None = moment
     to_in (Some x) = x.to
+
     from_in : Option Span → ℕ
     from_in None = now
     from_in (Some x) = x.from

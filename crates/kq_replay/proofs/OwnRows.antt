@@ -9,6 +9,7 @@ use Rattle.kq_model.specs.Objects.{counted}
 use Rattle.kq_model.specs.PrivateList.{private_list}
 use Rattle.kq_model.specs.Projection.{replayed}
 use Rattle.kq_model.specs.Replayed.{rows_alone}
+use Rattle.kq_model.specs.Tallied.{Kqueue}
 use Rattle.kq_model.proofs.Projection.{projected}
 use Rattle.kq_history.specs.Concerned.{private_items}
 use Rattle.kq_history.specs.Traced.{Traced, births_of, moments_of, seen_at}
@@ -20,10 +21,11 @@ use Rattle.kq_replay.proofs.OwnConcerns.{all-own}
 
 module _ (t : Traced) where
   alone-replayed : (place owner : ℕ) → (after_items (private_items place owner (moments_of t)) (unborn t owner)).rows
-      ≡ rows_alone t.version place owner (seen_at t) empty_kqueue (private_list place owner (moments_of t))
+      ≡ rows_alone {h = tallying} t.version place owner (seen_at t) (empty_kqueue {h = tallying}) (private_list place owner (moments_of t))
   alone-replayed place owner =
-      item-by-item t place owner (private_list place owner (moments_of t)) 0 [] empty_kqueue [] (all-own t place owner)
-      ∙ ap (λ k. rows_alone t.version place owner (seen_at t) k (private_list place owner (moments_of t))) (hear-none (seen_at t 0) empty_kqueue)
+      item-by-item t place owner (private_list place owner (moments_of t)) 0 [] (empty_kqueue {h = tallying}) [] (all-own t place owner)
+      ∙ ap (λ (k : Kqueue). rows_alone {h = tallying} t.version place owner (seen_at t) k (private_list place owner (moments_of t)))
+      (hear-none (seen_at t 0) (empty_kqueue {h = tallying}))
 
   pub own-rows : (b : Birth) → Contains (births_of t) b
       → (after_items (private_items b.place b.owner (moments_of t)) (unborn t b.owner)).rows ≡ (rows_in_fold t b.place).rows

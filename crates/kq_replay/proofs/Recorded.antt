@@ -1,5 +1,5 @@
 -- Each item of a private list is of a record that says it.
-use Rattle.std.proofs.Common.{◌≡◌, ℕ, List, [], ◌∷◌, ◌++◌, map, Option, Some, None, refl, sym, ap, subst}
+use Rattle.std.proofs.Common.{◌≡◌, ℕ, List, [], ◌∷◌, ◌++◌, map, Option, Some, None, refl, sym, subst}
 use Rattle.std.proofs.lemmas.List.{map-append}
 use Rattle.std.proofs.lemmas.List.Elements.{All-nil, All-cons, All-append, All-map}
 use Rattle.std.specs.List.{All, flat_map}
@@ -10,7 +10,6 @@ use Rattle.kq_model.specs.Items.{clock_whats, call_whats, items_at, items_of, wh
 use Rattle.kq_model.specs.PrivateList.{Concern, private_list}
 use Rattle.kq_model.specs.Targets.{Posted}
 use Rattle.kq_model.specs.World.{Call}
-use Rattle.kq_history.specs.declared.item.Item.{Item}
 use Rattle.kq_history.specs.Items.{bare, bare_items, bare_what}
 use Rattle.kq_history.specs.Traced.{Traced, event_at, moments_of}
 use Rattle.kq_replay.specs.Recorded.{IsCallOf, IsClockOf, IsRecorded, IsSaidBy}

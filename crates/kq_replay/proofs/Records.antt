@@ -1,5 +1,5 @@
 -- What the record of each moment of a trace is.
-use Rattle.std.proofs.Common.{◌≡◌, ℕ, ℤ, pos, negsuc, suc, ◌+◌, ◌≤◌, Bool, true, false, ltb, List, [], ◌∷◌, ◌++◌, slice_get, Option, Some, None, refl, sym, ap, ◌∙◌, if◌then◌else◌, arith}
+use Rattle.std.proofs.Common.{◌≡◌, ℕ, pos, suc, ◌+◌, ◌≤◌, ltb, List, [], ◌∷◌, ◌++◌, slice_get, Some, refl, sym, ap, ◌∙◌, if◌then◌else◌, arith}
 use Rattle.std.proofs.lemmas.Bool.{ltb-false}
 use Rattle.std.proofs.lemmas.List.Elements.{All-nil, All-cons, All-weaker}
 use Rattle.std.specs.List.{All}
@@ -72,7 +72,7 @@ module _ (version : ℕ) where
       let q = plan place e (seen_world w) in
       let next = world_by place q w in
       let rest = moments_from version (place + 1) next (plans_from (place + 1) next es) in
-      first place e es w q rest refl (says place e (seen_world w))
+      first place e es w q rest refl (says (seen_world w) place e)
       (All-weaker (IsOf (place + 1) es) (IsOf place (e ∷ es)) (later place e es) rest (each-is (place + 1) next es))
 
 pub each-record : (t : Traced) → All (IsOf 1 t.events) (moments_of t)

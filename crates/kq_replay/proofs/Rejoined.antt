@@ -1,5 +1,5 @@
 -- The rows of all kqueues, with those of impossible records, are all rows of the trace.
-use Rattle.std.proofs.Common.{◌≡◌, ℕ, List, [], ◌∷◌, ◌++◌, map, Some, refl, sym, ap, ap₂, subst}
+use Rattle.std.proofs.Common.{◌≡◌, ℕ, List, [], ◌∷◌, ◌++◌, map, refl, sym, ap₂, subst}
 use Rattle.std.proofs.lemmas.List.Elements.{All-nil, All-cons, All-head, All-tail}
 use Rattle.std.specs.List.{All, flat_map}
 use Rattle.std.specs.List.Sorted.{IsPermutation}
@@ -10,7 +10,7 @@ use Rattle.kq_model.specs.Hearing.{tallying}
 use Rattle.kq_model.specs.Objects.{counted}
 use Rattle.kq_model.specs.OwnedRows.{Rise}
 use Rattle.kq_model.specs.Projection.{replayed}
-use Rattle.kq_model.specs.System.{rows, rows_by}
+use Rattle.kq_model.specs.System.{rows_by}
 use Rattle.kq_model.proofs.Projection.{merged, projected}
 use Rattle.kq_model.proofs.RecastSystem.{rows-tallied}
 use Rattle.kq_history.specs.Traced.{Traced, births_of, places_of, plain_rows_of}

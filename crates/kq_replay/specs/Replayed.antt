@@ -2,7 +2,6 @@
 use Rattle.std.specs.Prelude.{◌≡◌, ℕ, List, ◌++◌, map, All, Some}
 use Rattle.std.specs.List.{flat_map}
 use Rattle.std.specs.List.Sorted.{IsPermutation}
-use Rattle.kq_model.specs.declared.row.Row.{Row}
 use Rattle.kq_model.specs.declared.rows.Rows.{Rows}
 use Rattle.kq_model.specs.Hearing.{tallying}
 use Rattle.kq_model.specs.Objects.{counted}

@@ -77,7 +77,7 @@ impl<'s, 'a> Alone<'s, 'a> {
 
     /// Its rows so far.
     pub fn into_rows(self) -> Series<Row>
-        ensures { result ≡ self.rows }
+        ensures { result ≡ self.entry.rows }
     {
         let Alone { rows, .. } = self;
         Series::from_vec(rows)
@@ -153,11 +153,7 @@ impl<'s, 'a> Alone<'s, 'a> {
     {
         self.hear();
         // The type of a record keeps its moment in range, and that of an item does not.
-        let moment = if to <= LAST_MOMENT {
-            to
-        } else {
-            self.moment()
-        };
+        let moment = if to <= LAST_MOMENT { to } else { self.moment() };
         self.kq.clock(from, moment);
     }
 

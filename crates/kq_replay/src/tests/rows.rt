@@ -68,7 +68,10 @@ fn one_kqueue_gives_its_rows(rt: HostRuntime) -> Result<(), Fail> {
 #[test]
 fn any_number_of_workers_gives_all_rows(rt: HostRuntime) -> Result<(), Fail> {
     for workers in [1, 2, 256] {
-        assert_eq!(rt; all_come(&rt, rt.alloc(), workers, &Open, &Always), Ok(true));
+        assert_eq!(rt;
+            all_come(&rt, rt.alloc(), workers, &Open, &Always),
+            Ok(true)
+        );
     }
     for workers in [0, 257] {
         let refused = all_come(&rt, rt.alloc(), workers, &Open, &Always);
@@ -100,6 +103,9 @@ fn a_start_is_refused(rt: HostRuntime) -> Result<(), Fail> {
         let refused = all_come(&rt, rt.alloc(), 256, &Open, &Without(worker));
         assert_eq!(rt; refused, Err(RunFault::Spawn));
     }
-    assert_eq!(rt; all_come(&rt, rt.alloc(), 256, &Open, &Without(4)), Ok(true));
+    assert_eq!(rt;
+        all_come(&rt, rt.alloc(), 256, &Open, &Without(4)),
+        Ok(true)
+    );
     Ok(())
 }
