@@ -1,5 +1,5 @@
 -- The report of a trace whose kqueues were replayed alone, and its faults.
-use Rattle.std.proofs.Common.{◌≡◌, ◌∙◌, ℕ, ◌≤◌, ◌<◌, ◌⊎◌, List, map, length, Result, Ok, Err, IfErr, IsErrOf, sym, ap, subst, arith, ⊎_elim}
+use Rattle.std.proofs.Common.{◌≡◌, ◌∙◌, ℕ, ◌≤◌, ◌<◌, ◌⊎◌, List, map, length, Result, Ok, Err, IfErr, IfOk, IsErrOf, MatchResult, sym, ap, subst, arith, ⊎_elim}
 use Rattle.std.proofs.lemmas.List.{length-map}
 use Rattle.std.proofs.lemmas.List.Elements.{All-weaker}
 use Rattle.std.proofs.lemmas.Result.{IfErr-at_err, IfErr-weaker}
@@ -25,6 +25,14 @@ use Rattle.kqsim.specs.Workers.{IsWorkerCount}
 use Rattle.kqsim.specs.declared.fault.Fault.{Fault}
 use Rattle.kqsim.specs.declared.fault.Fault.TheVariants.{Usage, Read, Trace, Memory, Spawn, Write}
 
+-- what a call gave, where only its error was turned into another
+pub given : {A D E : Type 0} (P : A → Type 0) (r : Result A E) (q : Result A D) (x : A) → MatchResult r (λ y. q ≡ Ok y) (λ _. ⊥)
+    → q ≡ Ok x → IfOk r P → P x
+given P (Ok y) q x same at is =
+    let one : y ≡ x = cc in
+    subst P one is
+given P (Err e) q x same at is = absurd same
+
 -- ---- the rows, as a merge wants them and as it gives them
 
 pub kqueues_never_fall : (t : Traced) (kqueues : List Rows) → AreReplayed t kqueues → All (λ (one : Rows). NeverFall one.rows) kqueues
@@ -37,11 +45,11 @@ plain_never_falls t = never_fall (plain_rows_of t) (rising tallying counted t.ve
 rows-rise : (version : ℕ) (events : List Event) → Rise (rows version events)
 rows-rise version events = subst Rise (sym (rows-tallied version events)) (merged tallying counted version events).1
 
-pub report_again : (t : Traced) (kqueues : List Rows) (merged : List Row) (records : ℕ) (text : List ℕ) → AreReplayed t kqueues
-    → IsOnlyOrder (rows_in kqueues (plain_rows_of t)) merged → records ≡ length t.events → text ≡ report merged records
+pub report_again : (t : Traced) (kqueues : List Rows) (found : List Row) (records : ℕ) (text : List ℕ) → AreReplayed t kqueues
+    → IsOnlyOrder (rows_in kqueues (plain_rows_of t)) found → records ≡ length t.events → text ≡ report found records
     → text ≡ report_of t.version t.events
 unfolding report_of
-report_again t kqueues merged records text are only counts is =
+report_again t kqueues found records text are only counts is =
     is ∙ ap (λ rs. report rs records) (only (rows t.version t.events) are.whole (rows-rise t.version t.events))
     ∙ ap (report (rows t.version t.events)) counts
 
@@ -62,7 +70,7 @@ fault_of_replay bytes workers version events good Usage h = absurd h
 fault_of_replay bytes workers version events good Read h = h
 fault_of_replay bytes workers version events good (Trace line fault) h = absurd h
 fault_of_replay bytes workers version events good Memory h = tt
-fault_of_replay bytes workers version events good Spawn h = (h.0, version, events, good, h.1)
+fault_of_replay bytes workers version events good Spawn h = (h.0, (version, events, good, h.1))
 fault_of_replay bytes workers version events good Write h = h
 
 -- what was read has no fault of the command line
