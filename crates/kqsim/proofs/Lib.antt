@@ -1,3 +1,3 @@
 pub mod Played
-pub mod Replaying
-pub mod Living
+pub mod ReplayedTraces
+pub mod LiveFaults

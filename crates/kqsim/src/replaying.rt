@@ -34,7 +34,7 @@ pub fn replay<R: AllocGlobal + Threads + Wait + Sync>(
 /// The same, where the gate is asked before each kqueue is replayed, with the number of the worker
 /// and that of the kqueue in order of birth, both from 1 on, and `starts` before each worker but
 /// the first is started.
-#[tactic(auto, using(crate::proofs::Replaying::replay_fault))]
+#[tactic(auto, using(crate::proofs::ReplayedTraces::replay_fault, crate::proofs::ReplayedTraces::no_usage))]
 pub fn replay_with<R: AllocGlobal + Threads + Wait + Sync, G: Gate + Sync, S: Starts>(
     rt: &R,
     bytes: &[u8],
@@ -58,8 +58,6 @@ pub fn replay_with<R: AllocGlobal + Threads + Wait + Sync, G: Gate + Sync, S: St
 
 /// The report of a trace: each of its kqueues is replayed alone, and their rows are put together
 /// by place with those of impossible records.
-#[tactic(auto, using(crate::proofs::Replaying::kqueues_never_fall, crate::proofs::Replaying::plain_never_falls,
-    crate::proofs::Replaying::report_again, crate::proofs::Replaying::spawned, crate::proofs::Replaying::in_range))]
 fn trace_report<R: AllocGlobal + Threads + Wait + Sync, G: Gate + Sync, S: Starts>(
     rt: &R,
     trace: &Trace,

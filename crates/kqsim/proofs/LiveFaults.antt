@@ -13,7 +13,7 @@ fault_of_run bytes threads version events good Usage h = h
 fault_of_run bytes threads version events good Read h = h
 fault_of_run bytes threads version events good (Trace line fault) h = absurd h
 fault_of_run bytes threads version events good Memory h = tt
-fault_of_run bytes threads version events good Spawn h = ((version, (events, good)), h)
+fault_of_run bytes threads version events good Spawn h = ((version, events, good), h)
 fault_of_run bytes threads version events good Write h = h
 
 pub run_fault : {B : Type 0} (bytes : List ℕ) (threads version : ℕ) (events : List Event) (r : Result B Fault)
