@@ -26,7 +26,8 @@ seen_by s place = record {
 }
 
 -- the targets that a number names by its marks at a place, and in a world of these views
-abbrev pub named_around : {S : Type 0} → HashMap (ℕ × ℕ) (List (Mark (Option Named))) S → ℕ → Views → ℕ × ℕ → List Target
+abbrev pub named_around : {S : Type 0} → HashMap (ℕ × ℕ) (List (Mark (Option Named))) S → ℕ → Views → ℕ × ℕ
+    → List Target
 named_around table place after p =
     targets_named (value_at place None (marks_at pair_eq table p)) ++ targets_named (after.descriptor p.0 p.1)
 

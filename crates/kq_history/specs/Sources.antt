@@ -20,7 +20,8 @@ pub record AreKnown (s : Sources) : Type 0 where
 -- these came to those that there were
 pub record Grows (extra : List Source) (old new : Sources) : Type 0 where
   pub known : AreKnown old → AreKnown new
-  pub sources : AreKnown old → (x : Source) → has_source new.list.items x ≡ (has_source old.list.items x || has_source extra x)
+  pub sources : AreKnown old → (x : Source)
+      → has_source new.list.items x ≡ (has_source old.list.items x || has_source extra x)
 
 -- ---- what a change names
 

@@ -79,6 +79,7 @@ impl Log {
         numbers.sort().map_err(|_| Memory)?;
         self.items_at(numbers.as_slice())
     }
+
     /// Where the items of these sources stand from one number to another, source by source.
     fn numbers_within(
         &self,

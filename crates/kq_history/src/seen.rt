@@ -70,7 +70,8 @@ impl Seen {
         ensures up_to { OnOk result (AreAllUpTo place self.new) }
         ensures shows { OnOk result ((worlds next : ℕ → model.Views)
             → IsNextWorld place (V.sees views.now) numbers.now
-            (flat_map (targets_of (seen_by self.old place) (V.sees views.now)) numbers.now ++ targets.old.items) worlds next
+            (flat_map (targets_of (seen_by self.old place) (V.sees views.now)) numbers.now
+            ++ targets.old.items) worlds next
             → Shows worlds self.old → Shows next self.new) }
     {
         note_numbers(&mut self.numbers, place, numbers, targets, views)?;

@@ -19,7 +19,8 @@ pub struct Sources {
 }
 
 impl Sources {
-    ghost use Rattle.kq_history.specs.Sources.{AreKnown, Grows, call_sources, change_sources, clock_sources, number_sources, target_sources};
+    ghost use Rattle.kq_history.specs.Sources.{AreKnown, Grows, call_sources, change_sources};
+    ghost use Rattle.kq_history.specs.Sources.{clock_sources, number_sources, target_sources};
 
     /// No source.
     pub fn new(alloc: Global) -> Self
