@@ -13,23 +13,25 @@ use Rattle.kq_system.specs.SystemState.{AreOfVersion, AreUpTo, HaveStayed, IsCal
 use Rattle.kq_system.proofs.CallLemmas.{called_quiet, kept, keys_kept, live_found, version_kept}
 use Rattle.kq_system.proofs.FoundLemmas.{called_listed, found_called, found_more}
 use Rattle.kq_system.proofs.ShowLemmas.{Entries}
-use Rattle.kq_system.proofs.all_live.call_found.Goals as goal
+use Rattle.kq_system.proofs.all_live.call_on.Goals as goal
 
 pub owner_of-owner-requires : goal.owner_of-owner-requires
 owner_of-owner-requires g c =
-    subst (λ (v : LiveKqueues). IsLive c.args.kqueue (map live_of v.entries)) (sym c.live.view_is) c.requires
+    subst (λ (es : Entries). IsLive c.args.kqueue (map live_of es))
+    (sym (ap (λ (l : LiveKqueues). l.entries) c.live.view_is ∙ c.renew.ensures)) c.requires
 
 pub unreachable-requires : goal.unreachable-requires
 unreachable-requires g c =
     live_found c.args.kqueue c.live.inside.live.entries
-    (subst (λ (v : LiveKqueues). IsLive c.args.kqueue (map live_of v.entries)) (sym c.live.view_is) c.requires)
+    (subst (λ (es : Entries). IsLive c.args.kqueue (map live_of es))
+    (sym (ap (λ (l : LiveKqueues). l.entries) c.live.view_is ∙ c.renew.ensures)) c.requires)
     (sym c.in_default.ensures.value)
 
 pub returns-clause-called : goal.returns-clause-called
 returns-clause-called g c =
     let call : Call = record { kqueue = c.args.kqueue; changes = c.args.changes.now; room = c.args.room } in
     let es = c.live.inside.live.entries in
-    let same : es ≡ c.args.live.now.entries = ap (λ (l : LiveKqueues). l.entries) c.live.view_is in
+    let same : es ≡ c.args.live.now.entries = ap (λ (l : LiveKqueues). l.entries) c.live.view_is ∙ c.renew.ensures in
     let v : NumberedKqueue = record {
       number = c.one.inside.number;
       kq = c.one.inside.kq;
@@ -56,7 +58,7 @@ returns-clause-called g c =
 pub returns-clause-stayed : goal.returns-clause-stayed
 returns-clause-stayed g c =
     let es = c.live.inside.live.entries in
-    let same : es ≡ c.args.live.now.entries = ap (λ (l : LiveKqueues). l.entries) c.live.view_is in
+    let same : es ≡ c.args.live.now.entries = ap (λ (l : LiveKqueues). l.entries) c.live.view_is ∙ c.renew.ensures in
     let v : NumberedKqueue = record {
       number = c.one.inside.number;
       kq = c.one.inside.kq;
@@ -81,7 +83,7 @@ returns-clause-stayed g c =
 pub returns-clause-memory : goal.returns-clause-memory
 returns-clause-memory g c =
     let es = c.live.inside.live.entries in
-    let same : es ≡ c.args.live.now.entries = ap (λ (l : LiveKqueues). l.entries) c.live.view_is in
+    let same : es ≡ c.args.live.now.entries = ap (λ (l : LiveKqueues). l.entries) c.live.view_is ∙ c.renew.ensures in
     let v : NumberedKqueue = record {
       number = c.one.inside.number;
       kq = c.one.inside.kq;
@@ -114,7 +116,7 @@ invariant_of-live-2 g c =
     let old = c.live.inside in
     let views = g.V.Views.sees c.args.views.now in
     let es = c.live.inside.live.entries in
-    let same : es ≡ c.args.live.now.entries = ap (λ (l : LiveKqueues). l.entries) c.live.view_is in
+    let same : es ≡ c.args.live.now.entries = ap (λ (l : LiveKqueues). l.entries) c.live.view_is ∙ c.renew.ensures in
     let v : NumberedKqueue = record {
       number = c.one.inside.number;
       kq = c.one.inside.kq;
