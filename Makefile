@@ -28,8 +28,8 @@ test:
 
 bench: all
 	cd crates/value_count && rt run < stdin
-	cd crates/trace_check && rt run < stdin
-	cd crates/replay_bench && rt run < stdin
+	cd crates/trace_check && rt run -- fallbacks < stdin
+	cd crates/replay_bench && rt run -- parts 2 < stdin
 	bench/run $(KQSIM) $(VALUE_COUNT) $(TRACE_CHECK)
 	bench/kevents $(KQSIM)
 	bench/objects $(KQSIM)

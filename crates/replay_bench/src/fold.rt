@@ -28,9 +28,12 @@ fn folded(alloc: Global, bytes: &[u8]) -> Result<Vec<u8>, TraceError> {
     let mut reader = TraceReader::new(alloc, bytes)?;
     let mut system = System::new(alloc, reader.version())?;
     let mut text = ReportText::new(alloc);
-    'records: while let Some(event) = reader.next_event()? {
+    for _ in 0..=MOST_RECORDS {
+        let Some(event) = reader.next_event()? else {
+            break;
+        };
         if system.applied() >= MOST_RECORDS {
-            break 'records;
+            break;
         }
         let reply = system.apply(&event)?;
         text = text.with_row(system.applied(), &reply)?;

@@ -41,7 +41,6 @@ fn rows_stand_by_place(rt: HostRuntime) -> Result<(), Fail> {
 }
 
 #[test]
-#[tactic(auto, using(crate::proofs::ReplayedTraces::kqueues_never_fall))]
 fn each_kqueue_of_a_trace_has_its_rows(rt: HostRuntime) -> Result<(), Fail> {
     let trace = read_trace(&rt, FORKED.as_bytes())?;
     let split = Split::of(rt.alloc(), &trace).map_err(|_| "memory")?;
