@@ -30,10 +30,10 @@ impl Meeting {
 
 impl Gate for Meeting {
     fn enter(&self, _worker: u32, job: u32) {
-        self.entered.fetch_add(1, SeqCst);
         if job > 2 {
             return;
         }
+        self.entered.fetch_add(1, SeqCst);
         for _ in 0..TURNS {
             if self.entered.load(SeqCst) >= 2 {
                 return;

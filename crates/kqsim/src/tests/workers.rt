@@ -76,7 +76,7 @@ fn each_kqueue_is_entered_once(rt: HostRuntime) -> Result<(), Fail> {
     Ok(())
 }
 
-/// Holds each of the first `held` jobs until so many jobs were entered as it waits for.
+/// Holds each of the first `held` jobs until the first `awaited` jobs were all entered.
 #[derive(Drop)]
 struct Meeting {
     held: u32,
@@ -87,6 +87,9 @@ struct Meeting {
 
 impl Gate for Meeting {
     fn enter(&self, _worker: u32, job: u32) {
+        if u64::from(job) > self.awaited {
+            return;
+        }
         self.entered.fetch_add(1, SeqCst);
         if job > self.held {
             return;
