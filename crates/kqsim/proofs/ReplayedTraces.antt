@@ -1,5 +1,5 @@
 -- The report of a trace whose kqueues were replayed alone, and its faults.
-use Rattle.std.proofs.Common.{◌≡◌, ◌∙◌, ℕ, ◌≤◌, ◌<◌, ◌⊎◌, List, map, length, Result, Ok, Err, IfErr, IfOk, IsErrOf, MatchResult, sym, ap, subst, arith, ⊎_elim}
+use Rattle.std.proofs.Common.{◌≡◌, ◌∙◌, ℕ, ◌≤◌, ◌<◌, ◌⊎◌, List, length, Result, Ok, Err, IfErr, IfOk, IsErrOf, MatchResult, sym, ap, subst, arith, ⊎_elim}
 use Rattle.std.proofs.lemmas.List.{length-map}
 use Rattle.std.proofs.lemmas.List.Elements.{All-weaker}
 use Rattle.std.proofs.lemmas.Result.{IfErr-at_err, IfErr-weaker}
