@@ -9,6 +9,7 @@
 KQSIM := crates/kqsim/out/kqsim
 VALUE_COUNT := crates/value_count/out/value_count
 TRACE_CHECK := crates/trace_check/out/trace_check
+REPLAY_BENCH := crates/replay_bench/out/replay_bench
 EXAMPLE ?= examples/doorbell.trace
 PREFIX ?= /usr/local
 
@@ -27,12 +28,14 @@ test:
 
 bench: all
 	cd crates/value_count && rt run < stdin
-	cd crates/trace_check && rt run < stdin
+	cd crates/trace_check && rt run -- fallbacks < stdin
+	cd crates/replay_bench && rt run -- parts 2 < stdin
 	bench/run $(KQSIM) $(VALUE_COUNT) $(TRACE_CHECK)
 	bench/kevents $(KQSIM)
 	bench/objects $(KQSIM)
 	bench/timers $(KQSIM)
 	bench/live $(KQSIM)
+	bench/workers $(KQSIM) $(REPLAY_BENCH)
 
 install: all
 	install -D -m 755 $(KQSIM) $(DESTDIR)$(PREFIX)/bin/kqsim

@@ -2,23 +2,28 @@
 import os
 import subprocess
 import sys
+import time
 
 import traces
 
 
 class Measure:
-    """The shortest time, in seconds, and the greatest peak memory, in bytes, of some runs of one program.
+    """The shortest time, in seconds, by the processor and by the clock, and the greatest peak memory, in bytes, of
+    some runs of one program, which may use these processors alone (all, where none are given).
 
     What a timed run writes goes to /dev/null: to put it on a disk is no work of the program's.
     """
 
-    def __init__(self, words, given, taken):
-        self.words, self.given, self.taken = words, given, taken
-        self.seconds, self.peak = float("inf"), 0
+    def __init__(self, words, given, taken, processors=None):
+        self.words, self.given, self.taken, self.processors = words, given, taken, processors
+        self.seconds, self.clock, self.peak = float("inf"), float("inf"), 0
+
+    def _keep_to_processors(self):
+        os.sched_setaffinity(0, self.processors)
 
     def _ended(self, taken):
         with open(self.given, "rb") as source, open(taken, "wb") as sink:
-            child = subprocess.Popen(self.words, stdin=source, stdout=sink)
+            child = subprocess.Popen(self.words, stdin=source, stdout=sink, preexec_fn=self.processors and self._keep_to_processors)
             _, status, used = os.wait4(child.pid, 0)
         child.returncode = os.waitstatus_to_exitcode(status)
         if child.returncode:
@@ -31,7 +36,9 @@ class Measure:
 
     def run(self):
         """Runs the program once more, timed."""
+        begun = time.perf_counter()
         used = self._ended(os.devnull)
+        self.clock = min(self.clock, time.perf_counter() - begun)
         self.seconds = min(self.seconds, used.ru_utime + used.ru_stime)
         self.peak = max(self.peak, used.ru_maxrss * 1024)
 

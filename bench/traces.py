@@ -229,6 +229,44 @@ def crowd(live):
         turn += 1
 
 
+def herd(count):
+    """So many processes, all forked from one, each with a kqueue that watches the listening socket which they share. Each
+    connection that arrives is told to all of them; one polls, accepts it and closes it."""
+    kqueue, shared, own = 3, 4, 5
+    yield from (record("proc", 1), record("socket", 1, shared, 65536, 65536), record("listen", 1, shared, 128))
+    pids = range(2, count + 2)
+    for pid in pids:
+        yield from (record("fork", 1, pid), record("kqueue", pid, kqueue), on(pid, kqueue, 0, ("ADD", shared)))
+    for pid in itertools.cycle(pids):
+        yield from (record("arrive", 1, shared), on(pid, kqueue, POLL_ROOM))
+        yield from (record("accept", pid, shared, own, 65536, 65536), record("close", pid, own))
+
+
+def churn():
+    """One process after the other makes a kqueue with a timer, waits a millisecond, polls and exits."""
+    kqueue, timer = 3, change(1, ["ADD"], 0, "TIMER", 1)
+    for pid in itertools.count(1):
+        yield from (record("proc", pid), record("kqueue", pid, kqueue))
+        yield f'{{"op":"kevent","pid":{pid},"fd":{kqueue},"changes":[{timer}],"room":0}}\n'
+        yield from (record("clock", pid * MILLISECOND), on(pid, kqueue, POLL_ROOM), record("exit", pid, 0))
+
+
+def loops(count):
+    """So many processes, each with a kqueue on a socket of its own and a timer of a second and more. One after the other
+    receives, polls and reads, and after each four of them the clock goes on by a millisecond."""
+    kqueue, own = 3, 4
+    for pid in range(1, count + 1):
+        yield from (record("proc", pid), record("kqueue", pid, kqueue), record("socket", pid, own, 65536, 65536))
+        yield from (record("connect", pid, own), on(pid, kqueue, 0, ("ADD", own)))
+        timer = change(0, ["ADD"], 0, "TIMER", 1000 + pid)
+        yield f'{{"op":"kevent","pid":{pid},"fd":{kqueue},"changes":[{timer}],"room":0}}\n'
+    for turn in itertools.count():
+        pid = turn % count + 1
+        yield from (record("rx", pid, own, 10), on(pid, kqueue, POLL_ROOM), record("read", pid, own, 10))
+        if turn % 4 == 3:
+            yield record("clock", (turn // 4 + 1) * MILLISECOND)
+
+
 def spelled(number, name):
     """The value of a member of record `number`, as JSON."""
     turn = number // len(MEMBERS)

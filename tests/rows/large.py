@@ -52,6 +52,8 @@ def rows():
     yield "line-over-both-limits", HEADER + tick * RECORDS + b" " * (LINE + 1), *fault(RECORDS + 2, "TooLong")
     yield "one-clock-record-too-many", HEADER + tick * (RECORDS + 1), *fault(RECORDS + 2, "TooManyRecords")
     yield "last-record-bad", HEADER + nobody * (RECORDS - 1) + b"\n" + nobody, *fault(RECORDS + 1, "Json")
+    apart = nobody * 1500 + b"[\n" + nobody * 3000 + b"{}\n" + nobody * 3000
+    yield "two-bad-lines-far-apart", HEADER + apart, *fault(1502, "Json")
 
     most = report(b'{"at":3,"events":[]}', b'{"at":4,"events":[' + b",".join(map(event, range(1024))) + b"]}")
     last = b'{"calls":2,"events":1024,"records":4}'

@@ -1,4 +1,4 @@
-ghost use Rattle.std.specs.Prelude.{◌≡◌, ◌<◌, ◌≤◌, ◌+◌, ◌∷◌, [], MatchOption, IsPermutation, length, All};
+ghost use Rattle.std.specs.Prelude.{◌≡◌, ◌<◌, ◌≤◌, ◌+◌, ◌∷◌, [], true, false, MatchOption, IsPermutation, length, All};
 ghost use Rattle.kq_alarm.specs.Armed.{entry_of, IsEarliest};
 
 use crate::Alarm;
@@ -51,12 +51,15 @@ impl Alarms {
         self.heap.capacity() - self.heap.len()
     }
 
-    /// Makes the room at least `more`, where there is memory for it; nothing else changes.
-    pub fn reserve(&mut self, more: usize)
+    /// Makes the room at least `more`, where there is memory for it, and says whether it is; nothing
+    /// else changes.
+    pub fn reserve(&mut self, more: usize) -> bool
         ensures entries { self.new.entries ≡ self.old.entries }
         ensures room { self.old.room ≤ self.new.room }
+        ensures made { result ≡ true → more ≤ self.new.room }
+        ensures missing { result ≡ false → self.old.room < more }
     {
-        let _ = self.heap.reserve(more);
+        self.heap.reserve(more).is_ok()
     }
 
     /// Adds an alarm. It uses one of the room.

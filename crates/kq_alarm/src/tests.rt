@@ -8,7 +8,7 @@ fn alarm(moment: u64, ident: u64) -> Alarm {
 #[test]
 fn the_earliest_comes_first(rt: HostRuntime) -> Result<(), Fail> {
     let mut alarms = Alarms::new(rt.alloc());
-    alarms.reserve(4);
+    assert!(rt; alarms.reserve(4));
     for (moment, ident) in [(30, 7), (20, 8), (20, 9), (40, 7)] {
         assert!(rt; 0 < alarms.room());
         alarms.add(alarm(moment, ident));

@@ -1,6 +1,7 @@
 //! A trace that many threads run.
-ghost use Rattle.std.specs.Prelude.{◌≤◌, IfOk};
+ghost use Rattle.std.specs.Prelude.{◌≤◌, IfErr, IfOk};
 ghost use Rattle.kq_live.specs.Recorded.{IsRun};
+ghost use Rattle.kq_serve.specs.Faults.{IsServeFault};
 
 use crate::book::Book;
 use crate::machine::LiveMachine;
@@ -23,7 +24,9 @@ pub fn live_run<R: Threads + Wait + Sync, G: Gate + Sync, S: Starts>(
     threads: u32,
 ) -> Result<Book, ServeError>
     requires { (1 ≤ threads) × (threads ≤ 64) }
-    ensures { IfOk result (λ b. IsRun trace.now.version threads trace.now.events b) }
+    ensures book { IfOk result (λ b. IsRun trace.now.version threads trace.now.events b) }
+    // Busy never, and Spawn only where there is a thread to be started.
+    ensures err { IfErr result (IsServeFault threads) }
 {
     let machine = LiveMachine::new(alloc, trace.version)?;
     let events = trace.events.as_slice();

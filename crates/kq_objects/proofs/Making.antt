@@ -4,17 +4,14 @@ use Rattle.std.proofs.lemmas.Bool.Decides.{eqb_tells}
 use Rattle.slab.specs.Slab as slab
 use Rattle.kq_model.specs.declared.doing.DescriptionRecord.{DescriptionRecord}
 use Rattle.kq_model.specs.declared.doing.DescriptionRecord.TheVariants as description
-use Rattle.kq_model.specs.declared.doing.PipeRecord.{PipeRecord}
-use Rattle.kq_model.specs.declared.doing.PipeRecord.TheVariants as pipe
 use Rattle.kq_model.specs.declared.doing.SocketRecord.{SocketRecord}
 use Rattle.kq_model.specs.declared.doing.SocketRecord.TheVariants as socket
 use Rattle.kq_model.specs.Books.{Book}
 use Rattle.kq_model.specs.Objects.{kept, told_of, told_at}
 use Rattle.kq_model.specs.Files.{description_after, no_description, is_description_held}
-use Rattle.kq_model.specs.Pipes.{pipe_after, no_pipe, is_pipe_held}
 use Rattle.kq_model.specs.Sockets.{socket_after, no_socket, is_socket_held}
 use Rattle.kq_objects.specs.Descriptions.{under}
-use Rattle.kq_objects.specs.Fits.{FitsSocketAt, FitsPipeAt, FitsDescriptionAt, made_socket, made_pipe, made_description}
+use Rattle.kq_objects.specs.Fits.{FitsSocketAt, FitsDescriptionAt, made_description}
 use Rattle.kq_objects.specs.Kept.{Placed, of_place}
 
 module _ {R Q S : Type 0} (b : Book R Q S) (stays : Q → Bool) where
@@ -75,23 +72,10 @@ pub on_ok : {T E : Type 0} (r : Result T E) (P : Type 0) → IsOk r → OnOk r P
 on_ok (Ok x) P ok holds = holds
 on_ok (Err e) P ok holds = absurd (cc)
 
-pub made_socket-one : (r : SocketRecord) → FitsSocketAt r None → made_socket r ≡ 1
-made_socket-one (socket.Made receive send) fits = refl
-made_socket-one r fits = absurd fits
-
 pub made_socket-held : (r : SocketRecord) → FitsSocketAt r None → is_socket_held (socket_after r no_socket) ≡ true
 unfolding socket_after
 made_socket-held (socket.Made receive send) fits = refl
 made_socket-held r fits = absurd fits
-
-pub made_pipe-one : (r : PipeRecord) → FitsPipeAt r None → made_pipe r ≡ 1
-made_pipe-one (pipe.Made cap) fits = refl
-made_pipe-one r fits = absurd fits
-
-pub made_pipe-held : (r : PipeRecord) → FitsPipeAt r None → is_pipe_held (pipe_after r no_pipe) ≡ true
-unfolding pipe_after
-made_pipe-held (pipe.Made cap) fits = refl
-made_pipe-held r fits = absurd fits
 
 pub made_description-one : (r : DescriptionRecord) → FitsDescriptionAt r None → made_description r ≡ 1
 made_description-one (description.Opened file mode) fits = refl

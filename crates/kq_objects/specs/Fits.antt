@@ -28,13 +28,12 @@ FitsSocket (socket.Written bytes) s = (s.unsent +ℤ pos bytes) <ℤ pos (2 ^ 32
 FitsSocket (socket.Transmitted bytes) s = pos bytes ≤ℤ s.unsent
 FitsSocket socket.Held s = HasRoomToHold s.holders
 FitsSocket socket.Released s = pos 1 ≤ℤ s.holders
-FitsSocket (socket.Made receive send) s = HasRoomToHold s.holders
+FitsSocket (socket.Made receive send) s = ⊥
 FitsSocket _ s = Unit {0}
 
 -- only what makes it is noted of a socket that is not there, and of no other
 abbrev pub FitsSocketAt : SocketRecord → Option SocketState → Type 0
 FitsSocketAt (socket.Made receive send) None = Unit {0}
-FitsSocketAt (socket.Made receive send) (Some s) = ⊥
 FitsSocketAt _ None = ⊥
 FitsSocketAt r (Some s) = FitsSocket r s
 
@@ -43,7 +42,7 @@ made_socket (socket.Made receive send) = 1
 made_socket _ = 0
 
 abbrev pub FitsPipe : PipeRecord → PipeState → Type 0
-FitsPipe (pipe.Made cap) s = HasRoomToHold s.readers × HasRoomToHold s.writers
+FitsPipe (pipe.Made cap) s = ⊥
 FitsPipe (pipe.Read bytes) s = pos bytes ≤ℤ s.bytes
 FitsPipe (pipe.Written bytes) s = (s.bytes +ℤ pos bytes) <ℤ pos (2 ^ 32)
 FitsPipe (pipe.Held side.Read) s = HasRoomToHold s.readers
@@ -54,7 +53,6 @@ FitsPipe (pipe.Released side.Write) s = pos 1 ≤ℤ s.writers
 -- only what makes it is noted of a pipe that is not there, and of no other
 abbrev pub FitsPipeAt : PipeRecord → Option PipeState → Type 0
 FitsPipeAt (pipe.Made cap) None = Unit {0}
-FitsPipeAt (pipe.Made cap) (Some s) = ⊥
 FitsPipeAt _ None = ⊥
 FitsPipeAt r (Some s) = FitsPipe r s
 

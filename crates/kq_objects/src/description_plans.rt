@@ -7,9 +7,9 @@ ghost use Rattle.kq_objects.specs.Descriptions.{description_at};
 ghost use Rattle.kq_objects.specs.Objects.{objects_of, IsPlanned, IsReady};
 
 use crate::file_plans::{MOST_FILE_SIZE, extending, file_amount, hints_to, noted};
-use crate::note_bits::{NOTE_READ, NOTE_WRITE};
 use crate::objects::Objects;
 use crate::{Plan, PlanError};
+use kq_model::notes::{NOTE_READ, NOTE_WRITE};
 use kq_model::{DescriptionRecord, Doing, FileRecord, Hint, Memory, Named, Target, Why};
 
 /// Whether a write of so many bytes up to this end makes the file greater.

@@ -11,9 +11,10 @@ ghost use Rattle.kq_objects.specs.Kept.{FileKept};
 ghost use Rattle.kq_objects.specs.Objects.{objects_of, IsPlanned, IsReady};
 
 use crate::file::File;
-use crate::note_bits::{NOTE_ATTRIB, NOTE_EXTEND, NOTE_OPEN, bit_of};
+use crate::note_bits::bit_of;
 use crate::objects::Objects;
 use crate::{Plan, PlanError};
+use kq_model::notes::{NOTE_ATTRIB, NOTE_EXTEND, NOTE_OPEN};
 use kq_model::{DescriptionRecord, Doing, FileRecord, Hint, Memory, Mode, Note, Target, Why};
 use std::alloc::Global;
 

@@ -11,8 +11,8 @@ ghost use Rattle.kq_objects.specs.Files.{file_at};
 ghost use Rattle.kq_objects.specs.Holding.{CanHold, CanRelease};
 ghost use Rattle.kq_objects.specs.Objects.{objects_of};
 
-use crate::note_bits::{NOTE_CLOSE, NOTE_CLOSE_WRITE};
 use crate::objects::Objects;
+use kq_model::notes::{NOTE_CLOSE, NOTE_CLOSE_WRITE};
 use kq_model::{
     DescriptionRecord, Doing, FileRecord, Hint, Named, PipeRecord, Side, SocketRecord, Target,
 };

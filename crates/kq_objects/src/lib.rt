@@ -1,6 +1,7 @@
 //! Sockets, pipes, files and open file descriptions: what a record does to them, and what they show.
 #![tactic(auto)]
 
+mod by_place;
 mod carrying;
 mod description;
 mod description_plans;
@@ -11,17 +12,16 @@ mod file_plans;
 mod files;
 mod holding;
 mod note_bits;
+mod object;
 mod objects;
 mod pipe;
 mod pipe_plans;
 mod pipe_steps;
-mod pipes;
 mod plan;
 mod planning;
 mod socket;
 mod socket_plans;
 mod socket_steps;
-mod sockets;
 
 pub use error::PlanError;
 pub use objects::Objects;

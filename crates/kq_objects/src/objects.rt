@@ -3,10 +3,11 @@ ghost use Rattle.kq_model.specs.Limits.{most_file_size};
 ghost use Rattle.kq_model.specs.Objects.{counted, no_objects, size_of, view_of};
 ghost use Rattle.kq_objects.specs.Files.{file_at};
 
+use crate::by_place::ByPlace;
 use crate::descriptions::Descriptions;
 use crate::files::Files;
-use crate::pipes::Pipes;
-use crate::sockets::Sockets;
+use crate::pipe::Pipe;
+use crate::socket::Socket;
 use kq_model::{Memory, Target, View};
 use std::alloc::Global;
 
@@ -14,8 +15,8 @@ use std::alloc::Global;
 /// kept until their last descriptor is closed. Contracts see them by `objects_of`.
 #[derive(Drop)]
 pub struct Objects {
-    pub(crate) sockets: Sockets,
-    pub(crate) pipes: Pipes,
+    pub(crate) sockets: ByPlace<Socket>,
+    pub(crate) pipes: ByPlace<Pipe>,
     pub(crate) descriptions: Descriptions,
     pub(crate) files: Files,
     pub(crate) alloc: Global,
@@ -29,8 +30,8 @@ impl Objects {
         ensures { IfOk result (λ o. objects_of o ≡ no_objects counted) }
     {
         Ok(Objects {
-            sockets: Sockets::new(alloc),
-            pipes: Pipes::new(alloc),
+            sockets: ByPlace::new(alloc),
+            pipes: ByPlace::new(alloc),
             descriptions: Descriptions::new(alloc),
             files: Files::new(alloc),
             alloc,

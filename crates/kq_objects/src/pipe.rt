@@ -1,9 +1,10 @@
 ghost use Rattle.std.specs.Prelude.{◌≡◌, ◌^◌, pos, ◌+ℤ◌, ◌<ℤ◌};
-ghost use Rattle.kq_model.specs.Pipes.{no_pipe, pipe_after, pipe_view, is_pipe_held, has_reader, has_writer};
-ghost use Rattle.kq_model.specs.Pipes.{pipe_space};
+ghost use Rattle.kq_model.specs.Objects.{counted};
+ghost use Rattle.kq_model.specs.Pipes.{pipe_view, is_pipe_held, has_reader, has_writer, pipe_space};
 ghost use Rattle.kq_model.specs.Holding.{is_last};
-ghost use Rattle.kq_objects.specs.Fits.{FitsPipe};
+ghost use Rattle.kq_objects.specs.Fits.{FitsPipeAt, made_pipe};
 
+use crate::object::Object;
 use kq_model::{PipeRecord, Side, View};
 use std::marker::Model;
 
@@ -37,31 +38,34 @@ impl Model for Pipe {
     } };
 }
 
-impl Pipe {
-    /// A pipe of which nothing is noted yet.
-    pub fn unmade() -> Self
-        ensures { result ≡ no_pipe }
-    {
+impl Object for Pipe {
+    type Record = PipeRecord;
+
+    ghost book = { counted.pipes };
+
+    ghost stays = { is_pipe_held };
+
+    ghost fits = { FitsPipeAt };
+
+    ghost makes = { made_pipe };
+
+    #[tactic(auto, unfolding(kq_model::specs::Pipes::pipe_after))]
+    fn first(told: PipeRecord) -> Self {
+        let PipeRecord::Made { cap } = told else {
+            unreachable!();
+        };
         Pipe {
-            cap: 0,
+            cap,
             bytes: 0,
-            readers: 0,
-            writers: 0,
+            readers: 1,
+            writers: 1,
         }
     }
 
-    /// Notes one more record.
     #[tactic(auto, unfolding(kq_model::specs::Pipes::pipe_after))]
-    pub fn tell(&mut self, told: PipeRecord)
-        requires { FitsPipe told self.old }
-        ensures { self.new ≡ pipe_after told self.old }
-    {
+    fn tell(&mut self, told: PipeRecord) {
         match told {
-            PipeRecord::Made { cap } => {
-                self.cap = cap;
-                self.readers += 1;
-                self.writers += 1;
-            }
+            PipeRecord::Made { .. } => unreachable!(),
             PipeRecord::Read { bytes } => self.bytes -= bytes,
             PipeRecord::Written { bytes } => self.bytes += bytes,
             PipeRecord::Held { end } => match end {
@@ -75,6 +79,12 @@ impl Pipe {
         }
     }
 
+    fn is_held(&self) -> bool {
+        self.has_reader() || self.has_writer()
+    }
+}
+
+impl Pipe {
     /// Whether the read end is open.
     pub fn has_reader(&self) -> bool
         ensures { result ≡ has_reader self.now }
@@ -101,13 +111,6 @@ impl Pipe {
         ensures { result ≡ is_last self.now.writers }
     {
         self.writers <= 1
-    }
-
-    /// Whether a descriptor names one of its ends.
-    pub fn is_held(&self) -> bool
-        ensures { result ≡ is_pipe_held self.now }
-    {
-        self.has_reader() || self.has_writer()
     }
 
     /// How many more bytes fit into it.

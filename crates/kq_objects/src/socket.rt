@@ -1,7 +1,9 @@
 ghost use Rattle.std.specs.Prelude.{◌≡◌};
-ghost use Rattle.kq_model.specs.Sockets.{no_socket, socket_after, socket_view, is_socket_held};
-ghost use Rattle.kq_objects.specs.Fits.{FitsSocket};
+ghost use Rattle.kq_model.specs.Objects.{counted};
+ghost use Rattle.kq_model.specs.Sockets.{socket_view, is_socket_held};
+ghost use Rattle.kq_objects.specs.Fits.{FitsSocketAt, made_socket};
 
+use crate::object::Object;
 use kq_model::{Side, SocketRecord, View};
 use std::marker::Model;
 
@@ -68,47 +70,49 @@ impl Model for Socket {
     } };
 }
 
-impl Socket {
-    /// A socket of which nothing is noted yet.
-    pub fn unmade() -> Self
-        ensures { result ≡ no_socket }
-    {
+impl Object for Socket {
+    type Record = SocketRecord;
+
+    ghost book = { counted.sockets };
+
+    ghost stays = { is_socket_held };
+
+    ghost fits = { FitsSocketAt };
+
+    ghost makes = { made_socket };
+
+    #[tactic(auto, unfolding(kq_model::specs::Sockets::socket_after))]
+    fn first(told: SocketRecord) -> Self {
+        let SocketRecord::Made {
+            receive_buffer,
+            send_buffer,
+        } = told
+        else {
+            unreachable!();
+        };
         Socket {
-            receive_buffer: 0,
-            send_buffer: 0,
+            receive_buffer,
+            send_buffer,
             listening: false,
             backlog: 0,
             pending: 0,
             connected: false,
             readable: 0,
             unsent: 0,
-            read_mark: 0,
-            write_mark: 0,
+            read_mark: 1,
+            write_mark: send_buffer.min(2048),
             read_shut: false,
             read_error: 0,
             write_shut: false,
             write_error: 0,
-            holders: 0,
+            holders: 1,
         }
     }
 
-    /// Notes one more record.
     #[tactic(auto, unfolding(kq_model::specs::Sockets::socket_after))]
-    pub fn tell(&mut self, told: SocketRecord)
-        requires { FitsSocket told self.old }
-        ensures { self.new ≡ socket_after told self.old }
-    {
+    fn tell(&mut self, told: SocketRecord) {
         match told {
-            SocketRecord::Made {
-                receive_buffer,
-                send_buffer,
-            } => {
-                self.receive_buffer = receive_buffer;
-                self.send_buffer = send_buffer;
-                self.read_mark = 1;
-                self.write_mark = send_buffer.min(2048);
-                self.holders += 1;
-            }
+            SocketRecord::Made { .. } => unreachable!(),
             SocketRecord::Listened { backlog } => {
                 self.listening = true;
                 self.backlog = backlog;
@@ -139,13 +143,12 @@ impl Socket {
         }
     }
 
-    /// Whether a descriptor names it.
-    pub fn is_held(&self) -> bool
-        ensures { result ≡ is_socket_held self.now }
-    {
+    fn is_held(&self) -> bool {
         self.holders > 0
     }
+}
 
+impl Socket {
     /// What a filter sees of it.
     #[tactic(auto, unfolding(kq_model::specs::Sockets::socket_view))]
     pub fn view(&self) -> View

@@ -1,12 +1,13 @@
 ghost use Rattle.std.specs.Prelude.{◌≡◌, ◌∷◌, [], IfOk, OnOk, Some, true};
 ghost use Rattle.kq_model.specs.declared.object.Named.{Named as NamedObject};
 ghost use Rattle.kq_model.specs.DescriptorPlans.{on_descriptor};
+ghost use Rattle.kq_model.specs.ProcessPlans.{descriptors_of};
 ghost use Rattle.kq_model.specs.Processes.{is_live};
 ghost use Rattle.kq_model.specs.Objects.{counted};
 ghost use Rattle.kq_model.specs.World.{empty_world, named_by, view_in, Planned};
 ghost use Rattle.kq_objects.specs.Objects.{objects_of};
 ghost use Rattle.kq_process.specs.Counts.{IsSound};
-ghost use Rattle.kq_process.specs.Processes.{table_of, descriptor_in, AreOnce};
+ghost use Rattle.kq_process.specs.Processes.{table_of, descriptor_in, descriptors_in, AreOnce};
 
 use crate::processes::Processes;
 use kq_model::{Memory, Named, Target, View, Why};
@@ -71,6 +72,14 @@ impl World {
         ensures { result ≡ named_by pid number (world_of self.now) }
     {
         self.processes.named(pid, number)
+    }
+
+    /// The open descriptors of a process, each with its number, in rising order; none where there is
+    /// no such process.
+    pub fn descriptors(&self, pid: u32) -> &[(u32, Named)]
+        ensures { descriptors_in pid result.now ≡ descriptors_of pid (world_of self.now).table }
+    {
+        self.processes.descriptors(pid)
     }
 
     /// The clock, in ns.

@@ -1,7 +1,8 @@
 //! The steps of a list, served by threads that call one lock.
-ghost use Rattle.std.specs.Prelude.{◌≡◌, ◌^◌, ◌<◌, ◌≤◌, length, IfOk, vec_len};
+ghost use Rattle.std.specs.Prelude.{◌≡◌, ◌^◌, ◌<◌, ◌≤◌, ◌+◌, length, IfErr, IfOk, vec_len};
 ghost use Rattle.kq_lock.specs.Seats.{IsFresh, EachSeat};
 ghost use Rattle.kq_lock.specs.Calls.{calls_by};
+ghost use Rattle.kq_serve.specs.Faults.{IsServeFault};
 ghost use Rattle.kq_serve.specs.Shares.{share, shares, steps_of, AreServed, Serves};
 
 use crate::error::ServeError;
@@ -35,6 +36,7 @@ where
     ensures lock { IfOk result (λ s. s.lock ≡ lock.now) }
     ensures all { IfOk result (λ s.
         AreServed seats.items (shares M.owner threads (vec_len seats) steps.now) s.seen) }
+    ensures err { IfErr result (IsServeFault (vec_len seats)) }
 {
     let Some(last) = seats.pop() else {
         unreachable!()
@@ -58,6 +60,7 @@ where
                 AreServed seats.items (shares M.owner threads thread steps.entry.now) s.seen
                 × (steps_of (calls_by last.number s.seen)
                 ≡ share M.owner threads thread steps.entry.now)) }
+            ensures err { IfErr result (IsServeFault (thread + 1)) }
         {
             let share = ShareOf {
                 seat: Snapshot::of(&last),
@@ -96,8 +99,9 @@ where
     M::Answer: Send,
     requires threads { (1 ≤ threads) × (threads ≤ 64) }
     requires few { length steps.now < 2 ^ 32 }
-    ensures { IfOk result (λ r.
+    ensures served { IfOk result (λ r.
         Serves M.leads machine r.0 (shares M.owner threads threads steps.now) r.1.items) }
+    ensures err { IfErr result (IsServeFault threads) }
 {
     let (lock, seats) = TurnLock::new(alloc, machine, threads as usize, steps.len() as u64)?;
     let seat = serve_all(rt, gate, starts, &lock, seats, steps, threads)?;

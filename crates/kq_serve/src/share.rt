@@ -1,6 +1,7 @@
 //! The calls of one thread.
-ghost use Rattle.std.specs.Prelude.{◌≡◌, ◌^◌, ◌<◌, [], length, IfOk};
+ghost use Rattle.std.specs.Prelude.{◌≡◌, ◌^◌, ◌<◌, [], length, IfErr, IfOk};
 ghost use Rattle.kq_lock.specs.Seats.{own_calls};
+ghost use Rattle.kq_serve.specs.Faults.{IsServeFault};
 ghost use Rattle.kq_serve.specs.Shares.{share, HasServed};
 
 use crate::error::ServeError;
@@ -25,7 +26,8 @@ pub fn serve_share<M: Served, R: Wait, G: Gate>(
     requires new { own_calls seat ≡ [] }
     requires thread { thread < threads }
     requires few { length steps.now < 2 ^ 32 }
-    ensures { IfOk result (λ s. HasServed seat s (share M.owner threads thread steps.now)) }
+    ensures served { IfOk result (λ s. HasServed seat s (share M.owner threads thread steps.now)) }
+    ensures err { IfErr result (IsServeFault 1) }
 {
     let mut place = 0u32;
     for step in steps {
@@ -50,9 +52,11 @@ pub struct ShareOf<'a, M: Served> {
 }
 
 impl<'a, M: Served> Promise<Result<TurnSeat<M>, ServeError>> for ShareOf<'a, M> {
-    ghost use Rattle.std.specs.Prelude.{IfOk};
+    ghost use Rattle.std.specs.Prelude.{IfErr, IfOk};
+    ghost use Rattle.kq_serve.specs.Faults.{IsServeFault};
     ghost use Rattle.kq_serve.specs.Shares.{share, HasServed};
 
     ghost kept_by = { λ p r. IfOk r (λ s.
-        HasServed p.seat.value s (share M.owner p.threads p.thread p.steps.now)) };
+        HasServed p.seat.value s (share M.owner p.threads p.thread p.steps.now))
+        × IfErr r (IsServeFault 1) };
 }

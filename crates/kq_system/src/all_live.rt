@@ -116,26 +116,6 @@ pub fn call_on<V: Views>(
     ensures memory { OnErr result (map live_of live.new.entries ≡ map live_of live.old.entries) }
 {
     renew(live)?;
-    call_found(live, kqueue, changes, room, views)
-}
-
-/// The same, where the indexes are not too full.
-fn call_found<V: Views>(
-    live: &mut Kqueues,
-    kqueue: u64,
-    changes: &[Change],
-    room: u32,
-    views: &V,
-) -> Result<Reply, Memory>
-    requires { IsLive kqueue (map live_of live.old.entries) }
-    ensures called { IfOk result (λ reply. (m : Moment) → IsQuiet m → m.views ≡ V.sees views.now
-        → AreOfVersion m.version live.old.entries
-        → m.call ≡ Some (record { kqueue = kqueue; changes = changes.now; room = room })
-        → IsCalled m (record { kqueue = kqueue; changes = changes.now; room = room })
-        (map live_of live.old.entries) (map live_of live.new.entries) reply) }
-    ensures stayed { HaveStayed live.old.entries live.new.entries }
-    ensures memory { OnErr result (map live_of live.new.entries ≡ map live_of live.old.entries) }
-{
     live.ready = None;
     let owner = owner_of(&live.live, kqueue);
     watch_all(&mut live.watching, kqueue, owner, changes, views)?;

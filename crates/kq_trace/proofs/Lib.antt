@@ -12,3 +12,6 @@ pub mod LineTexts
 pub mod EventAgain
 pub mod ReadAgain
 pub mod LeastFault
+pub mod PutTogether
+pub mod BatchLines
+pub mod WholeTrace

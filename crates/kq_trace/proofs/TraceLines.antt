@@ -78,7 +78,7 @@ no_line rest version number none = ap (λ text. read_records version number (lin
 
 -- ---- one record after the other
 
-behind_none : (rest : Outcome) → rest ≡ behind_events [] rest
+pub behind_none : (rest : Outcome) → rest ≡ behind_events [] rest
 behind_none (Good version events) = refl
 behind_none (Bad line fault) = refl
 

@@ -1,5 +1,5 @@
 -- Names of small letters: they are spelled as they are, and each byte of them is seen.
-use Rattle.std.proofs.Common.{◌≡◌, ℕ, ◌<◌, Bool, true, ◌&&◌, List, [], ◌∷◌, ◌++◌, nat_lt, refl, ap, ap₂, ltb-true, arith}
+use Rattle.std.proofs.Common.{◌≡◌, ℕ, ◌<◌, true, ◌&&◌, List, [], ◌∷◌, ◌++◌, nat_lt, refl, ap, ap₂, ltb-true, arith}
 use Rattle.std.proofs.lemmas.Bool.{and_parts}
 use Rattle.json.specs.Print.{escape, escape_byte}
 use Rattle.json.proofs.Printed.Strings.{escape_byte_plain}

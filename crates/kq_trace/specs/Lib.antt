@@ -1,4 +1,5 @@
 pub mod Again
+pub mod Batches
 pub mod Faults
 pub mod Parts
 pub mod Rest

@@ -1,13 +1,18 @@
 //! The first line of a trace.
 
-ghost use Rattle.std.specs.Prelude.{◌≡◌, IfOk, IfSome, OnOk, Some, codes, option_and_then};
+ghost use Rattle.std.specs.Prelude.{◌≡◌, IfErr, IfOk, IfSome, OnOk, Some, codes, option_and_then};
 ghost use Rattle.serde_json.specs.Find.{get};
 ghost use Rattle.serde_json.specs.View.{view};
-ghost use Rattle.kq_model.specs.Reading.{header_version, json_of, version_in};
+ghost use Rattle.kq_model.specs.Reading.{header_version, json_of, read_records, reading, version_in};
+ghost use Rattle.kq_trace.specs.Faults.{IsFault};
+ghost use Rattle.kq_trace.specs.Rest.{lines_behind};
 
+use crate::TraceError;
+use crate::line::first_line;
 use crate::member::has_just;
 use crate::values::line_value;
-use kq_model::Memory;
+use kq_model::limits::MOST_LINE_BYTES;
+use kq_model::{LineFault, Memory};
 use serde_json::Value;
 use std::alloc::Global;
 
@@ -57,12 +62,35 @@ fn header_version(value: &Value) -> Option<u32>
 
 /// The version that a line names as the header of a trace.
 #[tactic(auto, unfolding(kq_model::specs::Reading::header_version))]
-pub fn version_on_line(alloc: Global, line: &[u8]) -> Result<Option<u32>, Memory>
+fn version_on_line(alloc: Global, line: &[u8]) -> Result<Option<u32>, Memory>
     ensures named { IfOk result (λ version. version ≡ header_version (json_of line.now)) }
     ensures known { IfOk result (λ version. IfSome version (λ version. version ≡ 1)) }
 {
     match line_value(alloc, line)? {
         Some(value) => Ok(header_version(&value)),
         None => Ok(None),
+    }
+}
+
+/// The version that the header of a text names, and what stands behind the line feed of the header. An error is that
+/// of line 1, or `Memory`.
+pub fn opened(alloc: Global, bytes: &[u8]) -> Result<(u32, &[u8]), TraceError>
+    ensures meaning { IfOk result (λ r. reading bytes.now ≡ read_records r.0 2 (lines_behind r.1.now)) }
+    ensures known { IfOk result (λ r. r.0 ≡ 1) }
+    ensures bad { IfErr result (IsFault bytes.now) }
+{
+    let (header, rest) = first_line(bytes);
+    if header.len() > MOST_LINE_BYTES {
+        return Err(TraceError::Bad {
+            line: 1,
+            fault: LineFault::TooLong,
+        });
+    }
+    match version_on_line(alloc, header)? {
+        Some(version) => Ok((version, rest)),
+        None => Err(TraceError::Bad {
+            line: 1,
+            fault: LineFault::Header,
+        }),
     }
 }

@@ -1,8 +1,10 @@
 //! The text of a trace: reading it with exact faults, and writing its canonical form.
 #![tactic(auto)]
 
+mod batches;
 mod change;
 mod changes;
+mod decoding;
 mod event;
 mod fault;
 mod header;

@@ -1,10 +1,12 @@
 //! Cutting a text into its lines, from the front and with no copy.
 
-ghost use Rattle.std.specs.Prelude.{◌≡◌, ◌<◌, ◌∷◌, length};
+ghost use Rattle.std.specs.Prelude.{◌≡◌, ◌++◌, ◌<◌, ◌≤◌, ◌∷◌, IfOk, length, vec_len};
 ghost use Rattle.kq_model.specs.Lines.{lines_of};
-ghost use Rattle.kq_trace.specs.Rest.{lines_behind};
+ghost use Rattle.kq_trace.specs.Rest.{lines_behind, texts};
 
+use kq_model::Memory;
 use memchr::memchr;
+use std::alloc::Global;
 
 /// The first line of a text, and what stands behind the line feed that ends it.
 pub fn first_line(text: &[u8]) -> (&[u8], &[u8])
@@ -17,4 +19,24 @@ pub fn first_line(text: &[u8]) -> (&[u8], &[u8])
         Some(end) => (&text[..end], &text[end + 1..]),
         None => (text, &text[text.len()..]),
     }
+}
+
+/// The lines of what stands behind a line feed, up to so many of them, and the text behind those.
+pub fn lines_up_to<'a>(
+    alloc: Global,
+    text: &'a [u8],
+    most: u64,
+) -> Result<(Vec<&'a [u8]>, &'a [u8]), Memory>
+    ensures all { IfOk result (λ cut. lines_behind text.now ≡ texts cut.0.items ++ lines_behind cut.1.now) }
+    ensures few { IfOk result (λ cut. vec_len cut.0 ≤ most) }
+    ensures full { IfOk result (λ cut. 0 < length cut.1.now → vec_len cut.0 ≡ most) }
+{
+    let mut lines = Vec::new(alloc);
+    let mut rest = text;
+    'lines: while !rest.is_empty() && (lines.len() as u64) < most {
+        let (line, behind) = first_line(rest);
+        lines.push(line).map_err(|_| Memory)?;
+        rest = behind;
+    }
+    Ok((lines, rest))
 }

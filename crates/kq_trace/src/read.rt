@@ -5,16 +5,54 @@ ghost use Rattle.kq_model.specs.Reading.{Good, reading};
 ghost use Rattle.kq_trace.specs.Faults.{IsFault, IsLeastFault};
 
 use crate::TraceError;
-use crate::trace_reader::{Readers, TraceReader};
+use crate::batches::events_on;
+use crate::decoding::{Readers, late_fault};
+use crate::header::opened;
+use crate::line::{first_line, lines_up_to};
+use crate::trace_reader::TraceReader;
+use kq_model::limits::MOST_RECORDS;
 use kq_model::{Memory, Series, Trace};
-use std::alloc::Global;
+use std::thread::Threads;
 
-/// The trace that a text is, or its first bad line; memory outermost.
-fn read(alloc: Global, bytes: &[u8], readers: Readers) -> Result<Trace, TraceError>
+/// Reads the text of a trace. On `Bad` the line is the first that has a fault, counted from 1, and
+/// its fault is the first of [`LineFault`]'s that it has; `Memory` says nothing of the text.
+///
+/// A line feed ends a line, one at the end of the text adds none, and empty text is one empty line.
+/// The format is this project's own, and a line's value is what `serde_json` reads. `rt` gives the
+/// memory for the trace, and the threads that decode its lines; a thread that does not start is no error.
+pub fn read_trace<R: AllocGlobal + Threads + Sync>(
+    rt: &R,
+    bytes: &[u8],
+) -> Result<Trace, TraceError>
+    ensures good { IfOk result (λ trace. reading bytes.now ≡ Good trace.version trace.events) }
+    ensures bad { IfErr result (IsFault bytes.now) }
+    ensures least { IfErr result (IsLeastFault bytes.now) }
+{
+    let alloc = rt.alloc();
+    let (version, rest) = opened(alloc, bytes)?;
+    let (lines, behind) = lines_up_to(alloc, rest, MOST_RECORDS)?;
+    let events = events_on(rt, alloc, lines.as_slice())?;
+    if !behind.is_empty() {
+        let (line, _) = first_line(behind);
+        return Err(TraceError::Bad {
+            line: MOST_RECORDS + 2,
+            fault: late_fault(line),
+        });
+    }
+    Ok(Trace {
+        version,
+        events: Series::from_vec(events),
+    })
+}
+
+/// The same as [`read_trace`], each line by way of a JSON value, one after the other: slower, and what the typed
+/// pass is held against.
+pub fn read_trace_by_values<R: AllocGlobal>(rt: &R, bytes: &[u8]) -> Result<Trace, TraceError>
     ensures good { IfOk result (λ trace. reading bytes.now ≡ Good trace.version trace.events) }
     ensures bad { IfErr result (IsFault bytes.now) }
 {
-    let mut reader = TraceReader::by(alloc, bytes, readers)?;
+    let alloc = rt.alloc();
+    let mut reader = TraceReader::by(alloc, bytes, Readers::ValuesAlone)?;
     let mut events = Vec::new(alloc);
     'records: while let Some(event) = reader.next_event()? {
         events.push(event).map_err(|_| Memory)?;
@@ -23,27 +61,4 @@ fn read(alloc: Global, bytes: &[u8], readers: Readers) -> Result<Trace, TraceErr
         version: reader.version(),
         events: Series::from_vec(events),
     })
-}
-
-/// Reads the text of a trace. On `Bad` the line is the first that has a fault, counted from 1, and
-/// its fault is the first of [`LineFault`]'s that it has; `Memory` says nothing of the text.
-///
-/// A line feed ends a line, one at the end of the text adds none, and empty text is one empty line.
-/// The format is this project's own, and a line's value is what `serde_json` reads. `rt` gives the
-/// memory for the trace, and for one line at a time.
-pub fn read_trace<R: AllocGlobal>(rt: &R, bytes: &[u8]) -> Result<Trace, TraceError>
-    ensures good { IfOk result (λ trace. reading bytes.now ≡ Good trace.version trace.events) }
-    ensures bad { IfErr result (IsFault bytes.now) }
-    ensures least { IfErr result (IsLeastFault bytes.now) }
-{
-    read(rt.alloc(), bytes, Readers::TypedFirst)
-}
-
-/// The same as [`read_trace`], each line by way of a JSON value: slower, and what the typed pass is
-/// held against.
-pub fn read_trace_by_values<R: AllocGlobal>(rt: &R, bytes: &[u8]) -> Result<Trace, TraceError>
-    ensures good { IfOk result (λ trace. reading bytes.now ≡ Good trace.version trace.events) }
-    ensures bad { IfErr result (IsFault bytes.now) }
-{
-    read(rt.alloc(), bytes, Readers::ValuesAlone)
 }

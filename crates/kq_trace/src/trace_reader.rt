@@ -1,44 +1,21 @@
 //! The records of a trace, one after the other, for who keeps none of them.
 
-ghost use Rattle.std.specs.Prelude.{◌≡◌, ◌≤◌, IfErr, IfOk, IfSome, Ok, OnErr, OnOk};
-ghost use Rattle.kq_model.specs.Reading.{event_of, json_of, reading, record_on};
+ghost use Rattle.std.specs.Prelude.{◌≡◌, ◌≤◌, IfErr, IfOk, OnErr, OnOk};
+ghost use Rattle.kq_model.specs.Reading.{reading, record_on};
 ghost use Rattle.kq_trace.specs.Faults.{IsFault};
 ghost use Rattle.kq_trace.specs.Unread.{IsFaultAhead, IsNext};
 
 use crate::TraceError;
-use crate::header::version_on_line;
+use crate::decoding::{Readers, event_on, late_fault};
+use crate::header::opened;
 use crate::line::first_line;
-use crate::record::event_of;
-use crate::values::line_value;
 use kq_line::LineReader;
-use kq_model::limits::{MOST_LINE_BYTES, MOST_RECORDS};
+use kq_model::limits::MOST_RECORDS;
 use kq_model::{Event, LineFault, Memory};
 use std::alloc::Global;
 use std::marker::Model;
 
-/// What reads a line behind the header.
-#[derive(Drop, Clone, Copy)]
-pub(crate) enum Readers {
-    /// The typed pass, and what that does not know a JSON value.
-    TypedFirst,
-    /// A JSON value alone.
-    ValuesAlone,
-}
-
-/// The record on a line, where the typed pass is asked and knows it.
-#[inline(always)]
-fn typed_event<'a>(readers: Readers, reader: &mut LineReader<'a>, line: &'a [u8]) -> Option<Event>
-    ensures { IfSome result (λ event. event_of (json_of line.now) ≡ Ok event) }
-{
-    match readers {
-        Readers::TypedFirst => reader.event_on(line),
-        Readers::ValuesAlone => None,
-    }
-}
-
-/// The record on a line that is not the first, or the fault of that line. What the typed pass does not
-/// know is read as a JSON value, which alone finds faults.
-#[tactic(auto, unfolding(kq_model::specs::Reading::record_on, kq_model::specs::Reading::event_of))]
+/// The record on a line that is not the first, or the fault of that line.
 fn event_on_line<'a>(
     alloc: Global,
     number: u64,
@@ -49,19 +26,10 @@ fn event_on_line<'a>(
     ensures record { IfOk result (λ event. record_on number line.now ≡ event) }
     ensures limit { IfOk result (λ event. OnOk event (number ≤ 1000001)) }
 {
-    if line.len() > MOST_LINE_BYTES {
-        return Ok(Err(LineFault::TooLong));
-    }
     if number > MOST_RECORDS + 1 {
-        return Ok(Err(LineFault::TooManyRecords));
+        return Ok(Err(late_fault(line)));
     }
-    if let Some(event) = typed_event(readers, reader, line) {
-        return Ok(Ok(event));
-    }
-    match line_value(alloc, line)? {
-        Some(value) => event_of(alloc, &value),
-        None => Ok(Err(LineFault::Json)),
-    }
+    event_on(alloc, line, readers, reader)
 }
 
 /// Reads the records of a text, each when it is asked for. A trace of which a later line is bad gives
@@ -111,19 +79,7 @@ impl<'a> TraceReader<'a> {
         ensures line { IfOk result (λ reader. reader.line ≡ 2) }
         ensures bad { IfErr result (IsFault bytes.now) }
     {
-        let (header, rest) = first_line(bytes);
-        if header.len() > MOST_LINE_BYTES {
-            return Err(TraceError::Bad {
-                line: 1,
-                fault: LineFault::TooLong,
-            });
-        }
-        let Some(version) = version_on_line(alloc, header)? else {
-            return Err(TraceError::Bad {
-                line: 1,
-                fault: LineFault::Header,
-            });
-        };
+        let (version, rest) = opened(alloc, bytes)?;
         Ok(TraceReader {
             alloc,
             readers,

@@ -1,2 +1,3 @@
-pub mod FoldLemmas
 pub mod Played
+pub mod ReplayedTraces
+pub mod LiveFaults

@@ -1,23 +1,48 @@
 -- What `replay` promises: the report of one fold of the whole system over the trace that the bytes are,
 -- or a fault that was met.
-use Rattle.std.specs.Prelude.{◌≡◌, ℕ, List}
+use Rattle.std.specs.Prelude.{◌≡◌, ◌≤◌, ℕ, List, length}
 use Rattle.kq_model.specs.declared.event.Event.{Event}
+use Rattle.kq_model.specs.Objects.{counted}
+use Rattle.kq_model.specs.Projection.{kqueues}
 use Rattle.kq_model.specs.Reading.{Good, Bad, reading}
 use Rattle.kq_model.specs.Report.{report_of}
 use Rattle.kqsim.specs.Workers.{IsWorkerCount}
 use Rattle.kqsim.specs.declared.fault.Fault.{Fault}
 use Rattle.kqsim.specs.declared.fault.Fault.TheVariants.{Usage, Read, Trace, Memory, Spawn, Write}
 
+-- the trace makes more than one kqueue
+abbrev pub HasKqueues : ℕ → List Event → Type 0
+HasKqueues version events = 2 ≤ length (kqueues counted version events)
+
 -- the text is the report of the trace that these bytes are, of the version that it names
 abbrev pub IsReport : List ℕ → List ℕ → Type 0
 IsReport bytes text =
     (version : ℕ) × (events : List Event) × (reading bytes ≡ Good version events) × (text ≡ report_of version events)
 
--- the fault can come from these bytes and so many workers; that memory was refused is no fact of either
+-- the bytes are a trace, whatever its events are
+abbrev pub IsTrace : List ℕ → Type 0
+IsTrace bytes = (version : ℕ) × (events : List Event) × (reading bytes ≡ Good version events)
+
+-- they are one that makes more than one kqueue
+abbrev pub MakesKqueues : List ℕ → Type 0
+MakesKqueues bytes =
+    (version : ℕ) × (events : List Event) × (reading bytes ≡ Good version events) × HasKqueues version events
+
+-- the fault can come from these bytes and so many workers; that memory or a start was refused is no fact of either,
+-- but a thread is started only where there are a second worker and a second kqueue
 abbrev pub IsFault : List ℕ → ℕ → Fault → Type 0
 IsFault bytes workers Usage = ¬ IsWorkerCount workers
 IsFault bytes workers Read = ⊥
 IsFault bytes workers (Trace line fault) = reading bytes ≡ Bad line fault
 IsFault bytes workers Memory = Unit {0}
-IsFault bytes workers Spawn = ⊥
+IsFault bytes workers Spawn = (2 ≤ workers) × MakesKqueues bytes
 IsFault bytes workers Write = ⊥
+
+-- the same of a trace that was read
+abbrev pub IsReplayFault : ℕ → List Event → ℕ → Fault → Type 0
+IsReplayFault version events workers Usage = ⊥
+IsReplayFault version events workers Read = ⊥
+IsReplayFault version events workers (Trace line fault) = ⊥
+IsReplayFault version events workers Memory = Unit {0}
+IsReplayFault version events workers Spawn = (2 ≤ workers) × HasKqueues version events
+IsReplayFault version events workers Write = ⊥

@@ -50,6 +50,7 @@ pub fn live_run<R: AllocGlobal + Threads + Wait + Sync>(
     live_run_with(rt, trace, threads, &Open, &Always)
 }
 
+#[tactic(auto, using(crate::proofs::LiveFaults::run_fault))]
 fn book_of<R: AllocGlobal + Threads + Wait + Sync>(
     rt: &R,
     bytes: &[u8],

@@ -4,7 +4,6 @@
 
 mod command_line;
 mod fault;
-mod folding;
 mod input;
 mod living;
 mod order;

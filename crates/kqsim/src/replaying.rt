@@ -1,11 +1,17 @@
-ghost use Rattle.std.specs.Prelude.{◌↔◌, IfErr, IfOk, IsErrOf};
-ghost use Rattle.kqsim.specs.Replay.{IsFault, IsReport};
+ghost use Rattle.std.specs.Prelude.{◌≡◌, ◌↔◌, IfErr, IfOk, IsErrOf};
+ghost use Rattle.kq_model.specs.Report.{report_of};
+ghost use Rattle.kqsim.specs.Replay.{IsFault, IsReplayFault, IsReport};
 ghost use Rattle.kqsim.specs.Workers.{IsWorkerCount};
 
 use crate::fault::Fault;
-use crate::folding::folded;
 use crate::workers::is_worker_count;
-use kq_trace::TraceError;
+use kq_history::Split;
+use kq_merge::{merge, report_text};
+use kq_model::Trace;
+use kq_replay::{Always, Gate, Open, RunFault, Starts, replay_all_with};
+use kq_trace::{TraceError, read_trace};
+use std::sync::Wait;
+use std::thread::Threads;
 
 /// The report of the trace that the bytes are, replayed by so many workers, 1 to 256; any other
 /// number is [`Fault::Usage`], before all else.
@@ -13,7 +19,29 @@ use kq_trace::TraceError;
 /// For every trace and every number of workers, the report is byte for byte the report of one fold
 /// of the whole system over the trace on one thread; where memory or a thread is refused, there is
 /// an error and no report.
-pub fn replay<R: AllocGlobal>(rt: &R, bytes: &[u8], workers: u32) -> Result<Vec<u8>, Fault>
+pub fn replay<R: AllocGlobal + Threads + Wait + Sync>(
+    rt: &R,
+    bytes: &[u8],
+    workers: u32,
+) -> Result<Vec<u8>, Fault>
+    ensures workers { IsErrOf result Fault.Usage ↔ ¬ IsWorkerCount workers }
+    ensures report { IfOk result (λ text. IsReport bytes.now text.items) }
+    ensures fault { IfErr result (IsFault bytes.now workers) }
+{
+    replay_with(rt, bytes, workers, &Open, &Always)
+}
+
+/// The same, where the gate is asked before each kqueue is replayed, with the number of the worker
+/// and that of the kqueue in order of birth, both from 1 on, and `starts` before each worker but
+/// the first is started.
+#[tactic(auto, using(crate::proofs::ReplayedTraces::replay_fault, crate::proofs::ReplayedTraces::no_usage))]
+pub fn replay_with<R: AllocGlobal + Threads + Wait + Sync, G: Gate + Sync, S: Starts>(
+    rt: &R,
+    bytes: &[u8],
+    workers: u32,
+    gate: &G,
+    starts: &S,
+) -> Result<Vec<u8>, Fault>
     ensures workers { IsErrOf result Fault.Usage ↔ ¬ IsWorkerCount workers }
     ensures report { IfOk result (λ text. IsReport bytes.now text.items) }
     ensures fault { IfErr result (IsFault bytes.now workers) }
@@ -21,9 +49,34 @@ pub fn replay<R: AllocGlobal>(rt: &R, bytes: &[u8], workers: u32) -> Result<Vec<
     if !is_worker_count(workers) {
         return Err(Fault::Usage);
     }
-    match folded(rt.alloc(), bytes) {
-        Ok(report) => Ok(report),
+    match read_trace(rt, bytes) {
+        Ok(trace) => trace_report(rt, &trace, workers, gate, starts),
         Err(TraceError::Memory) => Err(Fault::Memory),
         Err(TraceError::Bad { line, fault }) => Err(Fault::Trace { line, fault }),
     }
+}
+
+/// The report of a trace: each of its kqueues is replayed alone, and their rows are put together
+/// by place with those of impossible records.
+fn trace_report<R: AllocGlobal + Threads + Wait + Sync, G: Gate + Sync, S: Starts>(
+    rt: &R,
+    trace: &Trace,
+    workers: u32,
+    gate: &G,
+    starts: &S,
+) -> Result<Vec<u8>, Fault>
+    requires { IsWorkerCount workers }
+    ensures report { IfOk result (λ text. text.items ≡ report_of trace.now.version trace.now.events) }
+    ensures fault { IfErr result (IsReplayFault trace.now.version trace.now.events workers) }
+{
+    let alloc = rt.alloc();
+    let split = Split::of(alloc, trace).map_err(|_| Fault::Memory)?;
+    let kqueues = match replay_all_with(rt, &split, workers, gate, starts) {
+        Ok(kqueues) => kqueues,
+        Err(RunFault::Workers) => return Err(Fault::Usage),
+        Err(RunFault::Memory) => return Err(Fault::Memory),
+        Err(RunFault::Spawn) => return Err(Fault::Spawn),
+    };
+    let rows = merge(alloc, kqueues, split.plain_rows()).map_err(|_| Fault::Memory)?;
+    report_text(alloc, rows.as_slice(), trace.events.len() as u64).map_err(|_| Fault::Memory)
 }

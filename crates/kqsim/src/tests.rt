@@ -8,4 +8,5 @@ mod streams;
 mod system;
 mod text;
 mod timers;
+mod workers;
 mod world;

@@ -3,6 +3,7 @@
 use kq_line::LineReader;
 use kq_trace::{TraceError, read_trace, read_trace_by_values, write_trace};
 use std::alloc::{AllocError, Global};
+use std::thread::Threads;
 
 /// The header of a trace, with its line feed.
 const HEADER: &[u8] = b"{\"kqsim\":1}\n";
@@ -27,7 +28,7 @@ pub fn fallbacks(alloc: Global, bytes: &[u8]) -> u64 {
 }
 
 /// What each line is read as, as the one record of a trace: the canonical text of that trace, or its fault.
-pub fn each_line<R: AllocGlobal>(
+pub fn each_line<R: AllocGlobal + Threads + Sync>(
     rt: &R,
     bytes: &[u8],
     readers: Readers,

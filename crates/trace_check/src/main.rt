@@ -17,6 +17,7 @@ use lines::{Readers, each_line, fallbacks};
 use std::alloc::AllocError;
 use std::env;
 use std::io::{Read, Write};
+use std::thread::Threads;
 use task::Task;
 
 fn main(rt: HostRuntime) -> anyhow::Result<()> {
@@ -28,25 +29,30 @@ fn main(rt: HostRuntime) -> anyhow::Result<()> {
     )?;
     let mut bytes = Vec::new(rt.alloc());
     rt.stdin().read_to_end(&mut bytes)?;
-    run(&rt, task, bytes.as_slice())
+    run(&rt, task, bytes.as_slice(), &mut rt.stdout())
 }
 
-fn run(rt: &HostRuntime, task: Task, bytes: &[u8]) -> anyhow::Result<()> {
+fn run<R: AllocGlobal + Print + Threads + Sync, W: Write>(
+    rt: &R,
+    task: Task,
+    bytes: &[u8],
+    out: &mut W,
+) -> anyhow::Result<()> {
     match task {
         Task::Read => println!(rt; "{} records", read_trace(rt, bytes)?.events.len())?,
         Task::Values => println!(rt; "{} records", read_trace_by_values(rt, bytes)?.events.len())?,
         Task::Write => {
             let trace = read_trace(rt, bytes)?;
             let text = write_trace(rt.alloc(), &trace).map_err(|_| AllocError)?;
-            rt.stdout().write_all(text.as_slice())?;
+            out.write_all(text.as_slice())?;
         }
         Task::Each => {
-            let out = each_line(rt, bytes, Readers::TypedFirst)?;
-            rt.stdout().write_all(out.as_slice())?;
+            let text = each_line(rt, bytes, Readers::TypedFirst)?;
+            out.write_all(text.as_slice())?;
         }
         Task::EachValue => {
-            let out = each_line(rt, bytes, Readers::ValuesAlone)?;
-            rt.stdout().write_all(out.as_slice())?;
+            let text = each_line(rt, bytes, Readers::ValuesAlone)?;
+            out.write_all(text.as_slice())?;
         }
         Task::Fallbacks => println!(rt; "{} fall back", fallbacks(rt.alloc(), bytes))?,
     }

@@ -35,7 +35,7 @@ impl Gate for Counts {
     }
 }
 
-/// Holds each of the first `held` jobs until so many jobs were entered as it waits for.
+/// Holds each of the first `held` jobs until the first `awaited` jobs were all entered.
 #[derive(Drop)]
 pub struct Meeting {
     pub held: u32,
@@ -62,6 +62,9 @@ impl Meeting {
 
 impl Gate for Meeting {
     fn enter(&self, _worker: u32, job: u32) {
+        if u64::from(job) > self.awaited {
+            return;
+        }
         self.entered.fetch_add(1, SeqCst);
         if job > self.held {
             return;

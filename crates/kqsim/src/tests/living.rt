@@ -8,13 +8,14 @@ use kq_live::Book;
 use kq_merge::report_text;
 use kq_serve::{Always, Gate, Open, Starts};
 use kq_trace::{read_trace, write_trace};
+use std::sync::Wait;
 use std::sync::atomic::AtomicU64;
 use std::sync::atomic::Ordering::SeqCst;
 use std::test::Fail;
-use std::thread::yield_now;
+use std::thread::{Threads, yield_now};
 
 // A child keeps a socket open whose number its parent reuses.
-const FORKED: &str = concat!(
+pub const FORKED: &str = concat!(
     "{\"kqsim\":1}\n",
     "{\"op\":\"proc\",\"pid\":1}\n",
     "{\"op\":\"kqueue\",\"pid\":1,\"fd\":9}\n",
@@ -67,7 +68,7 @@ fn threads_out_of_range_are_refused(rt: HostRuntime) -> Result<(), Fail> {
 }
 
 // The report of a book's rows is that of a replay of its trace.
-fn is_replayed(rt: &HostRuntime, book: &Book) -> Result<bool, Fail> {
+fn is_replayed<R: AllocGlobal + Threads + Wait + Sync>(rt: &R, book: &Book) -> Result<bool, Fail> {
     let rows = book.rows().map_err(|_| "memory")?;
     let report = report_text(rt.alloc(), rows.as_slice(), book.len() as u64).map_err(|_| "memory")?;
     let trace = book.trace().map_err(|_| "memory")?;

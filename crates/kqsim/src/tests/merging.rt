@@ -1,8 +1,12 @@
 //! Rows of kqueues and plain rows, put in order by place.
 ghost use Rattle.std.specs.Prelude.{◌≡◌};
 
+use super::living::FORKED;
+use kq_history::Split;
 use kq_merge::merge;
 use kq_model::{Reply, Row, Rows, Series};
+use kq_replay::{Open, replay_all};
+use kq_trace::read_trace;
 use std::test::Fail;
 
 fn row(at: u64) -> Row
@@ -31,6 +35,23 @@ fn rows_stand_by_place(rt: HostRuntime) -> Result<(), Fail> {
     let merged = merge(alloc, kqueues, &[row(7)]).map_err(|_| "memory")?;
     assert_eq!(rt; merged.len(), 4);
     for (row, place) in merged.iter().zip([7, 9, 10, 14]) {
+        assert_eq!(rt; row.at, place);
+    }
+    Ok(())
+}
+
+#[test]
+fn each_kqueue_of_a_trace_has_its_rows(rt: HostRuntime) -> Result<(), Fail> {
+    let trace = read_trace(&rt, FORKED.as_bytes())?;
+    let split = Split::of(rt.alloc(), &trace).map_err(|_| "memory")?;
+    assert!(rt; split.kqueues() == [2, 3, 8].as_slice());
+    let kqueues = replay_all(&rt, &split, 2, &Open).map_err(|_| "no rows")?;
+    for (rows, count) in kqueues.iter().zip([3, 2, 2]) {
+        assert_eq!(rt; rows.rows.len(), count);
+    }
+    let merged = merge(rt.alloc(), kqueues, &[]).map_err(|_| "memory")?;
+    assert_eq!(rt; merged.len(), 7);
+    for (row, place) in merged.iter().zip([9, 10, 11, 14, 15, 16, 17]) {
         assert_eq!(rt; row.at, place);
     }
     Ok(())

@@ -2,6 +2,7 @@
 use kq_model::LineFault;
 use kq_trace::{TraceError, read_trace, write_trace};
 use std::test::Fail;
+use std::thread::Threads;
 
 const TEXT: &[u8] =
     b"{\"kqsim\":1}\n{\"op\":\"proc\",\"pid\":7}\n{\"fd\":3,\"op\":\"kqueue\",\"pid\":7}\n{\"changes\":[{\"data\":-5,\"fflags\":1,\"filter\":\"USER\",\"flags\":[\"ADD\",\"CLEAR\"],\"ident\":18446744073709551615,\"udata\":9}],\"fd\":3,\"op\":\"kevent\",\"pid\":7,\"room\":4}\n";
@@ -15,7 +16,7 @@ fn reads_and_writes(rt: HostRuntime) -> Result<(), Fail> {
     Ok(())
 }
 
-fn fault_of(rt: &HostRuntime, text: &[u8]) -> Option<(u64, LineFault)> {
+fn fault_of<R: AllocGlobal + Threads + Sync>(rt: &R, text: &[u8]) -> Option<(u64, LineFault)> {
     match read_trace(rt, text) {
         Err(TraceError::Bad { line, fault }) => Some((line, fault)),
         Err(TraceError::Memory) => None,

@@ -24,6 +24,7 @@ scope-returns g t c =
             (search rules)
             c.join.ensures.theirs,
       );
+      err = tt;
     }
 
 pub returns-clause-all : goal.returns-clause-all

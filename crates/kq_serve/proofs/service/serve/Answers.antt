@@ -4,8 +4,8 @@ use Rattle.kq_serve.proofs.Sharing.{total_all}
 use Rattle.kq_serve.proofs.Merges.{serves}
 use Rattle.kq_serve.proofs.service.serve.Goals as goal
 
-pub returns : goal.returns
-returns g c =
+pub returns-clause-served : goal.returns-clause-served
+returns-clause-served g c =
     let owner = g.M.Served.owner in
     let n = c.args.threads in
     let steps = c.args.steps.now in

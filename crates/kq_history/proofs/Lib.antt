@@ -1,0 +1,35 @@
+mod TimelineLemmas
+mod Rising
+mod Picked
+mod Between
+mod Known
+mod Places
+mod Sourced
+mod PickedPrivate
+mod Following
+mod Altering
+mod AccountedActs
+mod AccountedHolds
+mod RisingTables
+mod WithinRecords
+mod AnyWithin
+mod TouchedKeys
+mod UntouchedRecords
+mod NamedTargets
+mod NotedKeys
+mod NotedMarks
+mod SameValues
+mod ListedRecords
+mod TracedWorlds
+mod TrackedRecords
+mod TrackedNext
+pub mod Sayings
+mod FirstTracked
+mod PlainRows
+mod NamedKqueues
+mod SaidItems
+mod SaidNext
+pub mod PrivateOf
+mod AnsweringOf
+mod SplitNext
+mod Events

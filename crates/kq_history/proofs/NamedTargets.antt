@@ -1,0 +1,131 @@
+-- The targets that numbers name before a record and after it are among those that were added one number after the other.
+use Rattle.std.proofs.Common.{◌≡◌, ◌∙◌, ◌==◌, ◌||◌, ◌++◌, ◌∷◌, ◌-◌, ◌<◌, [], ℕ, zero, suc, Bool, true, false, length, get_or, List, Option, Some, refl, sym, ap, ap₂, subst, arith}
+use Rattle.std.specs.List.{flat_map, slice_get}
+use Rattle.std.proofs.lemmas.Bool.{and_parts, eqb-true, false≢true}
+use Rattle.std.proofs.lemmas.List.{append-nil}
+use Rattle.std.proofs.lemmas.List.Folds.{list_any-append}
+use Rattle.std.proofs.lemmas.Grind.{flat_map-append}
+use Rattle.std.proofs.lemmas.Option.{get_or_from_slice_get, slice_get_within}
+use Rattle.kq_model.specs.declared.object.Named.{Named}
+use Rattle.kq_model.specs.declared.object.Target.{Target}
+use Rattle.kq_model.specs.Targets.{target_eq}
+use Rattle.kq_model.specs.Views.{Views}
+use Rattle.kq_model.proofs.KnoteLaws.{by_test}
+use Rattle.kq_model.proofs.SameTarget.{same_target, target_eq-refl}
+use Rattle.kq_history.specs.Noted.{IsNextWorld}
+use Rattle.kq_history.specs.Seen.{pair_eq}
+use Rattle.kq_history.specs.Touched.{has_number, has_target, targets_named, AreAmong}
+
+-- ---- tests of two parts
+
+or_left : (a b : Bool) → a ≡ true → (a || b) ≡ true
+or_left true b is = refl
+or_left false b is = absurd (false≢true is)
+
+or_right : (a b : Bool) → b ≡ true → (a || b) ≡ true
+or_right true b is = refl
+or_right false b is = is
+
+or_cases : {P : Type 0} (a b : Bool) → (a || b) ≡ true → (a ≡ true → P) → (b ≡ true → P) → P
+or_cases true b is left right = left refl
+or_cases false b is left right = right is
+
+pub in-either : {P : Type 0} (xs ys : List Target) (t : Target) → has_target t (xs ++ ys) ≡ true → (has_target t xs ≡ true → P) → (has_target t ys ≡ true → P) → P
+in-either xs ys t is left right =
+    or_cases (has_target t xs) (has_target t ys) (sym (list_any-append (λ x. target_eq x t) xs ys) ∙ is) left right
+
+pub in-first : (xs ys : List Target) (t : Target) → has_target t xs ≡ true → has_target t (xs ++ ys) ≡ true
+in-first xs ys t is = list_any-append (λ x. target_eq x t) xs ys ∙ or_left (has_target t xs) (has_target t ys) is
+
+pub in-second : (xs ys : List Target) (t : Target) → has_target t ys ≡ true → has_target t (xs ++ ys) ≡ true
+in-second xs ys t is = list_any-append (λ x. target_eq x t) xs ys ∙ or_right (has_target t xs) (has_target t ys) is
+
+-- ---- one target
+
+there_it_is : (ts : List Target) (k : ℕ) (t : Target) → k < length ts → has_target (get_or ts k t) ts ≡ true
+there_it_is [] k t within = absurd (omega (arith, within))
+there_it_is (x ∷ ts) zero t within = or_left (target_eq x x) (has_target x ts) (target_eq-refl x)
+there_it_is (x ∷ ts) (suc k) t within =
+    or_right (target_eq x (get_or ts k t)) (has_target (get_or ts k t) ts) (there_it_is ts k t (omega (arith, within)))
+
+-- that one came last
+pub last-there : (ts : List Target) (last x : Target) → slice_get ts (length ts - 1) ≡ Some last → last ≡ x → AreAmong (x ∷ ts) ts
+last-there ts last x got same = λ t is.
+    or_cases (target_eq x t) (has_target t ts) is
+    (λ here.
+    let it : get_or ts (length ts - 1) x ≡ t = get_or_from_slice_get ts (length ts - 1) last x got ∙ same ∙ same_target x t here in
+    subst (λ y. has_target y ts ≡ true) it (there_it_is ts (length ts - 1) x (slice_get_within ts (length ts - 1) last got)))
+    (λ there. there)
+
+pub pushed-there : (old new : List Target) (x : Target) → new ≡ old ++ x ∷ [] → AreAmong (x ∷ old) new
+pushed-there old new x pushed = λ t is.
+    subst (λ ts. has_target t ts ≡ true) (sym pushed)
+    (or_cases (target_eq x t) (has_target t old) is
+    (λ here. in-second old (x ∷ []) t (or_left (target_eq x t) false here))
+    (λ there. in-first old (x ∷ []) t there))
+
+pub among-then : (xs ys old mid new : List Target) → AreAmong (xs ++ old) mid → AreAmong (ys ++ mid) new → AreAmong (xs ++ ys ++ old) new
+among-then xs ys old mid new first second = λ t is.
+    in-either (xs ++ ys) old t is
+    (λ in_both. in-either xs ys t in_both
+    (λ in_xs. second t (in-second ys mid t (first t (in-first xs old t in_xs))))
+    (λ in_ys. second t (in-first ys mid t in_ys)))
+    (λ in_old. second t (in-second ys mid t (first t (in-second xs old t in_old))))
+
+-- twice the same
+pub among-once : (xs old new : List Target) → AreAmong (xs ++ old) new → AreAmong (xs ++ xs ++ old) new
+among-once xs old new all = λ t is.
+    in-either (xs ++ xs) old t is
+    (λ in_both. in-either xs xs t in_both (λ a. all t (in-first xs old t a)) (λ a. all t (in-first xs old t a)))
+    (λ in_old. all t (in-second xs old t in_old))
+
+-- ---- number by number
+
+module _ (before after : ℕ × ℕ → Option Named) where
+  abbrev around : ℕ × ℕ → List Target
+  around p = targets_named (before p) ++ targets_named (after p)
+
+  same_pair : (x p : ℕ × ℕ) → pair_eq x p ≡ true → x ≡ p
+  same_pair x p is =
+      let both = and_parts (x.0 == p.0) (x.1 == p.1) is in
+      let pair : ℕ → ℕ → ℕ × ℕ = λ a b. (a, b) in
+      ap₂ pair (eqb-true x.0 p.0 both.0) (eqb-true x.1 p.1 both.1)
+
+  around-there : (ns : List (ℕ × ℕ)) (p : ℕ × ℕ) (t : Target) → has_number p.0 p.1 ns ≡ true → has_target t (around p) ≡ true
+      → has_target t (flat_map around ns) ≡ true
+  around-there [] p t found there = absurd (false≢true found)
+  around-there (x ∷ ns) p t found there =
+      or_cases (pair_eq x p) (has_number p.0 p.1 ns) found
+      (λ here. in-first (around x) (flat_map around ns) t (subst (λ y. has_target t (around y) ≡ true) (sym (same_pair x p here)) there))
+      (λ later. in-second (around x) (flat_map around ns) t (around-there ns p t later there))
+
+  pub one-number-more : (ns : List (ℕ × ℕ)) (p : ℕ × ℕ) (had : Option Named) (init cur new : List Target)
+      → AreAmong (flat_map around ns ++ init) cur → AreAmong (targets_named had ++ targets_named (after p) ++ cur) new
+      → (has_number p.0 p.1 ns ≡ false → had ≡ before p) → AreAmong (flat_map around (ns ++ p ∷ []) ++ init) new
+  one-number-more ns p had init cur new so_far added kept = λ t is.
+      let named : List Target = targets_named had ++ targets_named (after p) in
+      let from_cur : has_target t cur ≡ true → has_target t new ≡ true = λ there. added t (in-second named cur t there) in
+      in-either (flat_map around (ns ++ p ∷ [])) init t is
+      (λ in_all. in-either (flat_map around ns) (around p) t
+      (ap (has_target t) (sym (flat_map-append around ns (p ∷ []) ∙ ap (λ xs. flat_map around ns ++ xs) (append-nil (around p)))) ∙ in_all)
+      (λ earlier. from_cur (so_far t (in-first (flat_map around ns) init t earlier)))
+      (λ in_p. by_test (λ b. has_number p.0 p.1 ns ≡ b → has_target t new ≡ true) (has_number p.0 p.1 ns)
+      (λ _ known. from_cur (so_far t (in-first (flat_map around ns) init t (around-there ns p t known in_p))))
+      (λ _ fresh. added t (in-first named cur t
+      (subst (λ n. has_target t (targets_named n ++ targets_named (after p)) ≡ true) (sym (kept fresh)) in_p)))
+      refl))
+      (λ in_init. from_cur (so_far t (in-second (flat_map around ns) init t in_init)))
+
+-- ---- the next world
+
+-- it may differ in more targets
+pub next-among : (place : ℕ) (after : Views) (pairs : List (ℕ × ℕ)) (targets more : List Target) (worlds next : ℕ → Views) → AreAmong targets more
+    → IsNextWorld place after pairs targets worlds next → IsNextWorld place after pairs more worlds next
+next-among place after pairs targets more worlds next among is = record {
+  earlier = is.earlier;
+  same_numbers = is.same_numbers;
+  same_views = λ at t later absent.
+      is.same_views at t later
+      (by_test (λ b. has_target t targets ≡ b → has_target t targets ≡ false) (has_target t targets)
+      (λ _ there. absurd (false≢true (sym absent ∙ among t there))) (λ _ isnt. isnt) refl);
+}

@@ -1,0 +1,251 @@
+-- What was heard is what the trace with one record more says.
+use Rattle.std.proofs.Common.{◌≡◌, ◌∙◌, ◌<◌, ◌+◌, ℕ, length, get_or, List, [], ◌∷◌, ◌++◌, map, Option, None, Some, Result, Ok, Err, refl, sym, ap, ap₂, subst, arith}
+use Rattle.std.specs.Prelude.{All, IsOk}
+use Rattle.std.proofs.lemmas.Bool.{false≢true}
+use Rattle.std.proofs.lemmas.List.{append-nil, length-append, length-map, map-append}
+use Rattle.std.proofs.lemmas.List.Elements.{All-nil, All-cons, All-append, All-weaker}
+use Rattle.std.proofs.lemmas.Option.{none-some, same_Some}
+use Rattle.kq_model.specs.declared.event.Event.{Event}
+use Rattle.kq_model.specs.declared.event.Event.TheVariants as event
+use Rattle.kq_model.specs.declared.object.Named.{Named}
+use Rattle.kq_model.specs.declared.object.Named.TheVariants as named
+use Rattle.kq_model.specs.declared.why.Why.{Why}
+use Rattle.kq_model.specs.Births.{Birth, birth_at, birth_by, births_from}
+use Rattle.kq_model.specs.Close.{Pair}
+use Rattle.kq_model.specs.CountedWorld.{IsCountedWorld, place_named}
+use Rattle.kq_model.specs.Items.{all_items, items_at, items_in, whats}
+use Rattle.kq_model.specs.Moment.{Moment, moment_of}
+use Rattle.kq_model.specs.Moments.{moment_by, moments_from}
+use Rattle.kq_model.specs.Objects.{counted}
+use Rattle.kq_model.specs.Plans.{plan}
+use Rattle.kq_model.specs.Views.{Views}
+use Rattle.kq_model.specs.World.{World, Call, Plan, Planned, Impossible, Possible, carried_out, empty_world, named_by, views_of}
+use Rattle.kq_model.proofs.CountedTables.{named_among-all}
+use Rattle.kq_model.proofs.HistoryPushed.{births-push, moments-push}
+use Rattle.kq_model.proofs.SeenWorld.{seen-counted}
+use Rattle.kq_process.specs.declared.effect.Effect.{Effect}
+use Rattle.kq_process.specs.Effects.{IsDone, IsEffectOf, pairs_in}
+use Rattle.kq_history.specs.declared.kqueues.Kqueues.{Kqueues}
+use Rattle.kq_history.specs.declared.said.Said.{Said}
+use Rattle.kq_history.specs.Heard.{IsHeard, IsHeardBy, IsSaidOnce}
+use Rattle.kq_history.specs.Items.{bare_items}
+use Rattle.kq_history.specs.Said.{AreHeard, AreNamedBy, CallsBelow, IsSaid, said_items}
+use Rattle.kq_history.specs.Sayings.{born_of, call_by, call_of, call_on, clock_of, kqueue_named, kqueue_of, Says, SaysBy}
+use Rattle.kq_history.specs.Sources.{Grows, call_sources}
+use Rattle.kq_history.specs.Traced.{Traced, births_of, longer, moments_of, places_of}
+use Rattle.kq_history.proofs.NamedKqueues.{all-called, all-quiet, new-named, one-more}
+use Rattle.kq_history.proofs.SaidItems.{items-longer, kqueue_in, said-parts}
+use Rattle.kq_history.proofs.Sayings.{says}
+use Rattle.kq_history.proofs.TracedWorlds.{end, now, past, pushed, reached}
+
+-- ---- calls
+
+-- the call is known by its kqueue
+call-known : (e : Event) (w : World counted) → call_by e (kqueue_of e w) ≡ call_of e w
+unfolding call_by kqueue_of call_of kqueue_named call_on
+call-known (event.Kevent pid fd changes room) w = of_name (named_by pid fd w)
+  where
+    of_name : (x : Option Named) → call_by (event.Kevent pid fd changes room) (kqueue_named x) ≡ call_on changes room x
+    of_name None = refl
+    of_name (Some (named.Kqueue place)) = refl
+    of_name (Some (named.Socket place)) = refl
+    of_name (Some (named.PipeRead place)) = refl
+    of_name (Some (named.PipeWrite place)) = refl
+    of_name (Some (named.Open place file)) = refl
+call-known e w = refl
+
+kqueue-known : (e : Event) (w : World counted) → kqueue_in (call_of e w) ≡ kqueue_of e w
+unfolding kqueue_of call_of kqueue_named call_on
+kqueue-known (event.Kevent pid fd changes room) w = of_name (named_by pid fd w)
+  where
+    of_name : (x : Option Named) → kqueue_in (call_on changes room x) ≡ kqueue_named x
+    of_name None = refl
+    of_name (Some (named.Kqueue place)) = refl
+    of_name (Some (named.Socket place)) = refl
+    of_name (Some (named.PipeRead place)) = refl
+    of_name (Some (named.PipeWrite place)) = refl
+    of_name (Some (named.Open place file)) = refl
+kqueue-known e w = refl
+
+-- a record that makes a kqueue calls none
+none-called : (e : Event) (x : Pair) (k : Option ℕ) → born_of e ≡ Some x → call_by e k ≡ None
+unfolding born_of call_by
+none-called (event.Kevent pid fd changes room) x k born = absurd (none-some x born)
+none-called e x k born = refl
+
+-- a call is on a kqueue that was made before
+called-below : (e : Event) (w : World counted) (next : ℕ) (c : Call) → IsCountedWorld next w → call_of e w ≡ Some c → c.kqueue < next
+unfolding call_of call_on named_by
+called-below (event.Kevent pid fd changes room) w next c counts is = of_name (named_by pid fd w) refl is
+  where
+    of_name : (x : Option Named) → named_by pid fd w ≡ x → call_on changes room x ≡ Some c → c.kqueue < next
+    of_name None found calls = absurd (none-some c calls)
+    of_name (Some (named.Kqueue place)) found calls =
+        subst (λ (k : Call). k.kqueue < next) (same_Some _ c calls) (named_among-all (λ n. place_named n < next) pid fd (named.Kqueue place) w.table counts.below found)
+    of_name (Some (named.Socket place)) found calls = absurd (none-some c calls)
+    of_name (Some (named.PipeRead place)) found calls = absurd (none-some c calls)
+    of_name (Some (named.PipeWrite place)) found calls = absurd (none-some c calls)
+    of_name (Some (named.Open place file)) found calls = absurd (none-some c calls)
+called-below e w next c counts is = absurd (none-some c is)
+
+-- ---- one record more
+
+module _ (t : Traced) (e : Event) (counts : IsCountedWorld (end t e) (now t e)) where
+  moments-longer : moments_of (longer t e) ≡ moments_of t ++ moment_by t.version (end t e) (plan (end t e) e (now t e)) (now t e)
+  moments-longer =
+      ap (moments_from t.version 1 (empty_world counted)) (pushed t e)
+      ∙ moments-push t.version 1 (end t e) (empty_world counted) (past t e) (plan (end t e) e (now t e)) (reached t e)
+
+  births-longer : births_of (longer t e) ≡ births_of t ++ birth_by (end t e) (plan (end t e) e (now t e))
+  births-longer =
+      ap (births_from 1) (pushed t e) ∙ births-push 1 (end t e) (past t e) (plan (end t e) e (now t e)) (reached t e)
+
+  length_is : length (t.events ++ e ∷ []) ≡ end t e
+  length_is = length-append t.events (e ∷ [])
+
+  later-calls : (ms : List Moment) → All (CallsBelow (end t e)) ms → All (CallsBelow (length (t.events ++ e ∷ []) + 1)) ms
+  later-calls ms below =
+      All-weaker (CallsBelow (end t e)) (CallsBelow (length (t.events ++ e ∷ []) + 1)) (λ m is c calls. omega (arith, is c calls, length_is)) ms below
+
+  -- ---- an impossible one
+
+  refused-next : (why : Why) → plan (end t e) e (now t e) ≡ Impossible why → (s : Said) → IsSaid t s → IsSaid (longer t e) s
+  unfolding moment_by birth_by
+  refused-next why is s said =
+      let same_moments : moments_of (longer t e) ≡ moments_of t =
+      moments-longer ∙ ap (λ q. moments_of t ++ moment_by t.version (end t e) q (now t e)) is ∙ append-nil (moments_of t) in
+      let same_births : births_of (longer t e) ≡ births_of t =
+      births-longer ∙ ap (λ q. births_of t ++ birth_by (end t e) q) is ∙ append-nil (births_of t) in
+      record {
+        log = said.log ∙ ap (λ ms. bare_items (all_items ms)) (sym same_moments);
+        shelved = said.shelved;
+        births = said.births ∙ ap (λ bs. map (λ (b : Birth). b.place) bs) (sym same_births);
+        concerned = subst (λ ms. AreNamedBy ms (births_of (longer t e)) s.kqueues.concerned.items) (sym same_moments)
+            (subst (λ bs. AreNamedBy (moments_of t) bs s.kqueues.concerned.items) (sym same_births) said.concerned);
+        calls = subst (λ ms. All (CallsBelow (length (t.events ++ e ∷ []) + 1)) ms) (sym same_moments) (later-calls (moments_of t) said.calls);
+      }
+
+  -- ---- a possible one
+
+  module _ (p : Plan) (is : plan (end t e) e (now t e) ≡ Possible p) (effect : Effect) (done : IsDone p effect) where
+    abbrev m : Moment
+    m = moment_of t.version (end t e) p (now t e)
+
+    abbrev after : World counted
+    after = carried_out (end t e) p (now t e)
+
+    speaks : Says (born_of e) (call_of e (now t e)) (clock_of e (now t e).now) p
+    speaks = subst (SaysBy (born_of e) (call_of e (now t e)) (clock_of e (now t e).now)) is (says (now t e) (end t e) e)
+
+    same_moments : moments_of (longer t e) ≡ moments_of t ++ m ∷ []
+    unfolding moment_by
+    same_moments = moments-longer ∙ ap (λ q. moments_of t ++ moment_by t.version (end t e) q (now t e)) is
+
+    same_births : births_of (longer t e) ≡ births_of t ++ birth_at (end t e) (born_of e)
+    unfolding birth_by
+    same_births =
+        births-longer ∙ ap (λ q. births_of t ++ birth_by (end t e) q) is ∙ ap (λ b. births_of t ++ birth_at (end t e) b) speaks.born_is
+
+    m-call : m.call ≡ call_of e (now t e)
+    unfolding moment_of
+    m-call = speaks.call_is
+
+    m-views : m.views ≡ views_of after
+    unfolding moment_of
+    m-views = ap views_of (seen-counted after)
+
+    m-items : bare_items (items_in m) ≡ said_items (end t e) effect.closed effect.hints (clock_of e (now t e).now) (kqueue_of e (now t e))
+    unfolding moment_of
+    m-items =
+        ap (λ closed. bare_items (items_at (end t e) (whats closed p.hints p.clock p.call))) (sym done.closed)
+        ∙ ap (λ hints. bare_items (items_at (end t e) (whats (pairs_in effect.closed) hints p.clock p.call))) (sym done.hints)
+        ∙ said-parts (end t e) effect.closed effect.hints p.clock p.call
+        ∙ ap₂ (λ clock call. said_items (end t e) effect.closed effect.hints clock (kqueue_in call)) speaks.clock_is speaks.call_is
+        ∙ ap (said_items (end t e) effect.closed effect.hints (clock_of e (now t e).now)) (kqueue-known e (now t e))
+
+    m-calls : CallsBelow (end t e) m
+    m-calls c calls = called-below e (now t e) (end t e) c counts (sym m-call ∙ calls)
+
+    all-below : (s : Said) → IsSaid t s → All (CallsBelow (end t e)) (moments_of t ++ m ∷ [])
+    all-below s said =
+        All-append (CallsBelow (end t e)) (moments_of t) (m ∷ []) said.calls (All-cons (CallsBelow (end t e)) m [] m-calls (All-nil (CallsBelow (end t e))))
+
+    -- the kqueues, by what the record says of itself
+    kqueues-next : (s s' : Said) → IsSaid t s → (born : Option Pair) (call : Option Call) → born_of e ≡ born → call_of e (now t e) ≡ call
+        → AreHeard (end t e) born call (views_of after) s.kqueues s'.kqueues
+        → (s'.kqueues.places.items ≡ places_of (longer t e))
+        × AreNamedBy (moments_of t ++ m ∷ []) (births_of t ++ birth_at (end t e) born) s'.kqueues.concerned.items
+    unfolding birth_at
+    kqueues-next s s' said (Some x) call born calls heard =
+        let c = heard.1.0 in
+        let b : Birth = record { place = end t e; owner = x.pid; number = x.number } in
+        let none : m.call ≡ None = m-call ∙ sym (call-known e (now t e)) ∙ none-called e x (kqueue_of e (now t e)) born in (
+          heard.0 ∙ ap (λ ps. ps ++ end t e ∷ []) said.births
+              ∙ sym (map-append (λ (b : Birth). b.place) (births_of t) (b ∷ []))
+              ∙ ap (λ bs. map (λ (b : Birth). b.place) bs) (sym (same_births ∙ ap (λ x. births_of t ++ birth_at (end t e) x) born)),
+          subst (AreNamedBy (moments_of t ++ m ∷ []) (births_of t ++ b ∷ [])) (sym heard.1.2)
+              (one-more (moments_of t ++ m ∷ []) (births_of t) s.kqueues.concerned.items b c
+              (all-quiet (moments_of t) m none (births_of t) s.kqueues.concerned.items said.concerned)
+              (new-named (moments_of t ++ m ∷ []) b c heard.1.1 (all-below s said))),
+        )
+    kqueues-next s s' said None None born calls heard = (
+      ap (λ (k : Kqueues). k.places.items) heard ∙ said.births ∙ places-same born,
+      subst (λ bs. AreNamedBy (moments_of t ++ m ∷ []) bs s'.kqueues.concerned.items) (sym (append-nil (births_of t)))
+          (subst (λ (k : Kqueues). AreNamedBy (moments_of t ++ m ∷ []) (births_of t) k.concerned.items) (sym heard)
+          (all-quiet (moments_of t) m (m-call ∙ calls) (births_of t) s.kqueues.concerned.items said.concerned)),
+    )
+      where
+        places-same : born_of e ≡ None → places_of t ≡ places_of (longer t e)
+        places-same none = ap (λ bs. map (λ (b : Birth). b.place) bs)
+            (sym (same_births ∙ ap (λ x. births_of t ++ birth_at (end t e) x) none ∙ append-nil (births_of t)))
+    kqueues-next s s' said None (Some c) born calls heard = (
+      heard.0 ∙ said.births ∙ places-same born,
+      subst (λ bs. AreNamedBy (moments_of t ++ m ∷ []) bs s'.kqueues.concerned.items) (sym (append-nil (births_of t)))
+          (all-called (moments_of t) m c (m-call ∙ calls) (births_of t) s.kqueues.concerned.items s'.kqueues.concerned.items
+          heard.1.length_is heard.1.owners
+          (λ index d within here. subst (λ (v : Views). Grows (call_sources v (get_or s.kqueues.concerned.items index d).owner c.changes)
+          (get_or s.kqueues.concerned.items index d).sources (get_or s'.kqueues.concerned.items index d).sources) (sym m-views)
+          (heard.1.named index d (inside index within) (ap (λ ps. get_or ps index 0) said.births ∙ here)))
+          (λ index d away. heard.1.others index d (λ here. away (ap (λ ps. get_or ps index 0) (sym said.births) ∙ here)))
+          said.concerned),
+    )
+      where
+        inside : (index : ℕ) → index < length (births_of t) → index < length s.kqueues.places.items
+        inside index within =
+            let count : length s.kqueues.places.items ≡ length (births_of t) = ap (λ (ps : List ℕ). length ps) said.births ∙ length-map (births_of t) (λ (b : Birth). b.place) in
+            omega (arith, within, count)
+
+        places-same : born_of e ≡ None → places_of t ≡ places_of (longer t e)
+        places-same none = ap (λ bs. map (λ (b : Birth). b.place) bs)
+            (sym (same_births ∙ ap (λ x. births_of t ++ birth_at (end t e) x) none ∙ append-nil (births_of t)))
+
+    done-next : (s s' : Said) → IsSaid t s → IsSaidOnce (end t e) e effect (now t e) after s s' → IsSaid (longer t e) s'
+    done-next s s' said once =
+        let heard = subst (λ call. AreHeard (end t e) (born_of e) call (views_of after) s.kqueues s'.kqueues) (call-known e (now t e)) once.kqueues in
+        let next = kqueues-next s s' said (born_of e) (call_of e (now t e)) refl refl heard in
+        record {
+          log = once.items ∙ ap (λ items. items ++ said_items (end t e) effect.closed effect.hints (clock_of e (now t e).now) (kqueue_of e (now t e))) said.log
+              ∙ ap (λ items. bare_items (all_items (moments_of t)) ++ items) (sym m-items)
+              ∙ sym (items-longer (moments_of t) m) ∙ ap (λ ms. bare_items (all_items ms)) (sym same_moments);
+          shelved = once.shelved said.shelved;
+          births = next.0;
+          concerned = subst (λ ms. AreNamedBy ms (births_of (longer t e)) s'.kqueues.concerned.items) (sym same_moments)
+              (subst (λ bs. AreNamedBy (moments_of t ++ m ∷ []) bs s'.kqueues.concerned.items) (sym same_births) next.1);
+          calls = subst (λ ms. All (CallsBelow (length (t.events ++ e ∷ []) + 1)) ms) (sym same_moments) (later-calls (moments_of t ++ m ∷ []) (all-below s said));
+        }
+
+  -- ---- any
+
+  pub said-next : (q : Planned) → plan (end t e) e (now t e) ≡ q → (effect : Effect) → IsEffectOf q effect → (next : World counted)
+      → ((p : Plan) → q ≡ Possible p → next ≡ carried_out (end t e) p (now t e)) → (s s' : Said) → IsSaid t s
+      → IsHeard (end t e) e effect (now t e) next s s' → IsSaid (longer t e) s'
+  said-next (Impossible why) is effect refused next leads s s' said heard =
+      let none : s' ≡ s = subst (λ v. IsHeardBy v (end t e) e effect (now t e) next s s') refused.verdict heard in
+      subst (IsSaid (longer t e)) (sym none) (refused-next why is s said)
+  said-next (Possible p) is effect done next leads s s' said heard =
+      done-next p is effect done s s' said
+      (subst (λ w. IsSaidOnce (end t e) e effect (now t e) w s s') (leads p refl) (possible effect.verdict done.verdict heard))
+    where
+      possible : (v : Result (Unit {0}) Why) → IsOk v → IsHeardBy v (end t e) e effect (now t e) next s s' → IsSaidOnce (end t e) e effect (now t e) next s s'
+      possible (Ok done) is heard = heard
+      possible (Err why) is heard = absurd (false≢true is)

@@ -1,0 +1,104 @@
+-- The world and what was seen of it are those of the trace with the record that was applied and followed.
+use Rattle.std.proofs.Common.{◌≡◌, ◌+◌, ◌≤◌, ℕ, length, List, [], ◌∷◌, ◌++◌, Result, Ok, Err, refl, sym, ap, subst, ◌∙◌, arith}
+use Rattle.std.specs.Prelude.{IsOk}
+use Rattle.std.proofs.lemmas.Bool.{false≢true}
+use Rattle.std.proofs.lemmas.List.{length-append}
+use Rattle.std.proofs.lemmas.List.Elements.{All-weaker}
+use Rattle.kq_model.specs.declared.event.Event.{Event}
+use Rattle.kq_model.specs.declared.why.Why.{Why}
+use Rattle.kq_model.specs.CountedWorld.{IsCountedWorld}
+use Rattle.kq_model.specs.ListedFiles.{AreListed}
+use Rattle.kq_model.specs.Objects.{counted}
+use Rattle.kq_model.specs.Plans.{plan}
+use Rattle.kq_model.specs.World as model
+use Rattle.kq_model.specs.World.{Plan, Planned, Impossible, Possible, carried_out, views_of}
+use Rattle.kq_process.specs.declared.effect.Effect.{Effect}
+use Rattle.kq_process.specs.declared.world.World.{World}
+use Rattle.kq_process.specs.Effects.{IsEffectOf, world_after}
+use Rattle.kq_process.specs.World.{world_of, IsEffectBy, IsNext}
+use Rattle.kq_history.specs.declared.seen.Seen.{Seen}
+use Rattle.kq_history.specs.declared.timeline.Mark.{Mark}
+use Rattle.kq_history.specs.Noted.{AreAllUpTo, IsNextWorld}
+use Rattle.kq_history.specs.Seen.{pair_eq, seen_by, target_key, Shows}
+use Rattle.kq_history.specs.Timeline.{IsUpTo}
+use Rattle.kq_history.specs.Touched.{touched_numbers, touched_targets}
+use Rattle.kq_history.specs.Traced.{Traced, longer, seen_at}
+use Rattle.kq_history.specs.Timelines.{marks_at}
+use Rattle.kq_history.specs.Tracked.{IsFollowed, IsFollowedBy, IsNoted, IsTracked}
+use Rattle.kq_history.proofs.TracedWorlds.{end, now, world-longer}
+use Rattle.kq_history.proofs.TrackedRecords.{next-is, next-listed, next-stays, next-world, shows-still}
+
+pub up-later : (n m : ℕ) (s : Seen) → n ≤ m → AreAllUpTo n s → AreAllUpTo m s
+up-later n m s later up = record {
+  numbers = λ key. marks-later n m later (marks_at pair_eq s.numbers.table key) (up.numbers key);
+  views = λ key. marks-later n m later (marks_at target_key s.views.table key) (up.views key);
+  clock = marks-later n m later s.clock up.clock;
+}
+  where
+    marks-later : {V : Type 0} (n m : ℕ) → n ≤ m → (ms : List (Mark V)) → IsUpTo n ms → IsUpTo m ms
+    marks-later n m later ms up = All-weaker (λ (x : Mark _). x.place ≤ n) (λ (x : Mark _). x.place ≤ m) (λ x below. omega (arith, below, later)) ms up
+
+module _ (t : Traced) (e : Event) (old new : World) (s s' : Seen) (effect : Effect) (tracked : IsTracked t old s)
+    (counts : IsCountedWorld (end t e + 1) (world_of new)) where
+  counted_now : IsCountedWorld (end t e) (now t e)
+  counted_now = subst (IsCountedWorld (end t e)) tracked.world tracked.counted
+
+  listed_now : AreListed (now t e).objects
+  listed_now = subst (λ (w : model.World counted). AreListed w.objects) tracked.world tracked.listed
+
+  length_is : length (t.events ++ e ∷ []) ≡ end t e
+  length_is = length-append t.events (e ∷ [])
+
+  counted_next : IsCountedWorld (length (t.events ++ e ∷ []) + 1) (world_of new)
+  counted_next = subst (λ n. IsCountedWorld (n + 1) (world_of new)) (sym length_is) counts
+
+  up_next : (x : Seen) → AreAllUpTo (end t e) x → AreAllUpTo (length (t.events ++ e ∷ [])) x
+  up_next x up = subst (λ n. AreAllUpTo n x) (sym length_is) up
+
+  followed_done : (v : Result (Unit {0}) Why) → IsOk v → IsFollowedBy (end t e) e v effect.closed effect.hints (world_of new) s s'
+      → AreAllUpTo (end t e) s' × IsNoted (end t e) e effect.closed effect.hints (world_of new) s s'
+  followed_done (Ok done) is followed = followed
+  followed_done (Err why) is followed = absurd (false≢true is)
+
+  tracked-by : (q : Planned) → plan (end t e) e (now t e) ≡ q → IsEffectOf q effect → world_of new ≡ world_after (end t e) q (now t e)
+      → IsFollowed (end t e) e effect (world_of new) s s' → IsTracked (longer t e) new s'
+  tracked-by (Impossible why) is refused same followed =
+      let none : s' ≡ s = subst (λ v. IsFollowedBy (end t e) e v effect.closed effect.hints (world_of new) s s') refused.verdict followed in
+      record {
+        world = same ∙ sym (world-longer t e ∙ next-stays t e counted_now listed_now why is);
+        counted = counted_next;
+        listed = subst (λ (w : model.World counted). AreListed w.objects) (sym same) listed_now;
+        shows = subst (λ x. Shows (seen_at (longer t e)) x) (sym none) (shows-still t e counted_now listed_now why is s tracked.shows);
+        up_to = up_next s' (subst (AreAllUpTo (end t e)) (sym none) (up-later (length t.events) (end t e) s (omega arith) tracked.up_to));
+      }
+  tracked-by (Possible p) is done same followed =
+      let noted = followed_done effect.verdict done.verdict followed in
+      let counted_after : IsCountedWorld (end t e + 1) (carried_out (end t e) p (now t e)) = subst (IsCountedWorld (end t e + 1)) same counts in
+      let onward = next-world t e counted_now listed_now p is s effect.closed done.closed counted_after tracked.shows in
+      record {
+        world = same ∙ sym (world-longer t e ∙ next-is t e counted_now listed_now p is);
+        counted = counted_next;
+        listed = subst (λ (w : model.World counted). AreListed w.objects) (sym same) (next-listed t e counted_now listed_now p is);
+        shows = noted.1 (seen_at t) (seen_at (longer t e))
+            (subst (λ (w : model.World counted). IsNextWorld (end t e) (views_of w) (touched_numbers e effect.closed w)
+            (touched_targets e effect.hints (seen_by s (end t e)) (views_of w) (touched_numbers e effect.closed w)) (seen_at t) (seen_at (longer t e))) (sym same)
+            (subst (λ hints. IsNextWorld (end t e) (views_of (carried_out (end t e) p (now t e))) (touched_numbers e effect.closed (carried_out (end t e) p (now t e)))
+            (touched_targets e hints (seen_by s (end t e)) (views_of (carried_out (end t e) p (now t e))) (touched_numbers e effect.closed (carried_out (end t e) p (now t e))))
+            (seen_at t) (seen_at (longer t e))) (sym done.hints) onward))
+            tracked.shows;
+        up_to = up_next s' noted.0;
+      }
+
+  tracked-here : IsEffectBy (plan (end t e) e) old effect → IsNext (end t e) (plan (end t e) e) old new → IsFollowed (end t e) e effect (world_of new) s s'
+      → IsTracked (longer t e) new s'
+  tracked-here of is followed =
+      tracked-by (plan (end t e) e (now t e)) refl
+      (subst (λ (w : model.World counted). IsEffectOf (plan (end t e) e w) effect) tracked.world of)
+      (is ∙ ap (λ (w : model.World counted). world_after (end t e) (plan (end t e) e w) w) tracked.world) followed
+
+pub tracked-next : (t : Traced) (e : Event) (place : ℕ) (old new : World) (s s' : Seen) (effect : Effect) → length t.events + 1 ≡ place → IsTracked t old s
+    → IsCountedWorld (place + 1) (world_of new) → IsEffectBy (plan place e) old effect → IsNext place (plan place e) old new
+    → IsFollowed place e effect (world_of new) s s' → IsTracked (longer t e) new s'
+tracked-next t e place old new s s' effect at tracked =
+    subst (λ p. IsCountedWorld (p + 1) (world_of new) → IsEffectBy (plan p e) old effect → IsNext p (plan p e) old new
+    → IsFollowed p e effect (world_of new) s s' → IsTracked (longer t e) new s') at (λ counts. tracked-here t e old new s s' effect tracked counts)

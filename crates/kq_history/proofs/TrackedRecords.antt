@@ -1,0 +1,101 @@
+-- One record more: what was seen goes on to be that of the worlds, where all that the record touches was noted.
+use Rattle.std.proofs.Common.{◌≡◌, ◌+◌, ℕ, Bool, true, false, cond, ltb, List, ◌++◌, map, Option, refl, sym, ap, subst, ◌∙◌, arith}
+use Rattle.std.specs.List.{flat_map}
+use Rattle.std.proofs.Math.Path.{fun_ext}
+use Rattle.std.proofs.lemmas.Bool.{le-ltb}
+use Rattle.kq_model.specs.declared.event.Event.{Event}
+use Rattle.kq_model.specs.declared.object.Named.{Named}
+use Rattle.kq_model.specs.declared.object.Target.{Target}
+use Rattle.kq_model.specs.declared.why.Why.{Why}
+use Rattle.kq_model.specs.CountedWorld.{IsCountedWorld}
+use Rattle.kq_model.specs.ListedFiles.{AreListed, KeepsLists}
+use Rattle.kq_model.specs.Moments.{world_by}
+use Rattle.kq_model.specs.Objects.{counted}
+use Rattle.kq_model.specs.Plans.{plan}
+use Rattle.kq_model.specs.Views.{Views}
+use Rattle.kq_model.specs.World.{World, Plan, Impossible, Possible, carried_out, named_by, views_of}
+use Rattle.kq_history.specs.declared.seen.Seen.{Seen}
+use Rattle.kq_history.specs.Noted.{IsNextWorld}
+use Rattle.kq_history.specs.Seen.{seen_by, Shows}
+use Rattle.kq_history.specs.Touched.{has_target, targets_named, told_targets, touched_numbers, touched_targets}
+use Rattle.kq_history.specs.Spoken.{spoken_targets}
+use Rattle.kq_history.specs.Traced.{Traced, longer, seen_at}
+use Rattle.kq_history.proofs.AnyWithin.{any-within}
+use Rattle.kq_history.proofs.ListedRecords.{listed-record}
+use Rattle.kq_history.proofs.TouchedKeys.{to_pair}
+use Rattle.kq_history.proofs.TracedWorlds.{end, next, now, seen-longer, seen-stands}
+use Rattle.kq_history.proofs.UntouchedRecords.{untouched_number, untouched_view}
+use Rattle.kq_history.specs.Within.{IsWithin, IsWithinRecord}
+use Rattle.kq_history.specs.Spoken.{spoken_numbers}
+
+module _ (t : Traced) (e : Event) (counts : IsCountedWorld (end t e) (now t e)) (lists : AreListed (now t e).objects) where
+  -- what was seen after the last record
+  before-same : (s : Seen) → Shows (seen_at t) s → (seen_by s (end t e)).descriptor ≡ (views_of (now t e)).descriptor
+  before-same s shows =
+      fun_ext (λ pid. fun_ext (λ number.
+      shows.descriptor (end t e) pid number ∙ ap (λ (v : Views). v.descriptor pid number) (seen-stands t e (end t e) (itself (end t e)))))
+    where
+      itself : (n : ℕ) → ltb n n ≡ false
+      itself n = le-ltb n n (omega arith)
+
+  abbrev named_by_numbers : Views → (ℕ → ℕ → Option Named) → List (ℕ × ℕ) → List Target
+  named_by_numbers after names numbers = flat_map (λ (p : ℕ × ℕ). targets_named (names p.0 p.1) ++ targets_named (after.descriptor p.0 p.1)) numbers
+
+  targets-same : (s : Seen) (after : Views) (hints : _) (numbers : List (ℕ × ℕ)) → Shows (seen_at t) s
+      → touched_targets e hints (seen_by s (end t e)) after numbers ≡ touched_targets e hints (views_of (now t e)) after numbers
+  targets-same s after hints numbers shows =
+      ap (λ names. named_by_numbers after names numbers ++ (told_targets hints ++ spoken_targets e)) (before-same s shows)
+
+  within : (p : Plan) → plan (end t e) e (now t e) ≡ Possible p → IsWithin (spoken_numbers e) (spoken_targets e) (now t e) p
+  within p is = subst (IsWithinRecord e (now t e)) is (any-within (end t e) e (now t e) counts.rising)
+
+  -- ---- a possible record
+
+  module _ (p : Plan) (is : plan (end t e) e (now t e) ≡ Possible p) where
+    abbrev after : World counted
+    after = carried_out (end t e) p (now t e)
+
+    pub next-is : next t e ≡ after
+    unfolding world_by
+    next-is = ap (λ q. world_by (end t e) q (now t e)) is
+
+    pub next-listed : AreListed after.objects
+    next-listed = (subst (KeepsLists (end t e) (now t e)) is (listed-record (end t e) e (now t e))).keeps counts lists
+
+    pub next-world : (s : Seen) (closed : List (ℕ × ℕ)) → map to_pair closed ≡ p.closed → IsCountedWorld (end t e + 1) after → Shows (seen_at t) s
+        → IsNextWorld (end t e) (views_of after) (touched_numbers e closed after)
+        (touched_targets e p.hints (seen_by s (end t e)) (views_of after) (touched_numbers e closed after)) (seen_at t) (seen_at (longer t e))
+    unfolding views_of named_by
+    next-world s closed shut counted_after shows = record {
+      earlier = λ at. seen-longer t e at ∙ ap (λ (w : World counted). cond (ltb at (end t e)) (seen_at t at) (views_of w)) next-is;
+      same_numbers = λ at pid number later untouched.
+          untouched_number (end t e) e (now t e) p closed shut (within p is) pid number untouched
+          ∙ ap (λ (v : Views). v.descriptor pid number) (sym (seen-stands t e at later));
+      same_views = λ at x later untouched.
+          untouched_view (end t e) e (now t e) p closed shut (within p is) counted_after.rising lists x
+          (ap (has_target x) (sym (targets-same s (views_of after) p.hints (touched_numbers e closed after) shows)) ∙ untouched)
+          ∙ ap (λ (v : Views). v.view x) (sym (seen-stands t e at later));
+    }
+
+  -- ---- an impossible record
+
+  module _ (why : Why) (is : plan (end t e) e (now t e) ≡ Impossible why) where
+    pub next-stays : next t e ≡ now t e
+    unfolding world_by
+    next-stays = ap (λ q. world_by (end t e) q (now t e)) is
+
+    seen-stays : (at : ℕ) → seen_at (longer t e) at ≡ seen_at t at
+    seen-stays at =
+        seen-longer t e at ∙ ap (λ (w : World counted). cond (ltb at (end t e)) (seen_at t at) (views_of w)) next-stays
+        ∙ stays (ltb at (end t e)) refl
+      where
+        stays : (b : Bool) → ltb at (end t e) ≡ b → cond b (seen_at t at) (views_of (now t e)) ≡ seen_at t at
+        stays true earlier = refl
+        stays false later = sym (seen-stands t e at later)
+
+    pub shows-still : (s : Seen) → Shows (seen_at t) s → Shows (seen_at (longer t e)) s
+    shows-still s shows = record {
+      view = λ at x. shows.view at x ∙ ap (λ (v : Views). v.view x) (sym (seen-stays at));
+      descriptor = λ at pid number. shows.descriptor at pid number ∙ ap (λ (v : Views). v.descriptor pid number) (sym (seen-stays at));
+      now = λ at. shows.now at ∙ ap (λ (v : Views). v.now) (sym (seen-stays at));
+    }

@@ -1,0 +1,18 @@
+use Rattle.std.proofs.Common.{◌≡◌, ◌&&◌, ◌++◌, ℕ, leb, cond, take, None}
+use Rattle.std.specs.List.{flat_map}
+use Rattle.kq_history.specs.Seen.{named_around, pair_eq}
+use Rattle.kq_history.specs.Timeline.{value_at}
+use Rattle.kq_history.specs.Timelines.{marks_at, AreUpTo}
+use Rattle.kq_history.specs.Touched.{has_number, AreAmong}
+use Rattle.kq_history.proofs.seen.note_numbers.Given as goal
+
+abbrev pub invariant-loop-number : goal.invariant-loop-number
+invariant-loop-number g l = record {
+  up_to : AreUpTo pair_eq l.place l.timelines.table;
+  noted : (pid number at : ℕ) → value_at at None (marks_at pair_eq l.timelines.table (pid, number))
+      ≡ cond (has_number pid number (take l.number-index l.numbers) && leb l.place at)
+      ((g.V.Views.sees l.views).descriptor pid number)
+      (value_at at None (marks_at pair_eq l.initial.timelines.table (pid, number)));
+  named : AreAmong (flat_map (named_around l.initial.timelines.table l.place (g.V.Views.sees l.views)) (take l.number-index l.numbers)
+      ++ l.initial.targets.items) l.targets.items;
+}

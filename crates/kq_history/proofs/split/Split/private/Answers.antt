@@ -1,0 +1,39 @@
+use Rattle.std.proofs.Common.{◌≡◌, ◌∙◌, List, ℕ, filter, sym, ap, subst, rules}
+use Rattle.std.specs.List.{Contains, IsDistinct}
+use Rattle.kq_history.specs.declared.item.Source.{Source}
+use Rattle.kq_history.specs.Items.{is_from, source_eq}
+use Rattle.kq_history.specs.Private.{IsPrivate}
+use Rattle.kq_history.specs.Traced.{Traced, places_of}
+use Rattle.kq_history.proofs.PrivateOf.{is-private, known-there}
+use Rattle.kq_history.proofs.SplitNext.{one-each, places-rise}
+use Rattle.kq_history.proofs.split.Split.private.Goals as goal
+
+pub of-concerned-requires-clause-rising : goal.of-concerned-requires-clause-rising
+of-concerned-requires-clause-rising c = places-rise _ c.self.inside.said c.self.invariant.said
+
+pub of-concerned-requires-clause-one_each : goal.of-concerned-requires-clause-one_each
+of-concerned-requires-clause-one_each c = one-each _ c.self.inside.said c.self.invariant.said
+
+pub of-concerned-requires-clause-born : goal.of-concerned-requires-clause-born
+of-concerned-requires-clause-born c =
+    let same : c.self.inside.said.kqueues.places.items ≡ places_of c.args.self.now = c.self.invariant.said.births ∙ search rules in
+    subst (λ (ps : List ℕ). Contains ps c.args.kqueue) (sym same) c.requires
+
+pub pick-requires-clause-distinct : goal.pick-requires-clause-distinct
+pick-requires-clause-distinct c =
+    subst (λ (ss : List Source). IsDistinct source_eq ss) (sym c.as_slice.ensures)
+    (known-there _ c.self.inside.said c.self.invariant.said c.args.kqueue c.of-concerned.result.now c.of-concerned.ensures).distinct
+
+pub pick-requires-clause-shelved : goal.pick-requires-clause-shelved
+pick-requires-clause-shelved c = c.self.invariant.said.shelved
+
+pub invariant_of-result : goal.invariant_of-result
+invariant_of-result c =
+    let t : Traced = record { version = c.self.inside.version; events = c.self.inside.events.now } in
+    let same : t ≡ c.args.self.now = search rules in
+    let concerned = c.of-concerned.result.now in
+    record {
+      own = subst (λ (x : Traced). IsPrivate x c.args.kqueue concerned.owner c.in_ok-items.items.items) same
+          (is-private t c.self.inside.said c.self.invariant.said c.args.kqueue concerned c.of-concerned.ensures c.in_ok-items.items.items
+          (c.in_ok-items.ensures ∙ ap (λ ss. filter (is_from ss) c.self.inside.said.log.items.items) c.as_slice.ensures));
+    }

@@ -1,0 +1,16 @@
+-- What a split keeps of a trace: what was seen of the world, what the records say, and the rows of impossible ones.
+use Rattle.std.specs.Prelude.{◌≡◌, ◌<◌, ◌^◌, List, length}
+use Rattle.kq_model.specs.declared.row.Row.{Row}
+use Rattle.kq_history.specs.declared.said.Said.{Said}
+use Rattle.kq_history.specs.declared.seen.Seen.{Seen}
+use Rattle.kq_history.specs.Said.{IsSaid}
+use Rattle.kq_history.specs.Seen.{Shows}
+use Rattle.kq_history.specs.Traced.{Traced, plain_rows_of, seen_at}
+
+pub record IsSplit (t : Traced) (s : Seen) (heard : Said) (plain : List Row) : Type 0 where
+  pub shows : Shows (seen_at t) s
+  pub said : IsSaid t heard
+  pub plain_is : plain ≡ plain_rows_of t
+  -- of the type of traces
+  pub version_one : t.version ≡ 1
+  pub countable : length t.events < 2 ^ 31

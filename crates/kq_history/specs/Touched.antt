@@ -1,0 +1,65 @@
+-- What may be another one after a record: the numbers that it closed or speaks of, and those of a process that it
+-- started; what these name before it and after it, whom it told, and what it speaks of.
+use Rattle.std.specs.Prelude.{◌≡◌, ℕ, ◌==◌, Bool, true, ◌&&◌, List, [], ◌∷◌, ◌++◌, map, Option, Some, None}
+use Rattle.std.specs.List.{flat_map, list_any}
+use Rattle.kq_model.specs.declared.event.Event.{Event}
+use Rattle.kq_model.specs.declared.object.Named.{Named}
+use Rattle.kq_model.specs.declared.object.Named.TheVariants as named
+use Rattle.kq_model.specs.declared.object.Target.{Target}
+use Rattle.kq_model.specs.declared.object.Target.TheVariants as target
+use Rattle.kq_model.specs.Descriptors.{Descriptor}
+use Rattle.kq_model.specs.Objects.{counted}
+use Rattle.kq_model.specs.ProcessPlans.{descriptors_of}
+use Rattle.kq_model.specs.Targets.{Posted, target_eq}
+use Rattle.kq_model.specs.Views.{Views}
+use Rattle.kq_model.specs.World.{World}
+use Rattle.kq_history.specs.Spoken.{spoken_numbers, spoken_process, spoken_targets}
+
+abbrev pub has_number : ℕ → ℕ → List (ℕ × ℕ) → Bool
+has_number pid number pairs = list_any (λ (p : ℕ × ℕ). (p.0 == pid) && (p.1 == number)) pairs
+
+abbrev pub has_target : Target → List Target → Bool
+has_target t targets = list_any (λ x. target_eq x t) targets
+
+-- each of these is one of those
+abbrev pub AreAmong : List Target → List Target → Type 0
+AreAmong xs ys = (t : Target) → has_target t xs ≡ true → has_target t ys ≡ true
+
+-- ---- numbers
+
+abbrev pub keys_of : List Descriptor → List (ℕ × ℕ)
+keys_of ds = map (λ (d : Descriptor). (d.pid, d.number)) ds
+
+-- all that are open in the process
+abbrev pub open_numbers : Option ℕ → World counted → List (ℕ × ℕ)
+open_numbers None w = []
+open_numbers (Some pid) w = keys_of (descriptors_of pid w.table)
+
+-- `w` is the world after the record
+abbrev pub touched_numbers : Event → List (ℕ × ℕ) → World counted → List (ℕ × ℕ)
+touched_numbers e closed w = closed ++ (spoken_numbers e ++ open_numbers (spoken_process e) w)
+
+-- ---- targets
+
+abbrev pub targets_named : Option Named → List Target
+targets_named None = []
+targets_named (Some (named.Socket place)) = target.Socket place ∷ []
+targets_named (Some (named.PipeRead place)) = target.Pipe place ∷ []
+targets_named (Some (named.PipeWrite place)) = target.Pipe place ∷ []
+targets_named (Some (named.Open place file)) = target.Open place ∷ target.File file ∷ []
+targets_named (Some (named.Kqueue place)) = []
+
+-- by a number, in both worlds
+abbrev pub targets_of : Views → Views → ℕ × ℕ → List Target
+targets_of before after p = targets_named (before.descriptor p.0 p.1) ++ targets_named (after.descriptor p.0 p.1)
+
+abbrev pub told_targets : List Posted → List Target
+told_targets hints = map (λ (p : Posted). p.0) hints
+
+-- besides those that its numbers name
+abbrev pub other_targets : Event → List Posted → List Target
+other_targets e hints = told_targets hints ++ spoken_targets e
+
+abbrev pub touched_targets : Event → List Posted → Views → Views → List (ℕ × ℕ) → List Target
+touched_targets e hints before after numbers =
+    flat_map (targets_of before after) numbers ++ other_targets e hints

@@ -1,0 +1,46 @@
+-- The world and what was seen of it, as far as a trace was gone through.
+use Rattle.std.specs.Prelude.{◌≡◌, ℕ, ◌+◌, List, length, Result, Ok, Err}
+use Rattle.kq_model.specs.declared.event.Event.{Event}
+use Rattle.kq_model.specs.declared.why.Why.{Why}
+use Rattle.kq_model.specs.CountedWorld.{IsCountedWorld}
+use Rattle.kq_model.specs.ListedFiles.{AreListed}
+use Rattle.kq_model.specs.Objects.{counted}
+use Rattle.kq_model.specs.Targets.{Posted}
+use Rattle.kq_model.specs.Views.{Views}
+use Rattle.kq_model.specs.World as model
+use Rattle.kq_model.specs.World.{views_of}
+use Rattle.kq_process.specs.World.{world_of}
+use Rattle.kq_process.specs.declared.effect.Effect.{Effect}
+use Rattle.kq_process.specs.declared.world.World.{World}
+use Rattle.kq_history.specs.declared.seen.Seen.{Seen}
+use Rattle.kq_history.specs.Noted.{AreAllUpTo, IsNextWorld}
+use Rattle.kq_history.specs.Seen.{seen_by, Shows}
+use Rattle.kq_history.specs.Touched.{touched_numbers, touched_targets}
+use Rattle.kq_history.specs.Traced.{Traced, seen_at, world_at_end}
+
+pub record IsTracked (t : Traced) (w : World) (s : Seen) : Type 0 where
+  pub world : world_of w ≡ world_at_end t
+  pub counted : IsCountedWorld (length t.events + 1) (world_of w)
+  pub listed : AreListed (world_of w).objects
+  pub shows : Shows (seen_at t) s
+  pub up_to : AreAllUpTo (length t.events) s
+
+-- ---- one record more
+
+-- all that it touches was noted: where what is seen goes on with the world after it, the new marks show that
+abbrev pub IsNoted : ℕ → Event → List (ℕ × ℕ) → List Posted → model.World counted → Seen → Seen → Type 0
+IsNoted place e closed hints after old new =
+    (worlds next : ℕ → Views)
+    → IsNextWorld place (views_of after) (touched_numbers e closed after)
+    (touched_targets e hints (seen_by old place) (views_of after) (touched_numbers e closed after)) worlds next
+    → Shows worlds old → Shows next new
+
+abbrev pub IsFollowedBy : ℕ → Event → Result (Unit {0}) Why → List (ℕ × ℕ) → List Posted → model.World counted
+    → Seen → Seen → Type 0
+IsFollowedBy place e (Err why) closed hints after old new = new ≡ old
+IsFollowedBy place e (Ok done) closed hints after old new =
+    AreAllUpTo place new × IsNoted place e closed hints after old new
+
+-- of an impossible record nothing is noted
+abbrev pub IsFollowed : ℕ → Event → Effect → model.World counted → Seen → Seen → Type 0
+IsFollowed place e effect after old new = IsFollowedBy place e effect.verdict effect.closed effect.hints after old new

@@ -1,0 +1,46 @@
+ghost use Rattle.std.specs.Prelude.{◌≡◌};
+ghost use Rattle.kq_history.specs.Private.{IsAnswering};
+
+use crate::item::Item;
+use crate::split::Split;
+
+/// What of a kqueue's private list can show in its rows: the items from its first call to its last
+/// one.
+#[derive(Drop)]
+pub struct Answering<'s, 'a> {
+    pub(crate) split: &'s Split<'a>,
+    pub(crate) kqueue: u64,
+    pub(crate) owner: u32,
+    pub(crate) items: Vec<Item>,
+    ghost own: { IsAnswering split.now kqueue owner items.items },
+}
+
+impl<'s, 'a> Answering<'s, 'a> {
+    /// The place where the kqueue was made.
+    pub fn kqueue(&self) -> u64
+        ensures { result ≡ self.now.kqueue }
+    {
+        self.kqueue
+    }
+
+    /// The process that owns it.
+    pub fn owner(&self) -> u32
+        ensures { result ≡ self.now.owner }
+    {
+        self.owner
+    }
+
+    /// The items, by rising place, and at each place in the record's order.
+    pub fn items(&self) -> &[Item]
+        ensures { result.now ≡ self.now.items.items }
+    {
+        self.items.as_slice()
+    }
+
+    /// The split that it is a part of.
+    pub fn split(&self) -> &'s Split<'a>
+        ensures { result.now ≡ self.now.split.now }
+    {
+        self.split
+    }
+}

@@ -1,0 +1,29 @@
+//! What was seen of the world at every place of a trace, and what the trace says to each kqueue: so
+//! that each kqueue can be replayed alone.
+#![tactic(auto)]
+
+mod answering;
+mod at;
+mod item;
+mod kqueues;
+mod log;
+mod private;
+mod said;
+mod seen;
+mod shelves;
+mod sources;
+mod split;
+mod spoken;
+mod timeline;
+mod timelines;
+mod touched;
+mod tracking;
+
+pub use answering::Answering;
+pub use at::HistoryAt;
+pub use item::{Item, Source, What};
+pub use private::Private;
+pub use split::Split;
+
+#[cfg(test)]
+mod tests;

@@ -1,0 +1,134 @@
+ghost use Rattle.std.specs.Prelude.{◌≡◌, ◌<◌, ◌++◌, ◌∷◌, [], true, All, filter, length, map, IfOk, OnOk};
+ghost use Rattle.std.specs.List.{IsDistinct};
+ghost use Rattle.std.specs.List.Sorted.{IsNonDecreasing};
+ghost use Rattle.kq_history.specs.BetweenCalls.{between};
+ghost use Rattle.kq_history.specs.Items.{has_source, is_from, source_eq};
+ghost use Rattle.kq_history.specs.Log.{all_standing, all_within, comes_from, is_within, item_at, AreShelved};
+
+use crate::item::{Item, Source};
+use crate::shelves::Shelves;
+use kq_model::Memory;
+use std::alloc::Global;
+
+/// All that the records of a trace say to kqueues, in order. The shelves say where the items of
+/// each source stand (`AreShelved`), but after Memory.
+#[derive(Drop)]
+pub struct Log {
+    pub(crate) items: Vec<Item>,
+    pub(crate) shelves: Shelves<Source>,
+    alloc: Global,
+}
+
+impl Log {
+    /// No item.
+    pub fn new(alloc: Global) -> Self
+        ensures items { result.items.items ≡ [] }
+        ensures shelved { AreShelved [] result.shelves.table }
+    {
+        Log {
+            items: Vec::new(alloc),
+            shelves: Shelves::new(alloc),
+            alloc,
+        }
+    }
+
+    /// One item more.
+    pub fn push(&mut self, item: Item) -> Result<(), Memory>
+        ensures items { OnOk result (self.new.items.items ≡ self.old.items.items ++ item ∷ []) }
+        ensures shelved { OnOk result (AreShelved self.old.items.items self.old.shelves.table
+            → AreShelved self.new.items.items self.new.shelves.table) }
+    {
+        let number = self.items.len();
+        self.items.push(item).map_err(|_| Memory)?;
+        self.shelves.add(item.what.source(), number)
+    }
+
+    /// Where the items of these sources stand, source by source.
+    fn numbers_of(&self, sources: &[Source]) -> Result<Vec<usize>, Memory>
+        requires { AreShelved self.now.items.items self.now.shelves.table }
+        ensures { IfOk result (λ numbers. numbers.items ≡ all_standing self.now.items.items sources.now) }
+    {
+        let mut numbers = Vec::new(self.alloc);
+        for source in sources {
+            let standing = self.shelves.at(*source);
+            numbers.extend_from_slice(standing).map_err(|_| Memory)?;
+        }
+        Ok(numbers)
+    }
+
+    /// The items that stand there.
+    fn items_at(&self, numbers: &[usize]) -> Result<Vec<Item>, Memory>
+        requires { All (λ n. n < length self.now.items.items) numbers.now }
+        ensures { IfOk result (λ picked. picked.items ≡ map (item_at self.now.items.items) numbers.now) }
+    {
+        let mut picked = Vec::with_capacity(self.alloc, numbers.len()).map_err(|_| Memory)?;
+        for number in numbers {
+            picked.push(self.items[*number]).map_err(|_| Memory)?;
+        }
+        Ok(picked)
+    }
+
+    /// The items that come from these sources, in their order. It costs these items alone: those of
+    /// each source are a run in order, and the sort merges runs.
+    pub fn pick(&self, sources: &[Source]) -> Result<Vec<Item>, Memory>
+        requires distinct { IsDistinct source_eq sources.now }
+        requires shelved { AreShelved self.now.items.items self.now.shelves.table }
+        ensures { IfOk result (λ picked. picked.items ≡ filter (is_from sources.now) self.now.items.items) }
+    {
+        let mut numbers = self.numbers_of(sources)?;
+        numbers.sort().map_err(|_| Memory)?;
+        self.items_at(numbers.as_slice())
+    }
+
+    /// Where the items of these sources stand from one number to another, source by source.
+    fn numbers_within(
+        &self,
+        sources: &[Source],
+        first: usize,
+        last: usize,
+    ) -> Result<Vec<usize>, Memory>
+        requires { AreShelved self.now.items.items self.now.shelves.table }
+        ensures { IfOk result (λ numbers. numbers.items ≡ all_within first last self.now.items.items sources.now) }
+    {
+        let mut numbers = Vec::new(self.alloc);
+        for source in sources {
+            let standing = self.shelves.at(*source);
+            numbers
+                .extend_from_slice(within(standing, first, last))
+                .map_err(|_| Memory)?;
+        }
+        Ok(numbers)
+    }
+
+    /// The items that come from these sources, from the first one of this source among them to its
+    /// last one, in their order. It costs these items, and two searches for each source.
+    pub fn pick_between(&self, sources: &[Source], source: Source) -> Result<Vec<Item>, Memory>
+        requires distinct { IsDistinct source_eq sources.now }
+        requires there { has_source sources.now source ≡ true }
+        requires shelved { AreShelved self.now.items.items self.now.shelves.table }
+        ensures { IfOk result (λ picked. picked.items
+            ≡ between (comes_from source) (filter (is_from sources.now) self.now.items.items)) }
+    {
+        let standing = self.shelves.at(source);
+        if standing.is_empty() {
+            return Ok(Vec::new(self.alloc));
+        }
+        let first = standing[0];
+        let last = standing[standing.len() - 1];
+        let mut chosen = self.numbers_within(sources, first, last)?;
+        chosen.sort().map_err(|_| Memory)?;
+        self.items_at(chosen.as_slice())
+    }
+}
+
+/// Those of rising numbers that are neither below the one nor above the other.
+fn within(numbers: &[usize], first: usize, last: usize) -> &[usize]
+    requires { IsNonDecreasing numbers.now }
+    ensures { result.now ≡ filter (is_within first last) numbers.now }
+{
+    let below = numbers.partition_point(|number| *number < first);
+    let (_, rest) = numbers.split_at(below);
+    let count = rest.partition_point(|number| *number <= last);
+    let (inside, _) = rest.split_at(count);
+    inside
+}

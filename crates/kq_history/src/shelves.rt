@@ -1,0 +1,90 @@
+ghost use Rattle.std.specs.Prelude.{◌≡◌, ◌++◌, ◌∷◌, [], IfOk, OnOk};
+ghost use Rattle.kq_history.specs.Shelves.{shelf_at, shelved};
+
+use kq_model::Memory;
+use std::alloc::Global;
+use std::collections::HashMap;
+use std::hash::Hash;
+use std::marker::Model;
+
+/// A list of numbers for each key; an empty one for a key under which nothing was put.
+#[derive(Drop)]
+pub struct Shelves<K: Copy + Eq + Hash> {
+    pub(crate) table: HashMap<K, Shelf>,
+    alloc: Global,
+}
+
+/// Numbers in the order in which they came.
+#[derive(Drop)]
+pub struct Shelf {
+    numbers: Vec<usize>,
+}
+
+impl Model for Shelf {
+    ghost use Rattle.std.specs.Prelude.{ℕ, List};
+
+    ghost Value = { List ℕ };
+
+    ghost view = { λ s. s.numbers.items };
+}
+
+impl Shelf {
+    /// One number alone.
+    fn one(alloc: Global, number: usize) -> Result<Self, Memory>
+        ensures { IfOk result (λ s. s ≡ number ∷ []) }
+    {
+        let mut numbers = Vec::new(alloc);
+        numbers.push(number).map_err(|_| Memory)?;
+        Ok(Shelf { numbers })
+    }
+
+    fn as_slice(&self) -> &[usize]
+        ensures { result.now ≡ self.now }
+    {
+        self.numbers.as_slice()
+    }
+
+    /// One number more.
+    fn add(&mut self, number: usize) -> Result<(), Memory>
+        ensures { OnOk result (self.new ≡ self.old ++ number ∷ []) }
+    {
+        self.numbers.push(number).map_err(|_| Memory)
+    }
+}
+
+impl<K: Copy + Eq + Hash> Shelves<K> {
+    /// Nothing under any key.
+    pub fn new(alloc: Global) -> Self
+        ensures { (key : K) → shelf_at K.eq result.table key ≡ [] }
+    {
+        Shelves {
+            table: HashMap::new(alloc),
+            alloc,
+        }
+    }
+
+    /// The numbers under a key.
+    pub fn at(&self, key: K) -> &[usize]
+        ensures { result.now ≡ shelf_at K.eq self.now.table key }
+    {
+        match self.table.get(&key) {
+            Some(shelf) => shelf.as_slice(),
+            None => &[],
+        }
+    }
+
+    /// Puts a number under a key, behind those that are there. After Memory nothing is known.
+    pub fn add(&mut self, key: K, number: usize) -> Result<(), Memory>
+        ensures { OnOk result ((other : K) → shelf_at K.eq self.new.table other
+            ≡ shelf_at K.eq self.old.table other ++ shelved (K.eq key other) number) }
+    {
+        match self.table.get_mut(&key) {
+            Some(shelf) => shelf.add(number),
+            None => {
+                let shelf = Shelf::one(self.alloc, number)?;
+                self.table.insert(key, shelf).map_err(|_| Memory)?;
+                Ok(())
+            }
+        }
+    }
+}

@@ -1,0 +1,171 @@
+ghost use Rattle.std.specs.Prelude.{◌≡◌, ◌++◌, ◌∷◌, [], false, IfOk, OnOk};
+ghost use Rattle.std.specs.HashSet.{contains};
+ghost use Rattle.kq_history.specs.Items.{source_eq};
+ghost use Rattle.kq_model.specs.Knote.{is_timer, watches_number};
+ghost use Rattle.kq_model.specs.References.{named_target, unless_file};
+
+use crate::item::Source;
+use kq_filters::Views;
+use kq_kevent::target_of;
+use kq_model::{Change, Filter, Memory, Target};
+use std::alloc::Global;
+use std::collections::HashSet;
+
+/// Sources, each once (`AreKnown`), but after Memory.
+#[derive(Drop)]
+pub struct Sources {
+    pub(crate) list: Vec<Source>,
+    pub(crate) known: HashSet<Source>,
+}
+
+impl Sources {
+    ghost use Rattle.kq_history.specs.Sources.{AreKnown, Grows, call_sources, change_sources};
+    ghost use Rattle.kq_history.specs.Sources.{clock_sources, number_sources, target_sources};
+
+    /// No source.
+    pub fn new(alloc: Global) -> Self
+        ensures list { result.list.items ≡ [] }
+        ensures known { AreKnown result }
+    {
+        Sources {
+            list: Vec::new(alloc),
+            known: HashSet::new(alloc),
+        }
+    }
+
+    /// One source alone.
+    pub fn one(alloc: Global, source: Source) -> Result<Self, Memory>
+        ensures list { IfOk result (λ s. s.list.items ≡ source ∷ []) }
+        ensures known { IfOk result AreKnown }
+    {
+        let mut sources = Sources::new(alloc);
+        sources.push(source)?;
+        Ok(sources)
+    }
+
+    pub fn as_slice(&self) -> &[Source]
+        ensures { result.now ≡ self.now.list.items }
+    {
+        self.list.as_slice()
+    }
+
+    /// One source more, where it is not there.
+    pub fn add(&mut self, source: Source) -> Result<(), Memory>
+        ensures { OnOk result (Grows (source ∷ []) self.old self.new) }
+    {
+        if self.known.contains(&source) {
+            return Ok(());
+        }
+        self.push(source)
+    }
+
+    /// One source more, which is not there.
+    fn push(&mut self, source: Source) -> Result<(), Memory>
+        requires { contains source_eq self.old.known source ≡ false }
+        ensures list { OnOk result (self.new.list.items ≡ self.old.list.items ++ source ∷ []) }
+        ensures grows { OnOk result (Grows (source ∷ []) self.old self.new) }
+    {
+        self.list.push(source).map_err(|_| Memory)?;
+        self.known.insert(source).map_err(|_| Memory)?;
+        Ok(())
+    }
+
+    /// The number that a change of this process names, where it is a descriptor's.
+    fn add_number(&mut self, pid: u32, change: &Change) -> Result<(), Memory>
+        ensures { OnOk result (Grows (number_sources (watches_number change.now.filter) pid change.now.ident)
+            self.old self.new) }
+    {
+        if !watches_number(change.filter) {
+            return Ok(());
+        }
+        let number = change.ident;
+        self.add(Source::Number { pid, number })
+    }
+
+    /// The target that a change names, where it names one.
+    fn add_target(&mut self, target: Option<Target>) -> Result<(), Memory>
+        ensures { OnOk result (Grows (target_sources target) self.old self.new) }
+    {
+        match target {
+            None => Ok(()),
+            Some(target) => self.add(Source::Of(target)),
+        }
+    }
+
+    /// The clock, where a change names it.
+    fn add_clock(&mut self, filter: Filter) -> Result<(), Memory>
+        ensures { OnOk result (Grows (clock_sources (is_timer filter)) self.old self.new) }
+    {
+        if !is_timer(filter) {
+            return Ok(());
+        }
+        self.add(Source::Clock)
+    }
+
+    /// All that a change of this process names.
+    fn name<V: Views>(&mut self, pid: u32, change: &Change, views: &V) -> Result<(), Memory>
+        ensures { OnOk result (Grows (change_sources (V.sees views.now) pid change.now) self.old self.new) }
+    {
+        self.add_number(pid, change)?;
+        self.add_target(named_target(pid, change, views))?;
+        self.add_clock(change.filter)
+    }
+
+    /// All that the changes of a call by this process name.
+    pub fn name_all<V: Views>(
+        &mut self,
+        pid: u32,
+        changes: &[Change],
+        views: &V,
+    ) -> Result<(), Memory>
+        ensures { OnOk result (Grows (call_sources (V.sees views.now) pid changes.now) self.old self.new) }
+    {
+        for change in changes {
+            self.name(pid, change, views)?;
+        }
+        Ok(())
+    }
+}
+
+/// Whether a filter watches what a number names.
+#[tactic(auto, unfolding(kq_model::specs::Knote::watches_number))]
+fn watches_number(filter: Filter) -> bool
+    ensures { result ≡ watches_number filter }
+{
+    match filter {
+        Filter::Read | Filter::Write | Filter::Vnode => true,
+        _ => false,
+    }
+}
+
+#[tactic(auto, unfolding(kq_model::specs::Knote::is_timer))]
+fn is_timer(filter: Filter) -> bool
+    ensures { result ≡ is_timer filter }
+{
+    match filter {
+        Filter::Timer => true,
+        _ => false,
+    }
+}
+
+/// The target that a change names. WRITE watches no file.
+#[tactic(auto, unfolding(kq_model::specs::References::named_target, kq_model::specs::References::unless_file))]
+fn named_target<V: Views>(owner: u32, change: &Change, views: &V) -> Option<Target>
+    ensures { result ≡ named_target (V.sees views.now) owner change.now.filter change.now.ident }
+{
+    let target = target_of(owner, change, views);
+    match change.filter {
+        Filter::Write => unless_file(target),
+        _ => target,
+    }
+}
+
+#[tactic(auto, unfolding(kq_model::specs::References::unless_file))]
+fn unless_file(target: Option<Target>) -> Option<Target>
+    ensures { result ≡ unless_file target }
+{
+    match target {
+        Some(Target::Open(_)) => None,
+        other => other,
+    }
+}

@@ -1,0 +1,185 @@
+// What may be another one after a record. To name too much does no harm: what did not change is
+// noted as it was.
+ghost use Rattle.std.specs.Prelude.{◌≡◌, ◌++◌, ◌∷◌, [], OnOk};
+ghost use Rattle.kq_history.specs.Spoken.{file_targets, option_list, process_targets};
+ghost use Rattle.kq_history.specs.Touched.{keys_of, open_numbers, touched_numbers};
+ghost use Rattle.kq_history.specs.Touched.{other_targets, targets_named, told_targets, AreAmong};
+ghost use Rattle.kq_process.specs.Processes.{descriptors_in};
+ghost use Rattle.kq_process.specs.World.{world_of};
+
+use crate::spoken::{first_number, second_number, spoken_file, spoken_process};
+use kq_model::{Event, Hint, Memory, Named, Target};
+use kq_process::{Effect, World};
+use std::alloc::Global;
+
+/// What a record touched. One serves all records of a pass, so that none allocates for itself.
+#[derive(Drop)]
+pub struct Touched {
+    /// By pid and number.
+    pub(crate) numbers: Vec<(u32, u32)>,
+    pub(crate) targets: Vec<Target>,
+}
+
+impl Touched {
+    pub fn new(alloc: Global) -> Self {
+        Touched {
+            numbers: Vec::new(alloc),
+            targets: Vec::new(alloc),
+        }
+    }
+
+    /// The numbers that this record touched, and the targets but those that its numbers name, in
+    /// place of what another one did. The world is that after the record.
+    pub fn fill(&mut self, event: &Event, effect: &Effect, world: &World) -> Result<(), Memory>
+        ensures numbers { OnOk result (self.new.numbers.items
+            ≡ touched_numbers event.now effect.now.closed (world_of world.now)) }
+        ensures targets { OnOk result (self.new.targets.items ≡ other_targets event.now effect.now.hints) }
+    {
+        put_numbers(&mut self.numbers, event, effect.closed.as_slice(), world)?;
+        put_targets(&mut self.targets, event, effect.hints.as_slice())
+    }
+}
+
+/// The numbers that may name something else after a record: those that it closed or speaks of, and
+/// those of a process that it started. The world is that after the record.
+fn put_numbers(
+    numbers: &mut Vec<(u32, u32)>,
+    event: &Event,
+    closed: &[(u32, u32)],
+    world: &World,
+) -> Result<(), Memory>
+    ensures { OnOk result (numbers.new.items ≡ touched_numbers event.now closed.now (world_of world.now)) }
+{
+    numbers.clear();
+    numbers.extend_from_slice(closed).map_err(|_| Memory)?;
+    push_number(numbers, first_number(event))?;
+    push_number(numbers, second_number(event))?;
+    push_open(numbers, spoken_process(event), world)
+}
+
+fn push_number(numbers: &mut Vec<(u32, u32)>, number: Option<(u32, u32)>) -> Result<(), Memory>
+    ensures { OnOk result (numbers.new.items ≡ numbers.old.items ++ option_list number) }
+{
+    match number {
+        None => Ok(()),
+        Some(number) => numbers.push(number).map_err(|_| Memory),
+    }
+}
+
+/// All that are open in the process.
+fn push_open(
+    numbers: &mut Vec<(u32, u32)>,
+    process: Option<u32>,
+    world: &World,
+) -> Result<(), Memory>
+    ensures { OnOk result (numbers.new.items ≡ numbers.old.items ++ open_numbers process (world_of world.now)) }
+{
+    match process {
+        None => Ok(()),
+        Some(pid) => push_numbers(numbers, pid, world.descriptors(pid)),
+    }
+}
+
+fn push_numbers(
+    numbers: &mut Vec<(u32, u32)>,
+    pid: u32,
+    descriptors: &[(u32, Named)],
+) -> Result<(), Memory>
+    ensures { OnOk result (numbers.new.items ≡ numbers.old.items ++ keys_of (descriptors_in pid descriptors.now)) }
+{
+    for descriptor in descriptors {
+        numbers.push((pid, descriptor.0)).map_err(|_| Memory)?;
+    }
+    Ok(())
+}
+
+/// The targets of which something else may be seen after a record, besides those that its numbers
+/// name: whom it told, and what it speaks of.
+fn put_targets(
+    targets: &mut Vec<Target>,
+    event: &Event,
+    hints: &[(Target, Hint)],
+) -> Result<(), Memory>
+    ensures { OnOk result (targets.new.items ≡ other_targets event.now hints.now) }
+{
+    targets.clear();
+    push_told(targets, hints)?;
+    push_process(targets, spoken_process(event))?;
+    push_file(targets, spoken_file(event))
+}
+
+/// Adds what filters may watch by a number that named one thing and names another.
+pub fn add_both(
+    targets: &mut Vec<Target>,
+    had: Option<Named>,
+    named: Option<Named>,
+) -> Result<(), Memory>
+    ensures { OnOk result (AreAmong (targets_named had ++ targets_named named ++ targets.old.items) targets.new.items) }
+{
+    add_named(targets, had)?;
+    if had == named {
+        return Ok(());
+    }
+    add_named(targets, named)
+}
+
+/// Adds what filters may watch by a number.
+fn add_named(targets: &mut Vec<Target>, named: Option<Named>) -> Result<(), Memory>
+    ensures { OnOk result (AreAmong (targets_named named ++ targets.old.items) targets.new.items) }
+{
+    match named {
+        None | Some(Named::Kqueue(_)) => Ok(()),
+        Some(Named::Socket(place)) => add(targets, Target::Socket(place)),
+        Some(Named::PipeRead(place)) => add(targets, Target::Pipe(place)),
+        Some(Named::PipeWrite(place)) => add(targets, Target::Pipe(place)),
+        Some(Named::Open { description, file }) => {
+            add(targets, Target::Open(description))?;
+            add(targets, Target::File(file))
+        }
+    }
+}
+
+/// Adds a target, unless it came last.
+fn add(targets: &mut Vec<Target>, target: Target) -> Result<(), Memory>
+    ensures { OnOk result (AreAmong (target ∷ targets.old.items) targets.new.items) }
+{
+    if let Some(last) = targets.last() {
+        if *last == target {
+            return Ok(());
+        }
+    }
+    targets.push(target).map_err(|_| Memory)
+}
+
+fn push(targets: &mut Vec<Target>, target: Target) -> Result<(), Memory>
+    ensures { OnOk result (targets.new.items ≡ targets.old.items ++ target ∷ []) }
+{
+    targets.push(target).map_err(|_| Memory)
+}
+
+fn push_told(targets: &mut Vec<Target>, hints: &[(Target, Hint)]) -> Result<(), Memory>
+    ensures { OnOk result (targets.new.items ≡ targets.old.items ++ told_targets hints.now) }
+{
+    for hint in hints {
+        push(targets, hint.0)?;
+    }
+    Ok(())
+}
+
+fn push_process(targets: &mut Vec<Target>, process: Option<u32>) -> Result<(), Memory>
+    ensures { OnOk result (targets.new.items ≡ targets.old.items ++ process_targets process) }
+{
+    match process {
+        None => Ok(()),
+        Some(pid) => push(targets, Target::Process(pid)),
+    }
+}
+
+fn push_file(targets: &mut Vec<Target>, file: Option<u32>) -> Result<(), Memory>
+    ensures { OnOk result (targets.new.items ≡ targets.old.items ++ file_targets file) }
+{
+    match file {
+        None => Ok(()),
+        Some(number) => push(targets, Target::File(number)),
+    }
+}

@@ -1,0 +1,74 @@
+// The world over a trace, and what is seen of it after each record.
+ghost use Rattle.std.specs.Prelude.{◌≡◌, ◌+◌, length, IfOk, OnOk};
+ghost use Rattle.kq_model.specs.CountedWorld.{IsCountedWorld};
+ghost use Rattle.kq_model.specs.Plans.{plan};
+ghost use Rattle.kq_process.specs.World.{world_of, IsEffectBy};
+ghost use Rattle.kq_history.specs.Noted.{AreAllUpTo};
+ghost use Rattle.kq_history.specs.Traced.{longer, Traced};
+ghost use Rattle.kq_history.specs.Tracked.{IsFollowed, IsNoted, IsTracked};
+
+use crate::seen::Seen;
+use crate::touched::Touched;
+use kq_model::{Event, Memory};
+use kq_process::{Effect, World};
+
+/// One record more: the world takes it, and what is seen after it is noted. After Memory nothing is
+/// known.
+pub fn track(
+    place: u64,
+    event: &Event,
+    world: &mut World,
+    seen: &mut Seen,
+    touched: &mut Touched,
+) -> Result<Effect, Memory>
+    requires counted { IsCountedWorld place (world_of world.old) }
+    requires up_to { AreAllUpTo place seen.old }
+    ensures effect { IfOk result (IsEffectBy (plan place event.now) world.old) }
+    ensures tracked { OnOk result ((t : Traced) → length t.events + 1 ≡ place → IsTracked t world.old seen.old
+        → IsTracked (longer t event.now) world.new seen.new) }
+{
+    let effect = world.apply(place, event)?;
+    follow(place, event, &effect, world, seen, touched)?;
+    Ok(effect)
+}
+
+/// Notes the world after a record, where it was possible.
+fn follow(
+    place: u64,
+    event: &Event,
+    effect: &Effect,
+    world: &World,
+    seen: &mut Seen,
+    touched: &mut Touched,
+) -> Result<(), Memory>
+    requires { AreAllUpTo place seen.old }
+    ensures { OnOk result (IsFollowed place event.now effect.now (world_of world.now) seen.old seen.new) }
+{
+    match effect.verdict {
+        Err(_) => Ok(()),
+        Ok(()) => note(place, event, effect, world, seen, touched),
+    }
+}
+
+/// Notes of the world after a record all that the record touched.
+fn note(
+    place: u64,
+    event: &Event,
+    effect: &Effect,
+    world: &World,
+    seen: &mut Seen,
+    touched: &mut Touched,
+) -> Result<(), Memory>
+    requires { AreAllUpTo place seen.old }
+    ensures up_to { OnOk result (AreAllUpTo place seen.new) }
+    ensures noted { OnOk result (IsNoted place event.now effect.now.closed effect.now.hints (world_of world.now)
+        seen.old seen.new) }
+{
+    touched.fill(event, effect, world)?;
+    seen.note(
+        place,
+        touched.numbers.as_slice(),
+        &mut touched.targets,
+        world,
+    )
+}

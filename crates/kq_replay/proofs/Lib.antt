@@ -1,0 +1,13 @@
+pub mod Closes
+pub mod AtOnePlace
+pub mod OneConcern
+pub mod ItemByItem
+pub mod Records
+pub mod OwnConcerns
+pub mod OwnRows
+pub mod Recorded
+pub mod Private
+pub mod Rejoined
+pub mod Collected
+pub mod Kept
+pub mod BetweenCalls

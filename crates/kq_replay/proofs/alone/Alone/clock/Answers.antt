@@ -1,0 +1,12 @@
+use Rattle.std.proofs.Common.{sym, subst}
+use Rattle.kq_history.specs.Traced.{event_at}
+use Rattle.kq_replay.specs.Alone.{LoneKqueue}
+use Rattle.kq_replay.specs.Recorded.{IsClockOf}
+use Rattle.kq_replay.proofs.alone.Alone.clock.Goals as goal
+
+pub moment-moment-requires : goal.moment-moment-requires
+moment-moment-requires c = (
+  c.args.from,
+  c.args.to,
+  subst (λ (a : LoneKqueue). IsClockOf (event_at a.trace a.place) c.args.from c.args.to) (sym c.hear.ensures) c.requires,
+)

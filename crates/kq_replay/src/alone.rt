@@ -1,0 +1,213 @@
+// One kqueue that goes on alone.
+ghost use Rattle.std.specs.Prelude.{◌≡◌, ◌≤◌, ◌++◌, ℕ, pos, Some, All, List, IfOk, OnOk};
+ghost use Rattle.kq_model.specs.declared.change.Change.{Change};
+ghost use Rattle.kq_model.specs.declared.event.Event.TheVariants as event_of;
+ghost use Rattle.kq_model.specs.System.{row_of};
+ghost use Rattle.kq_model.specs.Ticks.{last_moment};
+ghost use Rattle.kq_history.specs.declared.item.What.TheVariants as what_of;
+ghost use Rattle.kq_history.specs.Traced.{event_at};
+ghost use Rattle.kq_replay.specs.Alone.{after_item, after_items, arrived, called, gone_on, heard, unborn};
+ghost use Rattle.kq_replay.specs.Recorded.{IsCallOf, IsClockOf, IsRecorded};
+
+use kq_history::{Item, Split, What};
+use kq_kevent::Kq;
+use kq_model::{Event, Hint, Memory, Reply, Row, Series, Target};
+use std::marker::Model;
+
+/// The last moment of the clock, in ns.
+const LAST_MOMENT: u64 = i64::MAX as u64;
+
+/// A kqueue that goes on alone, from one item of its private list to the next.
+#[derive(Drop)]
+pub struct Alone<'s, 'a> {
+    split: &'s Split<'a>,
+    /// That of the last item.
+    place: u64,
+    kq: Kq,
+    /// The hints that came there, which are heard together.
+    told: Vec<(Target, Hint)>,
+    rows: Vec<Row>,
+}
+
+impl<'s, 'a> Model for Alone<'s, 'a> {
+    ghost use Rattle.std.specs.Prelude.{◌≡◌};
+    ghost use Rattle.kq_replay.specs.Alone.{LoneKqueue};
+
+    ghost Value = { LoneKqueue };
+
+    ghost view = { λ a. record {
+      trace = a.split.now;
+      owner = a.kq.owner;
+      place = a.place;
+      told = a.told.items;
+      kq = a.kq.kq;
+      rows = a.rows.items;
+    } };
+
+    ghost invariant = { λ a. a.kq.version ≡ a.split.now.version };
+}
+
+impl<'s, 'a> Alone<'s, 'a> {
+    /// A kqueue of this process, before the first record.
+    pub fn new(split: &'s Split<'a>, owner: u32) -> Self
+        ensures { result ≡ unborn split.now owner }
+    {
+        let alloc = split.allocator();
+        let version = split.version();
+        prove!(version == 1);
+        Alone {
+            split,
+            place: 0,
+            kq: Kq::new(alloc, owner),
+            told: Vec::new(alloc),
+            rows: Vec::new(alloc),
+        }
+    }
+
+    /// The kqueue after these items more.
+    pub fn go_over(&mut self, items: &[Item]) -> Result<(), Memory>
+        requires { All (IsRecorded self.old.trace) items.now }
+        ensures { OnOk result (self.new ≡ after_items items.now self.old) }
+    {
+        for item in items {
+            self.go_on(*item)?;
+        }
+        Ok(())
+    }
+
+    /// Its rows so far.
+    pub fn into_rows(self) -> Series<Row>
+        ensures { result ≡ self.entry.rows }
+    {
+        let Alone { rows, .. } = self;
+        Series::from_vec(rows)
+    }
+
+    /// The kqueue after one item more.
+    #[tactic(auto, unfolding(crate::specs::Alone::after_item, crate::specs::Alone::gone_on))]
+    fn go_on(&mut self, item: Item) -> Result<(), Memory>
+        requires { IsRecorded self.old.trace item }
+        ensures { OnOk result (self.new ≡ after_item item self.old) }
+    {
+        self.arrive(item.place);
+        match item.what {
+            What::Closed { pid, number } => {
+                self.close(pid, number);
+                Ok(())
+            }
+            What::Told { target, hint } => self.tell(target, hint),
+            What::Clocked { from, to } => {
+                self.clock(from, to);
+                Ok(())
+            }
+            What::Called { .. } => self.call(),
+        }
+    }
+
+    /// An item of this place comes next.
+    #[tactic(auto, unfolding(crate::specs::Alone::arrived))]
+    fn arrive(&mut self, place: u64)
+        ensures { self.new ≡ arrived place self.old }
+    {
+        if place != self.place {
+            self.hear();
+            self.place = place;
+        }
+    }
+
+    /// The hints so far are heard, in the world after their record.
+    fn hear(&mut self)
+        ensures { self.new ≡ heard self.old }
+    {
+        if self.told.is_empty() {
+            return;
+        }
+        let views = self.split.at(self.place);
+        self.kq.notify(self.told.as_slice(), &views);
+        self.told.clear();
+    }
+
+    /// A number of a process was closed.
+    #[tactic(auto, unfolding(crate::specs::Alone::gone_on))]
+    fn close(&mut self, pid: u32, number: u32)
+        ensures { self.new ≡ gone_on (what_of.Closed pid number) self.old }
+    {
+        if pid == self.kq.owner() {
+            self.kq.closed(number);
+        }
+    }
+
+    /// There is a hint for a target.
+    #[tactic(auto, unfolding(crate::specs::Alone::gone_on))]
+    fn tell(&mut self, target: Target, hint: Hint) -> Result<(), Memory>
+        ensures { OnOk result (self.new ≡ gone_on (what_of.Told target hint) self.old) }
+    {
+        self.told.push((target, hint)).map_err(|_| Memory)
+    }
+
+    /// The clock goes on from a moment to another, in ns.
+    #[tactic(auto, unfolding(crate::specs::Alone::gone_on))]
+    fn clock(&mut self, from: u64, to: u64)
+        requires { IsClockOf (event_at self.old.trace self.old.place) from to }
+        ensures { self.new ≡ gone_on (what_of.Clocked from to) self.old }
+    {
+        self.hear();
+        // The type of a record keeps its moment in range, and that of an item does not.
+        let moment = if to <= LAST_MOMENT { to } else { self.moment() };
+        self.kq.clock(from, moment);
+    }
+
+    /// The moment to which the record of this place has the clock go on.
+    fn moment(&self) -> u64
+        requires { (from : ℕ) × (to : ℕ) × IsClockOf (event_at self.now.trace self.now.place) from to }
+        ensures moment { event_at self.now.trace self.now.place ≡ Some (event_of.Clock (pos result)) }
+        ensures within { result ≤ last_moment }
+    {
+        let Some(event) = self.split.event(self.place) else {
+            unreachable!();
+        };
+        let Event::Clock { ns } = event else {
+            unreachable!();
+        };
+        *ns as u64
+    }
+
+    /// The call that the record is, and its row.
+    #[tactic(auto, unfolding(crate::specs::Alone::called))]
+    fn call(&mut self) -> Result<(), Memory>
+        requires { (changes : List Change) × (room : ℕ)
+            × IsCallOf (event_at self.old.trace self.old.place) changes room }
+        ensures { OnOk result (self.new ≡ called (event_at self.old.trace self.old.place) (heard self.old)) }
+    {
+        self.hear();
+        let Some(event) = self.split.event(self.place) else {
+            unreachable!();
+        };
+        let Event::Kevent { changes, room, .. } = event else {
+            unreachable!();
+        };
+        let views = self.split.at(self.place);
+        let reply = self.kq.call(changes.as_slice(), *room, &views)?;
+        put_row(&mut self.rows, self.place, reply)
+    }
+}
+
+/// The rows that a kqueue of this process gives alone, from these items.
+pub fn rows_alone(split: &Split, owner: u32, items: &[Item]) -> Result<Series<Row>, Memory>
+    requires { All (IsRecorded split.now) items.now }
+    ensures { IfOk result (λ rows. rows ≡ (after_items items.now (unborn split.now owner)).rows) }
+{
+    let mut alone = Alone::new(split, owner);
+    alone.go_over(items)?;
+    Ok(alone.into_rows())
+}
+
+/// Adds the row of the reply to the record at a place, if it has one.
+fn put_row(rows: &mut Vec<Row>, at: u64, reply: Reply) -> Result<(), Memory>
+    ensures { OnOk result (rows.new.items ≡ rows.old.items ++ row_of at reply) }
+{
+    match reply {
+        Reply::Done => Ok(()),
+        reply => rows.push(Row { at, reply }).map_err(|_| Memory),
+    }
+}

@@ -1,0 +1,31 @@
+use crate::replay::Replay;
+use kq_history::Split;
+use kq_jobs::Jobs;
+use kq_model::{Memory, Rows};
+
+/// The kqueues of a trace as jobs: the one with a number is to be replayed, in the order of birth.
+#[derive(Clone, Copy)]
+pub struct Kqueues<'s, 'a> {
+    pub split: &'s Split<'a>,
+}
+
+impl<'s, 'a> Jobs for Kqueues<'s, 'a> {
+    ghost use Rattle.std.specs.Prelude.{length, slice_index};
+    ghost use Rattle.kq_history.specs.Traced.{places_of};
+    ghost use Rattle.kq_replay.specs.Replayed.{IsReplayed};
+
+    type Outcome = Rows;
+
+    ghost count = { λ jobs. length (places_of jobs.split.now) };
+
+    ghost gives = { λ jobs n rows. IsReplayed jobs.split.now (slice_index (places_of jobs.split.now) n) rows };
+
+    fn len(&self) -> u32 {
+        self.split.kqueue_count()
+    }
+
+    fn run(&self, number: u32) -> Result<Rows, Memory> {
+        let kqueue = self.split.kqueues()[number as usize];
+        self.split.answering(kqueue)?.replay()
+    }
+}

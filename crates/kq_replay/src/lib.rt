@@ -1,0 +1,17 @@
+//! Each kqueue of a trace replayed alone, from its private list and what was seen of the world at its places, by as
+//! many workers as are wanted.
+#![tactic(auto)]
+
+mod alone;
+mod answering;
+mod kqueues;
+mod replay;
+mod running;
+
+pub use kq_jobs::{Always, Gate, Open, RunFault, Starts};
+pub use kq_model::Rows;
+pub use replay::Replay;
+pub use running::{replay_all, replay_all_with};
+
+#[cfg(test)]
+mod tests;

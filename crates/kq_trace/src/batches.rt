@@ -1,0 +1,113 @@
+//! Lines decoded in batches, each on one of several threads, and put together in their order.
+
+ghost use Rattle.std.specs.Prelude.{◌≤◌, IfErr, IfOk, length};
+ghost use Rattle.kq_model.specs.Limits.{most_records};
+ghost use Rattle.kq_trace.specs.Batches.{AreReadAs, AreRecords, IsFaultAmong, IsReadAs};
+ghost use Rattle.kq_trace.specs.Rest.{texts};
+
+use crate::TraceError;
+use crate::decoding::{Readers, event_on};
+use kq_line::LineReader;
+use kq_model::{Event, LineFault, Memory};
+use rayon::prelude::*;
+use std::alloc::{AllocError, Global};
+use std::collections::VecDeque;
+use std::thread::Threads;
+
+/// How many lines are decoded together.
+const BATCH_LINES: usize = 1024;
+
+/// What the lines of a batch are.
+#[derive(Drop)]
+pub enum Batch {
+    /// A record on each line.
+    Records(Vec<Event>),
+    /// The first bad line, counted from 0 in the batch, and its fault.
+    Bad { place: u64, fault: LineFault },
+    /// Memory was refused, which says nothing of the lines.
+    Memory,
+}
+
+/// Decodes the lines of a batch up to the first bad one.
+fn batch_of(alloc: Global, lines: &[&[u8]]) -> Batch
+    ensures { IsReadAs (texts lines.now) result }
+{
+    let mut reader = LineReader::new(alloc);
+    let Ok(mut events) = Vec::with_capacity(alloc, lines.len()) else {
+        return Batch::Memory;
+    };
+    for line in lines {
+        match event_on(alloc, line, Readers::TypedFirst, &mut reader) {
+            Ok(Ok(event)) => {
+                let Ok(()) = events.push(event) else {
+                    return Batch::Memory;
+                };
+            }
+            Ok(Err(fault)) => {
+                return Batch::Bad {
+                    place: events.len() as u64,
+                    fault,
+                };
+            }
+            Err(Memory) => return Batch::Memory,
+        }
+    }
+    Batch::Records(events)
+}
+
+/// Decodes the lines in batches, on several threads where there are several processors. Batches whose thread does
+/// not start are decoded on the thread that would have started it.
+fn batches_of<R: Threads + Sync>(
+    rt: &R,
+    alloc: Global,
+    lines: &[&[u8]],
+) -> Result<Vec<Batch>, AllocError>
+    ensures { IfOk result (λ batches. AreReadAs (texts lines.now) batches.items) }
+{
+    lines
+        .par_chunks(BATCH_LINES)
+        .map(
+            |part: &[&[u8]]| -> Batch
+                ensures { IsReadAs (texts part.now) result }
+            { batch_of(alloc, part) },
+        )
+        .collect(rt, alloc)
+}
+
+/// The records of all batches in their order, or the first bad line, numbered as it stands behind a header.
+fn joined(alloc: Global, lines: &[&[u8]], batches: Vec<Batch>) -> Result<Vec<Event>, TraceError>
+    requires few { length lines.now ≤ most_records }
+    requires read { AreReadAs (texts lines.now) batches.items }
+    ensures good { IfOk result (λ events. AreRecords (texts lines.now) events.items) }
+    ensures bad { IfErr result (IsFaultAmong (texts lines.now)) }
+{
+    let mut events = Vec::with_capacity(alloc, lines.len()).map_err(|_| Memory)?;
+    let mut ahead = VecDeque::from(batches);
+    'batches: while let Some(batch) = ahead.pop_front() {
+        match batch {
+            Batch::Records(mut more) => events.append(&mut more).map_err(|_| Memory)?,
+            Batch::Bad { place, fault } => {
+                return Err(TraceError::Bad {
+                    line: 2 + events.len() as u64 + place,
+                    fault,
+                });
+            }
+            Batch::Memory => return Err(TraceError::Memory),
+        }
+    }
+    Ok(events)
+}
+
+/// The records on the lines that follow a header, decoded in parallel, or the first bad one of these lines.
+pub fn events_on<R: Threads + Sync>(
+    rt: &R,
+    alloc: Global,
+    lines: &[&[u8]],
+) -> Result<Vec<Event>, TraceError>
+    requires { length lines.now ≤ most_records }
+    ensures good { IfOk result (λ events. AreRecords (texts lines.now) events.items) }
+    ensures bad { IfErr result (IsFaultAmong (texts lines.now)) }
+{
+    let batches = batches_of(rt, alloc, lines).map_err(|_| Memory)?;
+    joined(alloc, lines, batches)
+}

@@ -1,0 +1,84 @@
+-- The report of a trace whose kqueues were replayed alone, and its faults.
+use Rattle.std.proofs.Common.{◌≡◌, ◌∙◌, ℕ, ◌≤◌, ◌<◌, ◌⊎◌, List, length, Result, Ok, Err, IfErr, IfOk, IsErrOf, MatchResult, sym, ap, subst, arith, ⊎_elim}
+use Rattle.std.proofs.lemmas.List.{length-map}
+use Rattle.std.proofs.lemmas.List.Elements.{All-weaker}
+use Rattle.std.proofs.lemmas.Result.{IfErr-at_err, IfErr-weaker}
+use Rattle.std.specs.List.{All}
+use Rattle.kq_model.specs.declared.event.Event.{Event}
+use Rattle.kq_model.specs.declared.row.Row.{Row}
+use Rattle.kq_model.specs.declared.rows.Rows.{Rows}
+use Rattle.kq_model.specs.Births.{Birth}
+use Rattle.kq_model.specs.Hearing.{tallying}
+use Rattle.kq_model.specs.Objects.{counted}
+use Rattle.kq_model.specs.OwnedRows.{Rise}
+use Rattle.kq_model.specs.Reading.{Good, reading}
+use Rattle.kq_model.specs.Report.{report, report_of}
+use Rattle.kq_model.specs.System.{rows}
+use Rattle.kq_model.proofs.Projection.{merged, rising}
+use Rattle.kq_model.proofs.RecastSystem.{rows-tallied}
+use Rattle.kq_history.specs.Traced.{Traced, births_of, places_of, plain_rows_of}
+use Rattle.kq_merge.specs.ByPlace.{IsOnlyOrder, NeverFall, rows_in}
+use Rattle.kq_merge.proofs.Places.{never_fall}
+use Rattle.kq_replay.specs.Replayed.{AreReplayed}
+use Rattle.kqsim.specs.Replay.{IsFault, IsReplayFault}
+use Rattle.kqsim.specs.Workers.{IsWorkerCount}
+use Rattle.kqsim.specs.declared.fault.Fault.{Fault}
+use Rattle.kqsim.specs.declared.fault.Fault.TheVariants.{Usage, Read, Trace, Memory, Spawn, Write}
+
+-- what a call gave, where only its error was turned into another
+pub given : {A D E : Type 0} (P : A → Type 0) (r : Result A E) (q : Result A D) (x : A) → MatchResult r (λ y. q ≡ Ok y) (λ _. ⊥)
+    → q ≡ Ok x → IfOk r P → P x
+given P (Ok y) q x same at is =
+    let one : y ≡ x = cc in
+    subst P one is
+given P (Err e) q x same at is = absurd same
+
+-- ---- the rows, as a merge wants them and as it gives them
+
+pub kqueues_never_fall : (t : Traced) (kqueues : List Rows) → AreReplayed t kqueues → All (λ (one : Rows). NeverFall one.rows) kqueues
+kqueues_never_fall t kqueues are =
+    All-weaker (λ (one : Rows). Rise one.rows) (λ (one : Rows). NeverFall one.rows) (λ one rises. never_fall one.rows rises) kqueues are.rise
+
+pub plain_never_falls : (t : Traced) → NeverFall (plain_rows_of t)
+plain_never_falls t = never_fall (plain_rows_of t) (rising tallying counted t.version t.events).1
+
+rows-rise : (version : ℕ) (events : List Event) → Rise (rows version events)
+rows-rise version events = subst Rise (sym (rows-tallied version events)) (merged tallying counted version events).1
+
+pub report_again : (t : Traced) (kqueues : List Rows) (found : List Row) (records : ℕ) (text : List ℕ) → AreReplayed t kqueues
+    → IsOnlyOrder (rows_in kqueues (plain_rows_of t)) found → records ≡ length t.events → text ≡ report found records
+    → text ≡ report_of t.version t.events
+unfolding report_of
+report_again t kqueues found records text are only counts is =
+    is ∙ ap (λ rs. report rs records) (only (rows t.version t.events) are.whole (rows-rise t.version t.events))
+    ∙ ap (report (rows t.version t.events)) counts
+
+-- ---- the faults
+
+-- a start that was refused
+pub spawned : (t : Traced) (workers : ℕ) → 2 ≤ workers → 2 ≤ length (places_of t) → IsReplayFault t.version t.events workers Spawn
+spawned t workers many more = (many, subst (λ n. 2 ≤ n) (length-map (births_of t) (λ (b : Birth). b.place)) more)
+
+-- a number of workers that is out of range
+pub in_range : (workers : ℕ) → IsWorkerCount workers → (workers ≡ 0) ⊎ (256 < workers) → ⊥
+in_range workers is out =
+    ⊎_elim (λ none. absurd (omega (arith, is.0, none))) (λ many. absurd (omega (arith, is.1, many))) out
+
+fault_of_replay : (bytes : List ℕ) (workers version : ℕ) (events : List Event) → reading bytes ≡ Good version events
+    → (fault : Fault) → IsReplayFault version events workers fault → IsFault bytes workers fault
+fault_of_replay bytes workers version events good Usage h = absurd h
+fault_of_replay bytes workers version events good Read h = h
+fault_of_replay bytes workers version events good (Trace line fault) h = absurd h
+fault_of_replay bytes workers version events good Memory h = tt
+fault_of_replay bytes workers version events good Spawn h = (h.0, (version, events, good, h.1))
+fault_of_replay bytes workers version events good Write h = h
+
+-- what was read has no fault of the command line
+pub no_usage : {B : Type 0} (version workers : ℕ) (events : List Event) (r : Result B Fault)
+    → IfErr r (IsReplayFault version events workers) → IsErrOf r Usage → ⊥
+no_usage version workers events r is usage = IfErr-at_err (IsReplayFault version events workers) usage is
+
+pub replay_fault : {B : Type 0} (bytes : List ℕ) (workers version : ℕ) (events : List Event) (r : Result B Fault)
+    → reading bytes ≡ Good version events → IfErr r (IsReplayFault version events workers) → IfErr r (IsFault bytes workers)
+replay_fault bytes workers version events r good =
+    IfErr-weaker r (IsReplayFault version events workers) (IsFault bytes workers) (fault_of_replay bytes workers version events good)
