@@ -10,7 +10,7 @@ use Rattle.kq_trace.proofs.BatchLines.{few_texts}
 use Rattle.kq_trace.proofs.LeastFault.{least_fault}
 use Rattle.kq_trace.proofs.PutTogether.{counted}
 use Rattle.kq_trace.proofs.WholeTrace.{all_good, bad_among, error_passed, one_too_many}
-use Rattle.kq_trace.proofs.read.read_trace.Goals as goal
+use Rattle.kq_trace.proofs.read.read_trace_with.Goals as goal
 
 pub returns-in_err-version-clause-least : goal.returns-in_err-version-clause-least
 returns-in_err-version-clause-least g c =
