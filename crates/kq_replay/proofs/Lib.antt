@@ -4,6 +4,7 @@ pub mod OneConcern
 pub mod ItemByItem
 pub mod Records
 pub mod OwnConcerns
+pub mod ListedFold
 pub mod OwnRows
 pub mod Recorded
 pub mod Private

@@ -4,8 +4,8 @@ use Rattle.std.proofs.Common.{◌≡◌, ℕ, List, Some, refl, sym, ap, subst, 
 use Rattle.std.specs.List.{All}
 use Rattle.kq_model.specs.declared.row.Row.{Row}
 use Rattle.kq_model.specs.declared.rows.Rows.{Rows}
-use Rattle.kq_model.specs.Hearing.{tallying}
-use Rattle.kq_model.specs.Objects.{counted}
+use Rattle.kq_model.specs.Hearing.{listed}
+use Rattle.kq_model.specs.Objects as objects
 use Rattle.kq_model.specs.OwnedRows.{Rise}
 use Rattle.kq_model.specs.Projection.{folded, plans}
 use Rattle.kq_model.specs.System.{empty_system}
@@ -25,8 +25,8 @@ use Rattle.kq_replay.proofs.Recorded.{items-recorded}
 -- the rows of any one kqueue in the fold stand by rising place
 pub fold-part-rises : (t : Traced) (kqueue : ℕ) → Rise (rows_in_fold t kqueue).rows
 fold-part-rises t kqueue =
-    part-rises (Some kqueue) (folded counted t.version tallying t.events)
-    (fold-rises 1 (empty_system {h = tallying} {k = counted} t.version) (plans counted t.version t.events)).1
+    part-rises (Some kqueue) (folded objects.listed t.version listed t.events)
+    (fold-rises 1 (empty_system {h = listed} {k = objects.listed} t.version) (plans objects.listed t.version t.events)).1
 
 module _ (t : Traced) (kqueue owner : ℕ) (items : List Item) (own : IsPrivate t kqueue owner items) where
   pub private-recorded : All (IsRecorded t) items
