@@ -3,11 +3,10 @@ use Rattle.std.proofs.Common.{◌≡◌, ◌+◌, ◌-◌, ◌<◌, ◌≤◌, �
 use Rattle.std.specs.Cmp.{IsEquivalence}
 use Rattle.std.specs.HashMap.{HashMap}
 use Rattle.std.specs.List.{AllWithin, IsDistinct, flat_map, list_any, sum_by}
-use Rattle.std.specs.List.Sorted.{IsNonDecreasing, IsPermutation}
+use Rattle.std.specs.List.Sorted.{IsNonDecreasing}
 use Rattle.std.proofs.lemmas.Bool.{and_from, and_left, and_right, both_ways, eqb-true, false≢true, le-leb, lt-leb, ltb-false, ltb-true, or_parts}
 use Rattle.std.proofs.lemmas.List.{get_or-drop, length-drop}
 use Rattle.std.proofs.lemmas.List.Elements.{filter-append}
-use Rattle.std.proofs.lemmas.List.Sorted.{sum_by-IsPermutation}
 use Rattle.std.proofs.lemmas.List.Sums.{sum_by-cons}
 use Rattle.std.proofs.lemmas.Map.Steps.{list_any_congr}
 use Rattle.kq_model.proofs.KnoteLaws.{by_test}
@@ -17,8 +16,8 @@ use Rattle.kq_history.specs.BetweenCalls.{between, from_first, to_last}
 use Rattle.kq_history.specs.Items.{has_source, is_from, source_eq, source_of}
 use Rattle.kq_history.specs.Log.{all_standing, comes_from, is_within, item_at, standing, within_of, AreShelved}
 use Rattle.kq_history.specs.Shelves.{shelf_at, shelved}
-use Rattle.kq_history.proofs.Picked.{sources_merged, standing-from, standing-rises}
-use Rattle.kq_history.proofs.Rising.{AreFrom, DoNotFall, one_order}
+use Rattle.kq_history.proofs.Picked.{standing-from, standing-rises}
+use Rattle.kq_history.proofs.Rising.{AreFrom, DoNotFall}
 
 -- ---- the last of some numbers
 

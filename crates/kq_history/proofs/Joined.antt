@@ -1,8 +1,7 @@
 -- Runs of steps of the clock, joined.
-use Rattle.std.proofs.Common.{◌≡◌, ◌∙◌, ℕ, Bool, true, false, List, [], ◌∷◌, ◌++◌, map, length, get_or, refl, sym, ap, ap₂, subst, arith}
+use Rattle.std.proofs.Common.{◌≡◌, ◌∙◌, ℕ, true, false, List, [], ◌∷◌, ◌++◌, refl, sym, ap}
 use Rattle.std.proofs.lemmas.Bool.{false≢true}
 use Rattle.std.proofs.lemmas.List.{append_assoc}
-use Rattle.std.specs.List.{AllByRecursion}
 use Rattle.kq_history.specs.declared.item.Item.{Item}
 use Rattle.kq_history.specs.declared.item.What.{What}
 use Rattle.kq_history.specs.declared.item.What.TheVariants as what

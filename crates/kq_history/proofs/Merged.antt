@@ -1,9 +1,8 @@
 -- Rising numbers of which some pass a test: those that pass, put between the others, give all of them.
-use Rattle.std.proofs.Common.{◌≡◌, ◌∙◌, ◌<◌, ◌≤◌, ◌+◌, ℕ, suc, Bool, true, false, not, cond, ltb, List, [], ◌∷◌, ◌++◌, filter, length, get_or, take, drop, refl, sym, ap, subst, arith}
-use Rattle.std.specs.List.{AllWithin}
+use Rattle.std.proofs.Common.{◌≡◌, ◌∙◌, ◌<◌, ◌≤◌, ◌+◌, ℕ, suc, Bool, true, false, not, cond, ltb, List, [], ◌∷◌, ◌++◌, filter, refl, sym, ap, arith}
 use Rattle.std.proofs.lemmas.Bool.{false≢true, ltb-false, ltb-true}
 use Rattle.kq_model.proofs.KnoteLaws.{by_test}
-use Rattle.kq_history.proofs.Rising.{AreFrom, DoNotFall, from_less}
+use Rattle.kq_history.proofs.Rising.{AreFrom, DoNotFall}
 
 -- the steps below each of the others come before it
 abbrev pub merged : List ℕ → List ℕ → List ℕ

@@ -1,14 +1,11 @@
 -- The loop that weaves: what is picked so far, with what is left.
-use Rattle.std.proofs.Common.{◌≡◌, ◌∙◌, ◌+◌, ◌-◌, ◌<◌, ◌≤◌, All, ℕ, zero, suc, Bool, true, false, not, cond, ltb, List, [], ◌∷◌, ◌++◌, map, filter, length, get_or, take, drop, refl, sym, ap, ap₂, subst, arith}
-use Rattle.std.specs.List.{AllWithin}
+use Rattle.std.proofs.Common.{◌≡◌, ◌∙◌, ◌+◌, ◌-◌, ◌<◌, ◌≤◌, All, ℕ, suc, Bool, true, false, not, cond, ltb, List, [], ◌∷◌, ◌++◌, map, filter, length, get_or, take, drop, refl, sym, ap, ap₂, arith}
 use Rattle.std.specs.List.Sorted.{IsPartitionPoint}
-use Rattle.std.proofs.lemmas.Bool.{false≢true}
-use Rattle.std.proofs.lemmas.List.{append_assoc, append-nil, drop_all, drop_more, get_or-drop, length-drop, map-append}
+use Rattle.std.proofs.lemmas.List.{append_assoc, drop_all, drop_more, get_or-drop, length-drop, map-append}
 use Rattle.std.proofs.lemmas.List.Elements.{All-get_or, All-head, All-tail}
 use Rattle.kq_history.specs.declared.item.Item.{Item}
-use Rattle.kq_history.specs.declared.item.What.{What}
 use Rattle.kq_history.specs.declared.item.What.TheVariants as what
-use Rattle.kq_history.specs.Log.{is_clocked, is_step, item_at, AreSteps}
+use Rattle.kq_history.specs.Log.{is_step, item_at, AreSteps}
 use Rattle.kq_history.specs.Steps.{joined}
 use Rattle.kq_history.proofs.Between.{dropped, taken}
 use Rattle.kq_history.proofs.Joined.{joined-parted, joined-run, last_of, AllClocked}

@@ -1,12 +1,11 @@
-use Rattle.std.proofs.Common.{◌≡◌, ◌<◌, ◌∙◌, ◌-◌, All, List, [], ℕ, false, filter, length, get_or, map, not, refl, sym, ap, subst, rules}
+use Rattle.std.proofs.Common.{◌≡◌, ◌<◌, ◌∙◌, ◌-◌, All, List, [], ℕ, false, length, get_or, refl, sym, ap, subst, rules}
 use Rattle.std.specs.List.Sorted.{IsNonDecreasing, IsPermutation, IsSortedByKey}
 use Rattle.std.specs.Ordering.{nat_cmp}
 use Rattle.std.proofs.lemmas.List.Sorted.{IsNonDecreasingBy-from_sort}
 use Rattle.std.proofs.lemmas.Result.{IfOk-weaker}
 use Rattle.kq_history.specs.contracts.item.SourceEq.TheImpl.Laws.{laws-law}
 use Rattle.kq_history.specs.declared.item.Item.{Item}
-use Rattle.kq_history.specs.Items.{is_from}
-use Rattle.kq_history.specs.Log.{comes_from, is_step, is_within, item_at, standing, AreSteps, AreWoven}
+use Rattle.kq_history.specs.Log.{comes_from, is_step, standing, AreSteps, AreWoven}
 use Rattle.kq_history.specs.Steps.{joined}
 use Rattle.kq_history.proofs.Between.{empty-is, read-between, read-none, some-is}
 use Rattle.kq_history.proofs.Parted.{are-steps, in-order, numbers, others-fail, others-inside, sorted-others, steps-are, steps-rise}
