@@ -12,3 +12,6 @@ pub mod Rejoined
 pub mod Collected
 pub mod Kept
 pub mod BetweenCalls
+pub mod OneStep
+pub mod Onward
+pub mod Joined

@@ -1,3 +1,4 @@
 pub mod Alone
 pub mod Recorded
 pub mod Replayed
+pub mod Steps
