@@ -8,7 +8,7 @@ use Rattle.kq_history.specs.declared.item.What.TheVariants as what
 use Rattle.kq_history.specs.Traced.{Traced, event_at}
 use Rattle.kq_replay.specs.Alone.{LoneKqueue, after_item, after_items, unborn}
 use Rattle.kq_replay.specs.Recorded.{IsRecorded, IsSaidBy}
-use Rattle.kq_replay.specs.Steps.{joined, joined_to, joined_two}
+use Rattle.kq_history.specs.Steps.{joined, joined_to, joined_two}
 use Rattle.kq_replay.proofs.OneStep.{one-step, step_at}
 use Rattle.kq_replay.proofs.Onward.{GoesOn, Onward, now_after}
 

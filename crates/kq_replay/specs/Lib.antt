@@ -1,4 +1,3 @@
 pub mod Alone
 pub mod Recorded
 pub mod Replayed
-pub mod Steps
