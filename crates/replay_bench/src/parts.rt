@@ -5,7 +5,7 @@ use anyhow::Context;
 use kq_history::Split;
 use kq_merge::{merge, report_text};
 use kq_replay::{Open, replay_all};
-use kq_trace::read_trace;
+use kq_trace::read_trace_with;
 use std::alloc::AllocError;
 use std::io::Write;
 use std::sync::Wait;
@@ -21,7 +21,7 @@ pub fn parts<R: AllocGlobal + Clock + CpuClock + Threads + Wait + Sync, O: Write
     times: &mut W,
 ) -> anyhow::Result<()> {
     let mut watch = Watch::start(rt)?;
-    let trace = read_trace(rt, bytes)?;
+    let trace = read_trace_with(rt, bytes, workers)?;
     watch.lap(rt, "read", times)?;
     let split = Split::of(rt.alloc(), &trace).map_err(|_| AllocError)?;
     watch.lap(rt, "split", times)?;
