@@ -19,6 +19,7 @@ use Rattle.kq_history.specs.Log.{comes_from}
 use Rattle.kq_history.specs.Private.{IsAnswering}
 use Rattle.kq_history.specs.Said.{IsSaid}
 use Rattle.kq_history.specs.Sources.{reference_sources}
+use Rattle.kq_history.specs.Steps.{joined}
 use Rattle.kq_history.specs.Traced.{Traced, births_of, moments_of}
 use Rattle.kq_history.proofs.PrivateOf.{eq_is, is-private, named-there, no_birth}
 
@@ -92,11 +93,11 @@ calls-named t said is place c at =
     ∙ ap (λ v. v || list_any (source_eq (source.Kqueue place)) others) (eq_is (source.Kqueue place) (source.Kqueue b.place) ∙ eq-eqb b.place place there.2)
 
 pub is-answering : (t : Traced) (said : Said) → IsSaid t said → (place : ℕ) (c : Concerned) → IsAtPlace place said.kqueues c → (items : List Item)
-    → items ≡ between (comes_from (source.Kqueue place)) (filter (is_from c.sources.list.items) said.log.items.items) → IsAnswering t place c.owner items
+    → items ≡ joined (between (comes_from (source.Kqueue place)) (filter (is_from c.sources.list.items) said.log.items.items)) → IsAnswering t place c.owner items
 is-answering t said is place c at items picked =
     let whole = filter (is_from c.sources.list.items) said.log.items.items in
     let list = is-private t said is place c at whole refl in
     record {
       owned = list.owned;
-      items_are = picked ∙ ap (between (comes_from (source.Kqueue place))) list.items_are ∙ between-own place c.owner (moments_of t);
+      items_are = picked ∙ ap joined (ap (between (comes_from (source.Kqueue place))) list.items_are ∙ between-own place c.owner (moments_of t));
     }

@@ -2,12 +2,11 @@
 use Rattle.std.proofs.Common.{◌≡◌, ◌+◌, ◌-◌, ◌<◌, ◌≤◌, ◌==◌, ◌&&◌, ◌||◌, ℕ, zero, suc, Bool, true, false, cond, leb, ltb, List, [], ◌∷◌, ◌++◌, map, filter, length, get_or, take, drop, refl, sym, ap, ap₂, subst, ◌∙◌, arith}
 use Rattle.std.specs.Cmp.{IsEquivalence}
 use Rattle.std.specs.HashMap.{HashMap}
-use Rattle.std.specs.List.{AllWithin, IsDistinct, list_any, sum_by}
-use Rattle.std.specs.List.Sorted.{IsNonDecreasing, IsPermutation}
+use Rattle.std.specs.List.{AllWithin, IsDistinct, flat_map, list_any, sum_by}
+use Rattle.std.specs.List.Sorted.{IsNonDecreasing}
 use Rattle.std.proofs.lemmas.Bool.{and_from, and_left, and_right, both_ways, eqb-true, false≢true, le-leb, lt-leb, ltb-false, ltb-true, or_parts}
 use Rattle.std.proofs.lemmas.List.{get_or-drop, length-drop}
 use Rattle.std.proofs.lemmas.List.Elements.{filter-append}
-use Rattle.std.proofs.lemmas.List.Sorted.{sum_by-IsPermutation}
 use Rattle.std.proofs.lemmas.List.Sums.{sum_by-cons}
 use Rattle.std.proofs.lemmas.Map.Steps.{list_any_congr}
 use Rattle.kq_model.proofs.KnoteLaws.{by_test}
@@ -15,10 +14,10 @@ use Rattle.kq_history.specs.declared.item.Item.{Item}
 use Rattle.kq_history.specs.declared.item.Source.{Source}
 use Rattle.kq_history.specs.BetweenCalls.{between, from_first, to_last}
 use Rattle.kq_history.specs.Items.{has_source, is_from, source_eq, source_of}
-use Rattle.kq_history.specs.Log.{all_standing, all_within, comes_from, is_within, item_at, standing, AreShelved}
+use Rattle.kq_history.specs.Log.{all_standing, comes_from, is_within, item_at, standing, within_of, AreShelved}
 use Rattle.kq_history.specs.Shelves.{shelf_at, shelved}
-use Rattle.kq_history.proofs.Picked.{sources_merged, standing-from, standing-rises}
-use Rattle.kq_history.proofs.Rising.{AreFrom, DoNotFall, one_order}
+use Rattle.kq_history.proofs.Picked.{standing-from, standing-rises}
+use Rattle.kq_history.proofs.Rising.{AreFrom, DoNotFall}
 
 -- ---- the last of some numbers
 
@@ -181,14 +180,17 @@ read-kept p first last all from (i ∷ items) reads =
 
 -- ---- one sort of the numbers of all sources
 
-all_within-is : (first last : ℕ) (items : List Item) (ss : List Source)
+abbrev pub all_within : ℕ → ℕ → List Item → List Source → List ℕ
+all_within first last items sources = flat_map (within_of first last items) sources
+
+pub all_within-is : (first last : ℕ) (items : List Item) (ss : List Source)
     → all_within first last items ss ≡ filter (is_within first last) (all_standing items ss)
 all_within-is first last items [] = refl
 all_within-is first last items (s ∷ ss) =
     ap (λ ns. filter (is_within first last) (standing (comes_from s) 0 items) ++ ns) (all_within-is first last items ss)
     ∙ sym (filter-append (is_within first last) (standing (comes_from s) 0 items) (all_standing items ss))
 
-sum-filter : (f : ℕ → ℕ) (test : ℕ → Bool) (ns : List ℕ) → sum_by f (filter test ns) ≡ sum_by (λ n. cond (test n) (f n) 0) ns
+pub sum-filter : (f : ℕ → ℕ) (test : ℕ → Bool) (ns : List ℕ) → sum_by f (filter test ns) ≡ sum_by (λ n. cond (test n) (f n) 0) ns
 sum-filter f test [] = refl
 sum-filter f test (n ∷ ns) =
     let rest = sum-filter f test ns in
@@ -203,27 +205,15 @@ filter-from test low (n ∷ ns) all =
     by_test (λ b. AreFrom low (cond b (n ∷ filter test ns) (filter test ns))) (test n)
     (λ _. (all.0, filter-from test low ns all.1)) (λ _. filter-from test low ns all.1)
 
-filter-rises : (test : ℕ → Bool) (ns : List ℕ) → DoNotFall ns → DoNotFall (filter test ns)
+pub filter-rises : (test : ℕ → Bool) (ns : List ℕ) → DoNotFall ns → DoNotFall (filter test ns)
 filter-rises test [] rises = tt
 filter-rises test (n ∷ ns) rises =
     by_test (λ b. DoNotFall (cond b (n ∷ filter test ns) (filter test ns))) (test n)
     (λ _. (filter-from test n ns rises.0, filter-rises test ns rises.1)) (λ _. filter-rises test ns rises.1)
 
 module _ (laws : IsEquivalence source_eq) (items : List Item) (sources : List Source) (distinct : IsDistinct source_eq sources) where
-  pub sorted-within : (first last : ℕ) (sorted : List ℕ) → IsPermutation (all_within first last items sources) sorted → DoNotFall sorted
-      → sorted ≡ filter (is_within first last) (standing (is_from sources) 0 items)
-  sorted-within first last sorted moved rises =
-      let test = is_within first last in
-      let stand = standing (is_from sources) 0 items in
-      one_order sorted (filter test stand) rises (filter-rises test stand (standing-rises (is_from sources) 0 items))
-      (λ (f : ℕ → ℕ). sum_by-IsPermutation f (all_within first last items sources) sorted moved
-      ∙ ap (sum_by f) (all_within-is first last items sources)
-      ∙ sum-filter f test (all_standing items sources)
-      ∙ sym (sum_by-IsPermutation (λ n. cond (test n) (f n) 0) (all_standing items sources) stand (sources_merged laws items sources distinct))
-      ∙ sym (sum-filter f test stand))
-
   module _ (s : Source) (there : has_source sources s ≡ true) where
-    of-all : (i : Item) → comes_from s i ≡ true → is_from sources i ≡ true
+    pub of-all : (i : Item) → comes_from s i ≡ true → is_from sources i ≡ true
     of-all i is = list_any_congr laws (source_of i.what) s sources is ∙ there
 
     -- its first number and its last one
@@ -248,7 +238,7 @@ from-low low [] k d all within = absurd (omega (arith, within))
 from-low low (n ∷ ns) zero d all within = all.0
 from-low low (n ∷ ns) (suc k) d all within = from-low low ns k d all.1 (omega (arith, within))
 
-rises-along : (ns : List ℕ) → DoNotFall ns → (i j d : ℕ) → i ≤ j → j < length ns → get_or ns i d ≤ get_or ns j d
+pub rises-along : (ns : List ℕ) → DoNotFall ns → (i j d : ℕ) → i ≤ j → j < length ns → get_or ns i d ≤ get_or ns j d
 rises-along [] rises i j d le within = absurd (omega (arith, within))
 rises-along (n ∷ ns) rises zero zero d le within = omega arith
 rises-along (n ∷ ns) rises zero (suc j) d le within = from-low n ns j d rises.0 (omega (arith, within))
@@ -269,14 +259,14 @@ pub some-is : (ns : List ℕ) → false ≡ (length ns == 0) → 0 < length ns
 some-is [] is = absurd (false≢true is)
 some-is (n ∷ ns) is = omega arith
 
-dropped : (test : ℕ → Bool) (n : ℕ) (ns : List ℕ) → ((k : ℕ) → k < n → k < length ns → test (get_or ns k 0) ≡ false) → filter test (drop n ns) ≡ filter test ns
+pub dropped : (test : ℕ → Bool) (n : ℕ) (ns : List ℕ) → ((k : ℕ) → k < n → k < length ns → test (get_or ns k 0) ≡ false) → filter test (drop n ns) ≡ filter test ns
 dropped test zero ns none = refl
 dropped test (suc n) [] none = refl
 dropped test (suc n) (x ∷ ns) none =
     dropped test n ns (λ k low within. none (suc k) (omega (arith, low)) (omega (arith, within)))
     ∙ ap (λ b. cond b (x ∷ filter test ns) (filter test ns)) (sym (none 0 (omega arith) (omega arith)))
 
-taken : (test : ℕ → Bool) (n : ℕ) (ns : List ℕ) → ((k : ℕ) → k < n → k < length ns → test (get_or ns k 0) ≡ true)
+pub taken : (test : ℕ → Bool) (n : ℕ) (ns : List ℕ) → ((k : ℕ) → k < n → k < length ns → test (get_or ns k 0) ≡ true)
     → ((k : ℕ) → n ≤ k → k < length ns → test (get_or ns k 0) ≡ false) → take n ns ≡ filter test ns
 taken test zero [] all none = refl
 taken test zero (x ∷ ns) all none =

@@ -2,6 +2,10 @@ mod TimelineLemmas
 mod Rising
 mod Picked
 mod Between
+mod Joined
+mod Merged
+mod Parted
+mod Weaving
 mod Known
 mod Places
 mod Sourced

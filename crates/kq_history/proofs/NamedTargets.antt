@@ -1,20 +1,20 @@
 -- The targets that numbers name before a record and after it are among those that were added one number after the other.
-use Rattle.std.proofs.Common.{◌≡◌, ◌∙◌, ◌==◌, ◌||◌, ◌++◌, ◌∷◌, ◌-◌, ◌<◌, [], ℕ, zero, suc, Bool, true, false, length, get_or, List, Option, Some, refl, sym, ap, ap₂, subst, arith}
-use Rattle.std.specs.List.{flat_map, slice_get}
+use Rattle.std.proofs.Common.{◌≡◌, ◌∙◌, ◌==◌, ◌||◌, ◌++◌, ◌∷◌, [], ℕ, Bool, true, false, List, Option, refl, sym, ap, ap₂, subst}
+use Rattle.std.specs.List.{flat_map, list_any}
 use Rattle.std.proofs.lemmas.Bool.{and_parts, eqb-true, false≢true}
 use Rattle.std.proofs.lemmas.List.{append-nil}
 use Rattle.std.proofs.lemmas.List.Folds.{list_any-append}
 use Rattle.std.proofs.lemmas.Grind.{flat_map-append}
-use Rattle.std.proofs.lemmas.Option.{get_or_from_slice_get, slice_get_within}
 use Rattle.kq_model.specs.declared.object.Named.{Named}
 use Rattle.kq_model.specs.declared.object.Target.{Target}
 use Rattle.kq_model.specs.Targets.{target_eq}
 use Rattle.kq_model.specs.Views.{Views}
 use Rattle.kq_model.proofs.KnoteLaws.{by_test}
-use Rattle.kq_model.proofs.SameTarget.{same_target, target_eq-refl}
+use Rattle.kq_model.proofs.SameTarget.{same_target}
 use Rattle.kq_history.specs.Noted.{IsNextWorld}
-use Rattle.kq_history.specs.Seen.{pair_eq}
+use Rattle.kq_history.specs.Seen.{pair_eq, target_key}
 use Rattle.kq_history.specs.Touched.{has_number, has_target, targets_named, AreAmong}
+use Rattle.kq_history.proofs.NotedKeys.{as_target}
 
 -- ---- tests of two parts
 
@@ -42,19 +42,18 @@ in-second xs ys t is = list_any-append (λ x. target_eq x t) xs ys ∙ or_right 
 
 -- ---- one target
 
-there_it_is : (ts : List Target) (k : ℕ) (t : Target) → k < length ts → has_target (get_or ts k t) ts ≡ true
-there_it_is [] k t within = absurd (omega (arith, within))
-there_it_is (x ∷ ts) zero t within = or_left (target_eq x x) (has_target x ts) (target_eq-refl x)
-there_it_is (x ∷ ts) (suc k) t within =
-    or_right (target_eq x (get_or ts k t)) (has_target (get_or ts k t) ts) (there_it_is ts k t (omega (arith, within)))
+found : (ts : List Target) (x : Target) → list_any (λ y. target_key y x) ts ≡ true → has_target x ts ≡ true
+found [] x is = absurd (false≢true is)
+found (y ∷ ts) x is =
+    or_cases (target_key y x) (list_any (λ z. target_key z x) ts) is
+    (λ here. or_left (target_eq y x) (has_target x ts) (sym (as_target y x) ∙ here))
+    (λ later. or_right (target_eq y x) (has_target x ts) (found ts x later))
 
--- that one came last
-pub last-there : (ts : List Target) (last x : Target) → slice_get ts (length ts - 1) ≡ Some last → last ≡ x → AreAmong (x ∷ ts) ts
-last-there ts last x got same = λ t is.
-    or_cases (target_eq x t) (has_target t ts) is
-    (λ here.
-    let it : get_or ts (length ts - 1) x ≡ t = get_or_from_slice_get ts (length ts - 1) last x got ∙ same ∙ same_target x t here in
-    subst (λ y. has_target y ts ≡ true) it (there_it_is ts (length ts - 1) x (slice_get_within ts (length ts - 1) last got)))
+-- that one was found
+pub found-there : (ts : List Target) (x : Target) → list_any (λ y. target_key y x) ts ≡ true → AreAmong (x ∷ ts) ts
+found-there ts x is = λ t either.
+    or_cases (target_eq x t) (has_target t ts) either
+    (λ here. subst (λ y. has_target y ts ≡ true) (same_target x t here) (found ts x is))
     (λ there. there)
 
 pub pushed-there : (old new : List Target) (x : Target) → new ≡ old ++ x ∷ [] → AreAmong (x ∷ old) new

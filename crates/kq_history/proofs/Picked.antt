@@ -54,7 +54,7 @@ module _ {X : Type 0} where
 
   -- ---- of two tests that no element passes both
 
-  standing-none : (from : ℕ) (xs : List X) → standing (λ x. false) from xs ≡ []
+  pub standing-none : (from : ℕ) (xs : List X) → standing (λ x. false) from xs ≡ []
   standing-none from [] = refl
   standing-none from (x ∷ xs) = standing-none (from + 1) xs
 

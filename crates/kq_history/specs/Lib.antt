@@ -2,6 +2,7 @@ pub mod Timeline
 pub mod Timelines
 pub mod Items
 pub mod Shelves
+pub mod Steps
 pub mod Log
 pub mod Sources
 pub mod Kqueues

@@ -5,6 +5,7 @@ use Rattle.kq_model.specs.Births.{Birth}
 use Rattle.kq_history.specs.declared.item.Item.{Item}
 use Rattle.kq_history.specs.BetweenCalls.{between_calls}
 use Rattle.kq_history.specs.Concerned.{private_items}
+use Rattle.kq_history.specs.Steps.{joined}
 use Rattle.kq_history.specs.Traced.{Traced, births_of, moments_of}
 
 -- this process made a kqueue at this place
@@ -16,7 +17,7 @@ pub record IsPrivate (t : Traced) (place owner : ℕ) (items : List Item) : Type
   pub owned : is_owned t place owner ≡ true
   pub items_are : items ≡ private_items place owner (moments_of t)
 
--- those of them from its first call to its last one
+-- those of them from its first call to its last one, where a run of steps of the clock is one step
 pub record IsAnswering (t : Traced) (place owner : ℕ) (items : List Item) : Type 0 where
   pub owned : is_owned t place owner ≡ true
-  pub items_are : items ≡ between_calls (private_items place owner (moments_of t))
+  pub items_are : items ≡ joined (between_calls (private_items place owner (moments_of t)))

@@ -5,7 +5,7 @@ use crate::item::Item;
 use crate::split::Split;
 
 /// What of a kqueue's private list can show in its rows: the items from its first call to its last
-/// one.
+/// one, where steps of the clock with no other item between them are one step.
 #[derive(Drop)]
 pub struct Answering<'s, 'a> {
     pub(crate) split: &'s Split<'a>,

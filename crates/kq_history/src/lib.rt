@@ -18,6 +18,7 @@ mod timeline;
 mod timelines;
 mod touched;
 mod tracking;
+mod weave;
 
 pub use answering::Answering;
 pub use at::HistoryAt;

@@ -1,12 +1,16 @@
-ghost use Rattle.std.specs.Prelude.{◌≡◌, ◌<◌, ◌++◌, ◌∷◌, [], true, All, filter, length, map, IfOk, OnOk};
+ghost use Rattle.std.specs.Prelude.{◌≡◌, ◌<◌, ◌++◌, ◌∷◌, [], true, All, if◌then◌else◌, filter, length, map, IfOk, OnOk};
 ghost use Rattle.std.specs.List.{IsDistinct};
 ghost use Rattle.std.specs.List.Sorted.{IsNonDecreasing};
 ghost use Rattle.kq_history.specs.BetweenCalls.{between};
 ghost use Rattle.kq_history.specs.Items.{has_source, is_from, source_eq};
-ghost use Rattle.kq_history.specs.Log.{all_standing, all_within, comes_from, is_within, item_at, AreShelved};
+ghost use Rattle.kq_history.specs.Log.{all_standing, comes_from, is_within, item_at, AreShelved};
+ghost use Rattle.kq_history.specs.Log.{others_within, steps_within, within_of};
+ghost use Rattle.kq_history.specs.Steps.{joined};
+ghost use Rattle.kq_history.specs.declared.item.Source.TheVariants.{Clock};
 
 use crate::item::{Item, Source};
 use crate::shelves::Shelves;
+use crate::weave::woven;
 use kq_model::Memory;
 use std::alloc::Global;
 
@@ -80,7 +84,20 @@ impl Log {
         self.items_at(numbers.as_slice())
     }
 
-    /// Where the items of these sources stand from one number to another, source by source.
+    /// Where the items of a source but the clock stand from one number to another.
+    fn others_of(&self, source: Source, first: usize, last: usize) -> &[usize]
+        requires { AreShelved self.now.items.items self.now.shelves.table }
+        ensures { result.now
+            ≡ (if source_eq source Clock then [] else within_of first last self.now.items.items source) }
+    {
+        if source == Source::Clock {
+            return &[];
+        }
+        within(self.shelves.at(source), first, last)
+    }
+
+    /// Where the items of these sources but the clock stand from one number to another, source by
+    /// source.
     fn numbers_within(
         &self,
         sources: &[Source],
@@ -88,26 +105,39 @@ impl Log {
         last: usize,
     ) -> Result<Vec<usize>, Memory>
         requires { AreShelved self.now.items.items self.now.shelves.table }
-        ensures { IfOk result (λ numbers. numbers.items ≡ all_within first last self.now.items.items sources.now) }
+        ensures { IfOk result (λ numbers. numbers.items ≡ others_within first last self.now.items.items sources.now) }
     {
         let mut numbers = Vec::new(self.alloc);
         for source in sources {
-            let standing = self.shelves.at(*source);
             numbers
-                .extend_from_slice(within(standing, first, last))
+                .extend_from_slice(self.others_of(*source, first, last))
                 .map_err(|_| Memory)?;
         }
         Ok(numbers)
     }
 
+    /// Where the steps of the clock stand from one number to another, if it is one of these sources.
+    fn steps_within(&self, sources: &[Source], first: usize, last: usize) -> &[usize]
+        requires { AreShelved self.now.items.items self.now.shelves.table }
+        ensures { result.now ≡ steps_within first last self.now.items.items sources.now }
+    {
+        if sources.contains(&Source::Clock) {
+            within(self.shelves.at(Source::Clock), first, last)
+        } else {
+            &[]
+        }
+    }
+
     /// The items that come from these sources, from the first one of this source among them to its
-    /// last one, in their order. It costs these items, and two searches for each source.
+    /// last one, in their order; steps of the clock with no other of them between them are one. It
+    /// costs those that are no steps of the clock, a search among the steps for each of them, and two
+    /// searches for each source.
     pub fn pick_between(&self, sources: &[Source], source: Source) -> Result<Vec<Item>, Memory>
         requires distinct { IsDistinct source_eq sources.now }
         requires there { has_source sources.now source ≡ true }
         requires shelved { AreShelved self.now.items.items self.now.shelves.table }
         ensures { IfOk result (λ picked. picked.items
-            ≡ between (comes_from source) (filter (is_from sources.now) self.now.items.items)) }
+            ≡ joined (between (comes_from source) (filter (is_from sources.now) self.now.items.items))) }
     {
         let standing = self.shelves.at(source);
         if standing.is_empty() {
@@ -117,7 +147,9 @@ impl Log {
         let last = standing[standing.len() - 1];
         let mut chosen = self.numbers_within(sources, first, last)?;
         chosen.sort().map_err(|_| Memory)?;
-        self.items_at(chosen.as_slice())
+        let steps = self.steps_within(sources, first, last);
+        let items = self.items.as_slice();
+        woven(self.alloc, items, chosen.as_slice(), steps)
     }
 }
 

@@ -95,8 +95,10 @@ impl<'a> Split<'a> {
         })
     }
 
-    /// What of that can show in its rows: the items from its first call to its last one. Its cost is
-    /// that of these items, and two searches for each source of what concerns the kqueue.
+    /// What of that can show in its rows: the items from its first call to its last one, where steps
+    /// of the clock with no other item between them are one. Its cost is that of the items that are no
+    /// steps of the clock, a search among the steps for each of these, and two searches for each
+    /// source of what concerns the kqueue.
     pub fn answering<'s>(&'s self, kqueue: u64) -> Result<Answering<'s, 'a>, Memory>
         requires { IsBorn kqueue self.now }
         ensures split { IfOk result (λ p. p.split.now ≡ self.now) }

@@ -2,3 +2,4 @@
 //! against lists that were written by hand.
 mod places;
 mod private;
+mod steps;

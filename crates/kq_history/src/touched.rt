@@ -12,6 +12,9 @@ use kq_model::{Event, Hint, Memory, Named, Target};
 use kq_process::{Effect, World};
 use std::alloc::Global;
 
+/// Where there are more targets, none is looked for among them.
+const MOST_LOOKED_THROUGH: usize = 8;
+
 /// What a record touched. One serves all records of a pass, so that none allocates for itself.
 #[derive(Drop)]
 pub struct Touched {
@@ -139,14 +142,12 @@ fn add_named(targets: &mut Vec<Target>, named: Option<Named>) -> Result<(), Memo
     }
 }
 
-/// Adds a target, unless it came last.
+/// Adds a target, unless it is there: noting one twice costs more than looking through a few.
 fn add(targets: &mut Vec<Target>, target: Target) -> Result<(), Memory>
     ensures { OnOk result (AreAmong (target ∷ targets.old.items) targets.new.items) }
 {
-    if let Some(last) = targets.last() {
-        if *last == target {
-            return Ok(());
-        }
+    if targets.len() <= MOST_LOOKED_THROUGH && targets.as_slice().contains(&target) {
+        return Ok(());
     }
     targets.push(target).map_err(|_| Memory)
 }

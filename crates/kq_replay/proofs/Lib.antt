@@ -4,6 +4,7 @@ pub mod OneConcern
 pub mod ItemByItem
 pub mod Records
 pub mod OwnConcerns
+pub mod ListedFold
 pub mod OwnRows
 pub mod Recorded
 pub mod Private
@@ -11,3 +12,6 @@ pub mod Rejoined
 pub mod Collected
 pub mod Kept
 pub mod BetweenCalls
+pub mod OneStep
+pub mod Onward
+pub mod Joined

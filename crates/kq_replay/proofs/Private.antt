@@ -1,16 +1,17 @@
--- A private list as the code has it, whole or from the first call to the last one: its items are recorded, and what
--- goes on over them gives the kqueue's rows.
+-- A private list as the code has it, whole or from the first call to the last one with its steps of the clock joined:
+-- its items are recorded, and what goes on over them gives the kqueue's rows.
 use Rattle.std.proofs.Common.{◌≡◌, ℕ, List, Some, refl, sym, ap, subst, ◌∙◌}
 use Rattle.std.specs.List.{All}
 use Rattle.kq_model.specs.declared.row.Row.{Row}
 use Rattle.kq_model.specs.declared.rows.Rows.{Rows}
-use Rattle.kq_model.specs.Hearing.{tallying}
-use Rattle.kq_model.specs.Objects.{counted}
+use Rattle.kq_model.specs.Hearing.{listed}
+use Rattle.kq_model.specs.Objects as objects
 use Rattle.kq_model.specs.OwnedRows.{Rise}
 use Rattle.kq_model.specs.Projection.{folded, plans}
 use Rattle.kq_model.specs.System.{empty_system}
 use Rattle.kq_model.proofs.FoldRows.{fold-rises, part-rises}
 use Rattle.kq_history.specs.declared.item.Item.{Item}
+use Rattle.kq_history.specs.BetweenCalls.{between_calls}
 use Rattle.kq_history.specs.Concerned.{private_items}
 use Rattle.kq_history.specs.Private.{IsAnswering, IsPrivate}
 use Rattle.kq_history.specs.Traced.{Traced, moments_of}
@@ -19,14 +20,16 @@ use Rattle.kq_replay.specs.Alone.{after_items, unborn}
 use Rattle.kq_replay.specs.Recorded.{IsRecorded}
 use Rattle.kq_replay.specs.Replayed.{IsReplayed, rows_in_fold}
 use Rattle.kq_replay.proofs.BetweenCalls.{each-between, shown-alike}
+use Rattle.kq_replay.proofs.Joined.{joined-recorded, joined-rows}
+use Rattle.kq_replay.proofs.Onward.{Onward, between-onward, private-onward}
 use Rattle.kq_replay.proofs.OwnRows.{own-rows}
 use Rattle.kq_replay.proofs.Recorded.{items-recorded}
 
 -- the rows of any one kqueue in the fold stand by rising place
 pub fold-part-rises : (t : Traced) (kqueue : ℕ) → Rise (rows_in_fold t kqueue).rows
 fold-part-rises t kqueue =
-    part-rises (Some kqueue) (folded counted t.version tallying t.events)
-    (fold-rises 1 (empty_system {h = tallying} {k = counted} t.version) (plans counted t.version t.events)).1
+    part-rises (Some kqueue) (folded objects.listed t.version listed t.events)
+    (fold-rises 1 (empty_system {h = listed} {k = objects.listed} t.version) (plans objects.listed t.version t.events)).1
 
 module _ (t : Traced) (kqueue owner : ℕ) (items : List Item) (own : IsPrivate t kqueue owner items) where
   pub private-recorded : All (IsRecorded t) items
@@ -49,17 +52,24 @@ module _ (t : Traced) (kqueue owner : ℕ) (items : List Item) (own : IsPrivate 
         rise = subst Rise (sym same) (fold-part-rises t kqueue);
       }
 
--- from its first call to its last one
+-- from its first call to its last one, with steps of the clock in a row as one
 module _ (t : Traced) (kqueue owner : ℕ) (items : List Item) (own : IsAnswering t kqueue owner items) where
   abbrev whole : List Item
   whole = private_items kqueue owner (moments_of t)
 
+  onward : (start : ℕ) × Onward start (between_calls whole)
+  onward = between-onward 0 whole (private-onward t kqueue owner)
+
   pub answering-recorded : All (IsRecorded t) items
   answering-recorded =
-      subst (All (IsRecorded t)) (sym own.items_are) (each-between (IsRecorded t) whole (items-recorded t kqueue owner))
+      subst (All (IsRecorded t)) (sym own.items_are)
+      (joined-recorded t onward.0 (between_calls whole) onward.1 (each-between (IsRecorded t) whole (items-recorded t kqueue owner)))
 
   pub answering-replayed : (rows : List Row) → rows ≡ (after_items items (unborn t owner)).rows
       → IsReplayed t kqueue (record { kqueue = kqueue; rows = rows })
   answering-replayed rows are =
       private-replayed t kqueue owner whole (record { owned = own.owned; items_are = refl }) rows
-      (are ∙ ap (λ is. (after_items is (unborn t owner)).rows) own.items_are ∙ shown-alike t owner whole)
+      (are
+      ∙ ap (λ is. (after_items is (unborn t owner)).rows) own.items_are
+      ∙ joined-rows t owner onward.0 (between_calls whole) onward.1
+      ∙ shown-alike t owner whole)

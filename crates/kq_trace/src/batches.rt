@@ -55,17 +55,26 @@ fn batch_of(alloc: Global, lines: &[&[u8]]) -> Batch
     Batch::Records(events)
 }
 
-/// Decodes the lines in batches, on several threads where there are several processors. Batches whose thread does
-/// not start are decoded on the thread that would have started it.
+/// How few batches of so many lines are worth a thread, where there may be so many threads. Lists are cut in halves,
+/// so what is cut as often as a thread can become two gives no more parts than threads.
+fn least_batches(lines: usize, threads: u32) -> usize {
+    let batches = lines / BATCH_LINES + 1;
+    batches >> threads.max(1).ilog2()
+}
+
+/// Decodes the lines in batches, by at most so many threads and by no more than suit the processors. Batches whose
+/// thread does not start are decoded on the thread that would have started it.
 fn batches_of<R: Threads + Sync>(
     rt: &R,
     alloc: Global,
     lines: &[&[u8]],
+    threads: u32,
 ) -> Result<Vec<Batch>, AllocError>
     ensures { IfOk result (λ batches. AreReadAs (texts lines.now) batches.items) }
 {
     lines
         .par_chunks(BATCH_LINES)
+        .with_min_len(least_batches(lines.len(), threads))
         .map(
             |part: &[&[u8]]| -> Batch
                 ensures { IsReadAs (texts part.now) result }
@@ -98,16 +107,38 @@ fn joined(alloc: Global, lines: &[&[u8]], batches: Vec<Batch>) -> Result<Vec<Eve
     Ok(events)
 }
 
-/// The records on the lines that follow a header, decoded in parallel, or the first bad one of these lines.
+/// The records on the lines that follow a header, decoded on the calling thread as one batch, which is not copied, or the
+/// first bad one of these lines.
+fn events_alone(alloc: Global, lines: &[&[u8]]) -> Result<Vec<Event>, TraceError>
+    requires { length lines.now ≤ most_records }
+    ensures good { IfOk result (λ events. AreRecords (texts lines.now) events.items) }
+    ensures bad { IfErr result (IsFaultAmong (texts lines.now)) }
+{
+    match batch_of(alloc, lines) {
+        Batch::Records(events) => Ok(events),
+        Batch::Bad { place, fault } => Err(TraceError::Bad {
+            line: 2 + place,
+            fault,
+        }),
+        Batch::Memory => Err(TraceError::Memory),
+    }
+}
+
+/// The records on the lines that follow a header, decoded by at most so many threads, or the first bad one of these
+/// lines.
 pub fn events_on<R: Threads + Sync>(
     rt: &R,
     alloc: Global,
     lines: &[&[u8]],
+    threads: u32,
 ) -> Result<Vec<Event>, TraceError>
     requires { length lines.now ≤ most_records }
     ensures good { IfOk result (λ events. AreRecords (texts lines.now) events.items) }
     ensures bad { IfErr result (IsFaultAmong (texts lines.now)) }
 {
-    let batches = batches_of(rt, alloc, lines).map_err(|_| Memory)?;
+    if threads < 2 {
+        return events_alone(alloc, lines);
+    }
+    let batches = batches_of(rt, alloc, lines, threads).map_err(|_| Memory)?;
     joined(alloc, lines, batches)
 }

@@ -22,6 +22,6 @@ mod values;
 mod write;
 
 pub use fault::TraceError;
-pub use read::{read_trace, read_trace_by_values};
+pub use read::{read_trace, read_trace_by_values, read_trace_with};
 pub use trace_reader::TraceReader;
 pub use write::write_trace;

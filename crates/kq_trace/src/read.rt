@@ -28,10 +28,23 @@ pub fn read_trace<R: AllocGlobal + Threads + Sync>(
     ensures bad { IfErr result (IsFault bytes.now) }
     ensures least { IfErr result (IsLeastFault bytes.now) }
 {
+    read_trace_with(rt, bytes, u32::MAX)
+}
+
+/// The same by at most so many threads, of which the calling one is the first; 0 and 1 start none.
+pub fn read_trace_with<R: AllocGlobal + Threads + Sync>(
+    rt: &R,
+    bytes: &[u8],
+    threads: u32,
+) -> Result<Trace, TraceError>
+    ensures good { IfOk result (λ trace. reading bytes.now ≡ Good trace.version trace.events) }
+    ensures bad { IfErr result (IsFault bytes.now) }
+    ensures least { IfErr result (IsLeastFault bytes.now) }
+{
     let alloc = rt.alloc();
     let (version, rest) = opened(alloc, bytes)?;
     let (lines, behind) = lines_up_to(alloc, rest, MOST_RECORDS)?;
-    let events = events_on(rt, alloc, lines.as_slice())?;
+    let events = events_on(rt, alloc, lines.as_slice(), threads)?;
     if !behind.is_empty() {
         let (line, _) = first_line(behind);
         return Err(TraceError::Bad {

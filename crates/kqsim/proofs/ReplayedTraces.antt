@@ -1,5 +1,5 @@
 -- The report of a trace whose kqueues were replayed alone, and its faults.
-use Rattle.std.proofs.Common.{◌≡◌, ◌∙◌, ℕ, ◌≤◌, ◌<◌, ◌⊎◌, List, length, Result, Ok, Err, IfErr, IfOk, IsErrOf, MatchResult, sym, ap, subst, arith, ⊎_elim}
+use Rattle.std.proofs.Common.{◌≡◌, ◌∙◌, ℕ, ◌≤◌, ◌<◌, ◌⊎◌, List, length, Result, Ok, Err, IfErr, IfOk, IsErrOf, MatchResult, ap, subst, arith, ⊎_elim}
 use Rattle.std.proofs.lemmas.List.{length-map}
 use Rattle.std.proofs.lemmas.List.Elements.{All-weaker}
 use Rattle.std.proofs.lemmas.Result.{IfErr-at_err, IfErr-weaker}
@@ -8,14 +8,10 @@ use Rattle.kq_model.specs.declared.event.Event.{Event}
 use Rattle.kq_model.specs.declared.row.Row.{Row}
 use Rattle.kq_model.specs.declared.rows.Rows.{Rows}
 use Rattle.kq_model.specs.Births.{Birth}
-use Rattle.kq_model.specs.Hearing.{tallying}
-use Rattle.kq_model.specs.Objects.{counted}
 use Rattle.kq_model.specs.OwnedRows.{Rise}
 use Rattle.kq_model.specs.Reading.{Good, reading}
 use Rattle.kq_model.specs.Report.{report, report_of}
 use Rattle.kq_model.specs.System.{rows}
-use Rattle.kq_model.proofs.Projection.{merged, rising}
-use Rattle.kq_model.proofs.RecastSystem.{rows-tallied}
 use Rattle.kq_history.specs.Traced.{Traced, births_of, places_of, plain_rows_of}
 use Rattle.kq_merge.specs.ByPlace.{IsOnlyOrder, NeverFall, rows_in}
 use Rattle.kq_merge.proofs.Places.{never_fall}
@@ -39,18 +35,15 @@ pub kqueues_never_fall : (t : Traced) (kqueues : List Rows) → AreReplayed t kq
 kqueues_never_fall t kqueues are =
     All-weaker (λ (one : Rows). Rise one.rows) (λ (one : Rows). NeverFall one.rows) (λ one rises. never_fall one.rows rises) kqueues are.rise
 
-pub plain_never_falls : (t : Traced) → NeverFall (plain_rows_of t)
-plain_never_falls t = never_fall (plain_rows_of t) (rising tallying counted t.version t.events).1
-
-rows-rise : (version : ℕ) (events : List Event) → Rise (rows version events)
-rows-rise version events = subst Rise (sym (rows-tallied version events)) (merged tallying counted version events).1
+pub plain_never_falls : (t : Traced) (kqueues : List Rows) → AreReplayed t kqueues → NeverFall (plain_rows_of t)
+plain_never_falls t kqueues are = never_fall (plain_rows_of t) are.plain
 
 pub report_again : (t : Traced) (kqueues : List Rows) (found : List Row) (records : ℕ) (text : List ℕ) → AreReplayed t kqueues
     → IsOnlyOrder (rows_in kqueues (plain_rows_of t)) found → records ≡ length t.events → text ≡ report found records
     → text ≡ report_of t.version t.events
 unfolding report_of
 report_again t kqueues found records text are only counts is =
-    is ∙ ap (λ rs. report rs records) (only (rows t.version t.events) are.whole (rows-rise t.version t.events))
+    is ∙ ap (λ rs. report rs records) (only (rows t.version t.events) are.whole are.ordered)
     ∙ ap (report (rows t.version t.events)) counts
 
 -- ---- the faults

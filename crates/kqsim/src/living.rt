@@ -10,7 +10,7 @@ use kq_live::Book;
 use kq_merge::report_text;
 use kq_model::Trace;
 use kq_serve::{Always, Gate, Open, ServeError, Starts};
-use kq_trace::{TraceError, read_trace, write_trace};
+use kq_trace::{TraceError, read_trace_with, write_trace};
 use std::sync::Wait;
 use std::thread::Threads;
 
@@ -63,7 +63,7 @@ fn book_of<R: AllocGlobal + Threads + Wait + Sync>(
     if !is_thread_count(threads) {
         return Err(Fault::Usage);
     }
-    match read_trace(rt, bytes) {
+    match read_trace_with(rt, bytes, threads) {
         Ok(trace) => live_run(rt, &trace, threads),
         Err(TraceError::Memory) => Err(Fault::Memory),
         Err(TraceError::Bad { line, fault }) => Err(Fault::Trace { line, fault }),

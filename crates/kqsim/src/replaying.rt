@@ -9,7 +9,7 @@ use kq_history::Split;
 use kq_merge::{merge, report_text};
 use kq_model::Trace;
 use kq_replay::{Always, Gate, Open, RunFault, Starts, replay_all_with};
-use kq_trace::{TraceError, read_trace};
+use kq_trace::{TraceError, read_trace_with};
 use std::sync::Wait;
 use std::thread::Threads;
 
@@ -49,7 +49,7 @@ pub fn replay_with<R: AllocGlobal + Threads + Wait + Sync, G: Gate + Sync, S: St
     if !is_worker_count(workers) {
         return Err(Fault::Usage);
     }
-    match read_trace(rt, bytes) {
+    match read_trace_with(rt, bytes, workers) {
         Ok(trace) => trace_report(rt, &trace, workers, gate, starts),
         Err(TraceError::Memory) => Err(Fault::Memory),
         Err(TraceError::Bad { line, fault }) => Err(Fault::Trace { line, fault }),

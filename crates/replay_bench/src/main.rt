@@ -1,9 +1,10 @@
 //! Replays a trace from standard input part by part, for the benchmark. For each part it writes a line on standard
 //! error: its name, and the ns that it took by the clock and of the processors.
 //!
-//!     replay_bench fold         one fold of the whole system on one thread, each record as soon as it is read; prints the
-//!                               report
-//!     replay_bench parts N      reads, splits and replays by N workers, as `kqsim replay --workers N` does
+//!     replay_bench fold         one fold of the whole system on one thread, each record as soon as it is read
+//!     replay_bench parts N      reads, splits, replays by N workers, merges and writes, as `kqsim replay --workers N`
+//!
+//! Both print the report.
 #![tactic(auto)]
 
 mod fold;
@@ -29,6 +30,12 @@ fn main(rt: HostRuntime) -> anyhow::Result<()> {
     let mut times = rt.stderr();
     match task {
         Task::Fold => fold(&rt, bytes.as_slice(), &mut rt.stdout(), &mut times),
-        Task::Parts { workers } => parts(&rt, bytes.as_slice(), workers, &mut times),
+        Task::Parts { workers } => parts(
+            &rt,
+            bytes.as_slice(),
+            workers,
+            &mut rt.stdout(),
+            &mut times,
+        ),
     }
 }

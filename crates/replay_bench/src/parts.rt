@@ -3,28 +3,35 @@
 use crate::watch::Watch;
 use anyhow::Context;
 use kq_history::Split;
+use kq_merge::{merge, report_text};
 use kq_replay::{Open, replay_all};
-use kq_trace::read_trace;
+use kq_trace::read_trace_with;
 use std::alloc::AllocError;
 use std::io::Write;
 use std::sync::Wait;
 use std::thread::Threads;
 use std::time::{Clock, CpuClock};
 
-/// Reads the trace, splits it and replays its kqueues by so many workers.
-pub fn parts<R: AllocGlobal + Clock + CpuClock + Print + Threads + Wait + Sync, W: Write>(
+/// Reads the trace, splits it, replays its kqueues by so many workers, puts their rows together and writes the report.
+pub fn parts<R: AllocGlobal + Clock + CpuClock + Threads + Wait + Sync, O: Write, W: Write>(
     rt: &R,
     bytes: &[u8],
     workers: u32,
+    out: &mut O,
     times: &mut W,
 ) -> anyhow::Result<()> {
     let mut watch = Watch::start(rt)?;
-    let trace = read_trace(rt, bytes)?;
+    let trace = read_trace_with(rt, bytes, workers)?;
     watch.lap(rt, "read", times)?;
     let split = Split::of(rt.alloc(), &trace).map_err(|_| AllocError)?;
     watch.lap(rt, "split", times)?;
     let kqueues = replay_all(rt, &split, workers, &Open)?;
     watch.lap(rt, "replay", times)?;
-    println!(rt; "{} kqueues", kqueues.len())?;
+    let rows = merge(rt.alloc(), kqueues, split.plain_rows()).map_err(|_| AllocError)?;
+    watch.lap(rt, "merge", times)?;
+    let records = trace.events.len() as u64;
+    let report = report_text(rt.alloc(), rows.as_slice(), records).map_err(|_| AllocError)?;
+    out.write_all(report.as_slice())?;
+    watch.lap(rt, "write", times)?;
     Ok(())
 }

@@ -131,6 +131,19 @@ fn private_lists_hold_what_concerns_each(rt: HostRuntime) -> Result<(), Fail> {
     assert_eq!(rt; private.owner(), 1);
     let answering = split.answering(kqueues[0])?;
     assert_eq!(rt; answering.items(), &first[1..6]);
+    let second = [
+        told(5, Hint::Writable),
+        called(10, 3),
+        told(12, Hint::Readable),
+        closed,
+        called(15, 3),
+        told(18, Hint::Readable),
+    ];
+    let private = split.private(kqueues[1])?;
+    assert_eq!(rt; private.items(), second.as_slice());
+    assert_eq!(rt; private.owner(), 1);
+    let answering = split.answering(kqueues[1])?;
+    assert_eq!(rt; answering.items(), &second[1..5]);
     let child = [
         told(5, Hint::Writable),
         called(11, 8),

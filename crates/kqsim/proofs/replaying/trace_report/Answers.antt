@@ -12,7 +12,8 @@ pub merge-requires-clause-kqueues : goal.merge-requires-clause-kqueues
 merge-requires-clause-kqueues g c = kqueues_never_fall c.in_ok-split.split c.in-Ok.kqueues.items c.in-Ok.ensures.ok
 
 pub merge-requires-clause-plain : goal.merge-requires-clause-plain
-merge-requires-clause-plain g c = subst NeverFall (sym c.plain_rows.ensures) (plain_never_falls c.in_ok-split.split)
+merge-requires-clause-plain g c =
+    subst NeverFall (sym c.plain_rows.ensures) (plain_never_falls c.in_ok-split.split c.in-Ok.kqueues.items c.in-Ok.ensures.ok)
 
 pub returns-clause-report : goal.returns-clause-report
 returns-clause-report g c =

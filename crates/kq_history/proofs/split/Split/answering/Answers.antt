@@ -6,6 +6,7 @@ use Rattle.kq_history.specs.BetweenCalls.{between}
 use Rattle.kq_history.specs.Items.{has_source, is_from, source_eq}
 use Rattle.kq_history.specs.Log.{comes_from}
 use Rattle.kq_history.specs.Private.{IsAnswering}
+use Rattle.kq_history.specs.Steps.{joined}
 use Rattle.kq_history.specs.Traced.{Traced, places_of}
 use Rattle.kq_history.proofs.AnsweringOf.{calls-named, is-answering}
 use Rattle.kq_history.proofs.PrivateOf.{known-there}
@@ -44,5 +45,5 @@ invariant_of-result c =
     record {
       own = subst (λ (x : Traced). IsAnswering x c.args.kqueue concerned.owner c.in_ok-items.items.items) same
           (is-answering t c.self.inside.said c.self.invariant.said c.args.kqueue concerned c.of-concerned.ensures c.in_ok-items.items.items
-          (c.in_ok-items.ensures ∙ ap (λ ss. between (comes_from (Kqueue c.args.kqueue)) (filter (is_from ss) c.self.inside.said.log.items.items)) c.as_slice-sources.ensures));
+          (c.in_ok-items.ensures ∙ ap (λ ss. joined (between (comes_from (Kqueue c.args.kqueue)) (filter (is_from ss) c.self.inside.said.log.items.items))) c.as_slice-sources.ensures));
     }

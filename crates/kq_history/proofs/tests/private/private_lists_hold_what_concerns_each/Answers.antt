@@ -17,6 +17,10 @@ private-requires g c =
 
 pub private-requires-2 : goal.private-requires-2
 private-requires-2 g c =
+    stands (places_of c.in_ok-split.split) c.kqueues-kqueues.result.now 1 c.kqueues-kqueues.ensures (omega arith)
+
+pub private-requires-3 : goal.private-requires-3
+private-requires-3 g c =
     stands (places_of c.in_ok-split.split) c.kqueues-kqueues.result.now 2 c.kqueues-kqueues.ensures (omega arith)
 
 pub answering-requires : goal.answering-requires
@@ -25,4 +29,8 @@ answering-requires g c =
 
 pub answering-requires-2 : goal.answering-requires-2
 answering-requires-2 g c =
+    stands (places_of c.in_ok-split.split) c.kqueues-kqueues.result.now 1 c.kqueues-kqueues.ensures (omega arith)
+
+pub answering-requires-3 : goal.answering-requires-3
+answering-requires-3 g c =
     stands (places_of c.in_ok-split.split) c.kqueues-kqueues.result.now 2 c.kqueues-kqueues.ensures (omega arith)
