@@ -25,6 +25,3 @@ pub use at::HistoryAt;
 pub use item::{Item, Source, What};
 pub use private::Private;
 pub use split::Split;
-
-#[cfg(test)]
-mod tests;

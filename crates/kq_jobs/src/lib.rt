@@ -19,6 +19,3 @@ pub use jobs::Jobs;
 pub use kq_serve::{Always, Gate, Open, Starts};
 pub use running::{MOST_WORKERS, run_all};
 pub use seat::ClaimSeat;
-
-#[cfg(test)]
-mod tests;

@@ -15,6 +15,3 @@ pub use book::Book;
 pub use live::{Live, LiveError, LiveReceipt, LiveSeat, MOST_CALLS};
 pub use machine::LiveMachine;
 pub use run::live_run;
-
-#[cfg(test)]
-mod tests;

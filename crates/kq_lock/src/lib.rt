@@ -57,6 +57,3 @@ pub use error::TurnError;
 pub use lock::TurnLock;
 pub use machine::Machine;
 pub use seat::TurnSeat;
-
-#[cfg(test)]
-mod tests;

@@ -12,6 +12,3 @@ pub use kq_jobs::{Always, Gate, Open, RunFault, Starts};
 pub use kq_model::Rows;
 pub use replay::Replay;
 pub use running::{replay_all, replay_all_with};
-
-#[cfg(test)]
-mod tests;

@@ -1,3 +1,2 @@
-pub mod Played
 pub mod ReplayedTraces
 pub mod LiveFaults

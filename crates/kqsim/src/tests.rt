@@ -1,12 +1,5 @@
-mod hints;
-mod library;
 mod living;
 mod merging;
-mod objects;
 mod program;
 mod streams;
-mod system;
-mod text;
-mod timers;
 mod workers;
-mod world;

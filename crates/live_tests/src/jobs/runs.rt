@@ -1,0 +1,183 @@
+//! Jobs that many workers run.
+ghost use Rattle.std.specs.Prelude.{◌≡◌, ◌*◌};
+
+use super::gates::{Counts, Meeting, Without};
+use kq_jobs::{Always, Gate, Jobs, Open, RunFault, Starts, run_all};
+use kq_model::Memory;
+use std::alloc::Global;
+use std::sync::Wait;
+use std::sync::atomic::AtomicU64;
+use std::sync::atomic::Ordering::SeqCst;
+use std::test::Fail;
+use std::thread::Threads;
+
+// The squares of the numbers below this one.
+#[derive(Clone, Copy)]
+struct Squares(u32);
+
+impl Jobs for Squares {
+    type Outcome = u64;
+
+    ghost count = { λ jobs. jobs.0 };
+
+    ghost gives = { λ jobs n square. square ≡ n * n };
+
+    fn len(&self) -> u32 {
+        self.0
+    }
+
+    fn run(&self, number: u32) -> Result<u64, Memory> {
+        let number = u64::from(number);
+        Ok(number * number)
+    }
+}
+
+// The same, with a count of the runs.
+#[derive(Drop)]
+struct Counted {
+    squares: Squares,
+    runs: AtomicU64,
+}
+
+impl Jobs for Counted {
+    type Outcome = u64;
+
+    ghost count = { λ jobs. jobs.squares.0 };
+
+    ghost gives = { λ jobs n square. square ≡ n * n };
+
+    fn len(&self) -> u32 {
+        self.squares.len()
+    }
+
+    fn run(&self, number: u32) -> Result<u64, Memory> {
+        self.runs.fetch_add(1, SeqCst);
+        self.squares.run(number)
+    }
+}
+
+// The sum of the squares, and how many there are.
+fn summed<R: Threads + Wait + Sync, G: Gate + Sync, S: Starts>(
+    rt: &R,
+    alloc: Global,
+    count: u32,
+    workers: u32,
+    gate: &G,
+    starts: &S,
+) -> Result<(u64, usize), RunFault> {
+    let squares = run_all(rt, alloc, &Squares(count), workers, gate, starts)?;
+    let mut sum = 0u64;
+    for square in &squares {
+        sum = sum.wrapping_add(*square);
+    }
+    Ok((sum, squares.len()))
+}
+
+#[test]
+fn each_job_is_entered_and_run_once(rt: HostRuntime) -> Result<(), Fail> {
+    for workers in [1, 2, 256] {
+        let mut entered = Vec::new(rt.alloc());
+        for _ in 0..300 {
+            entered.push(AtomicU64::new(0)).map_err(|_| "memory")?;
+        }
+        let gate = Counts { entered };
+        let jobs = Counted {
+            squares: Squares(300),
+            runs: AtomicU64::new(0),
+        };
+        let ran = run_all(&rt, rt.alloc(), &jobs, workers, &gate, &Always);
+        assert_eq!(rt; ran.map(|all| all.len()), Ok(300));
+        assert_eq!(rt; jobs.runs.load(SeqCst), 300);
+        assert!(rt; gate.all_once());
+    }
+    Ok(())
+}
+
+#[test]
+fn two_workers_are_inside_at_once(rt: HostRuntime) -> Result<(), Fail> {
+    let gate = Meeting::new(2, 2);
+    assert_eq!(rt; summed(&rt, rt.alloc(), 3, 2, &gate, &Always), Ok((5, 3)));
+    assert!(rt; gate.was_held());
+    Ok(())
+}
+
+#[test]
+fn a_worker_that_is_held_leaves_the_others_to_the_rest(rt: HostRuntime) -> Result<(), Fail> {
+    let gate = Meeting::new(1, 3);
+    assert_eq!(rt; summed(&rt, rt.alloc(), 3, 2, &gate, &Always), Ok((5, 3)));
+    assert!(rt; gate.was_held());
+    Ok(())
+}
+
+#[test]
+fn a_start_is_refused(rt: HostRuntime) -> Result<(), Fail> {
+    let spawn = Err(RunFault::Spawn);
+    assert_eq!(rt; summed(&rt, rt.alloc(), 3, 256, &Open, &Without(2)), spawn);
+    assert_eq!(rt; summed(&rt, rt.alloc(), 3, 256, &Open, &Without(3)), spawn);
+    assert_eq!(rt;
+        summed(&rt, rt.alloc(), 3, 256, &Open, &Without(4)),
+        Ok((5, 3))
+    );
+    assert_eq!(rt;
+        summed(&rt, rt.alloc(), 3, 1, &Open, &Without(2)),
+        Ok((5, 3))
+    );
+    Ok(())
+}
+
+#[test]
+fn no_jobs_start_no_worker(rt: HostRuntime) -> Result<(), Fail> {
+    assert_eq!(rt;
+        summed(&rt, rt.alloc(), 0, 256, &Open, &Without(2)),
+        Ok((0, 0))
+    );
+    assert_eq!(rt;
+        summed(&rt, rt.alloc(), 1, 256, &Open, &Without(2)),
+        Ok((0, 1))
+    );
+    Ok(())
+}
+
+#[test]
+fn the_number_of_workers_is_refused(rt: HostRuntime) -> Result<(), Fail> {
+    let refused = Err(RunFault::Workers);
+    assert_eq!(rt; summed(&rt, rt.alloc(), 3, 0, &Open, &Without(2)), refused);
+    assert_eq!(rt;
+        summed(&rt, rt.alloc(), 3, 257, &Open, &Without(2)),
+        refused
+    );
+    assert_eq!(rt;
+        summed(&rt, rt.alloc(), 0, 257, &Open, &Without(2)),
+        refused
+    );
+    Ok(())
+}
+
+// Jobs of which the last has no memory.
+#[derive(Clone, Copy)]
+struct Forgetful;
+
+impl Jobs for Forgetful {
+    type Outcome = u32;
+
+    ghost count = { λ _. 3 };
+
+    ghost gives = { λ _ n given. given ≡ n };
+
+    fn len(&self) -> u32 {
+        3
+    }
+
+    fn run(&self, number: u32) -> Result<u32, Memory> {
+        if number == 2 { Err(Memory) } else { Ok(number) }
+    }
+}
+
+#[test]
+fn a_job_without_memory_is_no_answer(rt: HostRuntime) -> Result<(), Fail> {
+    for workers in [1, 2, 3] {
+        let ran = run_all(&rt, rt.alloc(), &Forgetful, workers, &Open, &Always);
+        assert_eq!(rt; ran.map(|all| all.len()), Err(RunFault::Memory));
+    }
+    Ok(())
+}

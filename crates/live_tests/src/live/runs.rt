@@ -1,0 +1,110 @@
+//! A trace that many threads run.
+use super::{TRIGGER, add, poll};
+use kq_live::{Book, live_run};
+use kq_model::{Event, Memory, Reply, Series, Trace};
+use kq_serve::{Always, Gate, Open, ServeError, Starts};
+use std::alloc::Global;
+use std::sync::atomic::AtomicU64;
+use std::sync::atomic::Ordering::SeqCst;
+use std::test::Fail;
+use std::thread::yield_now;
+
+// Two processes, each with a user event that has happened.
+fn two_processes(alloc: Global) -> Result<Trace, Memory> {
+    let events = [
+        Event::Proc { pid: 1 },
+        Event::Proc { pid: 2 },
+        Event::Kqueue { pid: 1, fd: 9 },
+        Event::Kqueue { pid: 2, fd: 9 },
+        add(alloc, 1, TRIGGER)?,
+        add(alloc, 2, TRIGGER)?,
+        poll(alloc, 2),
+        poll(alloc, 1),
+    ];
+    let events = Vec::from_array(alloc, events).map_err(|_| Memory)?;
+    Ok(Trace {
+        version: 1,
+        events: Series::from_vec(events),
+    })
+}
+
+// How many events the rows of a book return.
+fn returned(book: &Book) -> Result<usize, Memory> {
+    let mut all = 0usize;
+    for row in &book.rows()? {
+        if let Reply::Events(events) = &row.reply {
+            all = all.saturating_add(events.len());
+        }
+    }
+    Ok(all)
+}
+
+#[test]
+fn threads_run_a_trace(rt: HostRuntime) -> Result<(), Fail> {
+    let trace = two_processes(rt.alloc()).map_err(|_| "memory")?;
+    for threads in [1, 2, 3, 64] {
+        let book = live_run(&rt, rt.alloc(), &Open, &Always, &trace, threads).map_err(|_| "a run")?;
+        assert_eq!(rt; book.len(), 8);
+        assert_eq!(rt; returned(&book), Ok(2));
+    }
+    Ok(())
+}
+
+// Refuses the start of the first thread.
+struct Without;
+
+impl Starts for Without {
+    fn allow(&self, thread: u32) -> bool {
+        thread != 1
+    }
+}
+
+#[test]
+fn a_start_is_refused(rt: HostRuntime) -> Result<(), Fail> {
+    let trace = two_processes(rt.alloc()).map_err(|_| "memory")?;
+    let refused = live_run(&rt, rt.alloc(), &Open, &Without, &trace, 2);
+    assert_eq!(rt; refused.map(|book| book.len()), Err(ServeError::Spawn));
+    Ok(())
+}
+
+/// How often a thread yields before it gives up on the other.
+const TURNS: u64 = 10_000_000;
+
+// Holds the first two places each until the other was entered.
+#[derive(Drop)]
+struct Meeting {
+    entered: AtomicU64,
+    given_up: AtomicU64,
+}
+
+impl Gate for Meeting {
+    fn enter(&self, _thread: u32, place: u32) {
+        if place > 2 {
+            return;
+        }
+        self.entered.fetch_add(1, SeqCst);
+        for _ in 0..TURNS {
+            if self.entered.load(SeqCst) >= 2 {
+                return;
+            }
+            yield_now();
+        }
+        self.given_up.fetch_add(1, SeqCst);
+    }
+}
+
+#[test]
+fn two_threads_are_inside_at_once(rt: HostRuntime) -> Result<(), Fail> {
+    let trace = two_processes(rt.alloc()).map_err(|_| "memory")?;
+    let gate = Meeting {
+        entered: AtomicU64::new(0),
+        given_up: AtomicU64::new(0),
+    };
+    let book = live_run(&rt, rt.alloc(), &gate, &Always, &trace, 2).map_err(|_| "a run")?;
+    assert_eq!(rt; book.len(), 8);
+    assert_eq!(rt;
+        (gate.entered.load(SeqCst), gate.given_up.load(SeqCst)),
+        (2, 0)
+    );
+    Ok(())
+}

@@ -1,0 +1,97 @@
+//! Single tries of many threads.
+ghost use Rattle.std.specs.Prelude.{◌≡◌};
+
+use super::next_seat;
+use kq_live::{Live, LiveSeat};
+use kq_model::Event;
+use std::sync::Wait;
+use std::test::Fail;
+use std::thread::{Threads, join};
+
+// A hundred tries, and how many of them were calls.
+fn hundred(live: &Live, mut seat: LiveSeat) -> (u64, LiveSeat)
+    requires { seat.lock ≡ live.now.lock }
+    ensures { result.1.lock ≡ live.now.lock }
+{
+    let mut calls = 0u64;
+    for _ in 0..100u32 {
+        if live.try_call(&mut seat, Event::Clock { ns: 0 }).is_ok() {
+            calls = calls.saturating_add(1);
+        }
+    }
+    (calls, seat)
+}
+
+// The seat is cut in two, and each part makes a hundred tries in a thread of its own.
+fn by_two<R: Threads + Wait + Sync>(rt: &R, live: &Live, mut seat: LiveSeat) -> (u64, LiveSeat)
+    requires { seat.lock ≡ live.now.lock }
+    ensures { result.1.lock ≡ live.now.lock }
+{
+    let part = live.split(&mut seat);
+    let ((first, mut seat), (second, part)) = join(
+        rt,
+        || -> (u64, LiveSeat)
+            requires { seat.lock ≡ live.now.lock }
+            ensures { result.1.lock ≡ live.entry.now.lock }
+        { hundred(live, seat) },
+        || -> (u64, LiveSeat)
+            requires { part.lock ≡ live.now.lock }
+            ensures { result.1.lock ≡ live.entry.now.lock }
+        { hundred(live, part) },
+    );
+    live.join(&mut seat, part);
+    (first.saturating_add(second), seat)
+}
+
+// The same with four threads.
+fn by_four<R: Threads + Wait + Sync>(rt: &R, live: &Live, mut seat: LiveSeat) -> (u64, LiveSeat)
+    requires { seat.lock ≡ live.now.lock }
+    ensures { result.1.lock ≡ live.now.lock }
+{
+    let part = live.split(&mut seat);
+    let ((first, mut seat), (second, part)) = join(
+        rt,
+        || -> (u64, LiveSeat)
+            requires { seat.lock ≡ live.now.lock }
+            ensures { result.1.lock ≡ live.entry.now.lock }
+        { by_two(rt, live, seat) },
+        || -> (u64, LiveSeat)
+            requires { part.lock ≡ live.now.lock }
+            ensures { result.1.lock ≡ live.entry.now.lock }
+        { by_two(rt, live, part) },
+    );
+    live.join(&mut seat, part);
+    (first.saturating_add(second), seat)
+}
+
+// The same with eight.
+fn by_eight<R: Threads + Wait + Sync>(rt: &R, live: &Live, mut seat: LiveSeat) -> (u64, LiveSeat)
+    requires { seat.lock ≡ live.now.lock }
+    ensures { result.1.lock ≡ live.now.lock }
+{
+    let part = live.split(&mut seat);
+    let ((first, mut seat), (second, part)) = join(
+        rt,
+        || -> (u64, LiveSeat)
+            requires { seat.lock ≡ live.now.lock }
+            ensures { result.1.lock ≡ live.entry.now.lock }
+        { by_four(rt, live, seat) },
+        || -> (u64, LiveSeat)
+            requires { part.lock ≡ live.now.lock }
+            ensures { result.1.lock ≡ live.entry.now.lock }
+        { by_four(rt, live, part) },
+    );
+    live.join(&mut seat, part);
+    (first.saturating_add(second), seat)
+}
+
+#[test]
+fn a_seat_in_eight_parts_tries(rt: HostRuntime) -> Result<(), Fail> {
+    let (live, mut seats) = Live::new(rt.alloc(), 1, 1)?;
+    let seat = next_seat(&live, &mut seats).ok_or("a seat")?;
+    let (calls, seat) = by_eight(&rt, &live, seat);
+    assert_eq!(rt; Live::seen_len(&seat), calls);
+    let book = live.close(seat)?;
+    assert_eq!(rt; book.len() as u64, calls);
+    Ok(())
+}

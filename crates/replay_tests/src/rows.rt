@@ -1,0 +1,117 @@
+//! The rows of each kqueue, by any number of workers.
+use crate::dup::{dup_over, nothing};
+use crate::gates::{Meeting, Without};
+use kq_history::Split;
+use kq_model::{Memory, Reply, Rows};
+use kq_replay::{Always, Gate, Open, Replay, RunFault, Starts, replay_all, replay_all_with};
+use std::alloc::Global;
+use std::sync::Wait;
+use std::test::Fail;
+use std::thread::Threads;
+
+/// The kqueue and the place of each row, and the datum of its first event.
+type Told = (u64, u64, Option<i64>);
+
+const EXPECTED: [Told; 7] = [
+    (2, 9, None),
+    (2, 14, None),
+    (2, 17, Some(2)),
+    (3, 10, None),
+    (3, 15, None),
+    (8, 11, None),
+    (8, 16, Some(1)),
+];
+
+fn datum(reply: &Reply) -> Option<i64> {
+    let Reply::Events(events) = reply else {
+        return None;
+    };
+    events.as_slice().first().map(|event| event.datum)
+}
+
+fn told(alloc: Global, kqueues: &[Rows]) -> Result<Vec<Told>, Memory> {
+    let mut told = Vec::new(alloc);
+    for one in kqueues {
+        for row in one.rows.as_slice() {
+            let one = (one.kqueue, row.at, datum(&row.reply));
+            told.push(one).map_err(|_| Memory)?;
+        }
+    }
+    Ok(told)
+}
+
+/// Whether all rows come, with this gate and these starts.
+fn all_come<R: Threads + Wait + Sync, G: Gate + Sync, S: Starts>(
+    rt: &R,
+    alloc: Global,
+    workers: u32,
+    gate: &G,
+    starts: &S,
+) -> Result<bool, RunFault> {
+    let trace = dup_over(alloc)?;
+    let split = Split::of(alloc, &trace)?;
+    let kqueues = replay_all_with(rt, &split, workers, gate, starts)?;
+    let told = told(alloc, kqueues.as_slice())?;
+    Ok(kqueues.len() == 3 && told.as_slice() == EXPECTED.as_slice())
+}
+
+#[test]
+fn one_kqueue_gives_its_rows(rt: HostRuntime) -> Result<(), Fail> {
+    let trace = dup_over(rt.alloc())?;
+    let split = Split::of(rt.alloc(), &trace)?;
+    let kqueues = split.kqueues();
+    assert_eq!(rt; kqueues, [2, 3, 8].as_slice());
+    assert_eq!(rt; kqueues.len(), 3);
+    let whole = [split.private(kqueues[2])?.replay()?];
+    let whole = told(rt.alloc(), whole.as_slice())?;
+    assert_eq!(rt; whole.as_slice(), &EXPECTED[5..]);
+    let answering = [split.answering(kqueues[2])?.replay()?];
+    let answering = told(rt.alloc(), answering.as_slice())?;
+    assert_eq!(rt; answering.as_slice(), &EXPECTED[5..]);
+    Ok(())
+}
+
+#[test]
+fn any_number_of_workers_gives_all_rows(rt: HostRuntime) -> Result<(), Fail> {
+    for workers in [1, 2, 256] {
+        assert_eq!(rt;
+            all_come(&rt, rt.alloc(), workers, &Open, &Always),
+            Ok(true)
+        );
+    }
+    for workers in [0, 257] {
+        let refused = all_come(&rt, rt.alloc(), workers, &Open, &Always);
+        assert_eq!(rt; refused, Err(RunFault::Workers));
+    }
+    Ok(())
+}
+
+#[test]
+fn a_trace_without_kqueues_gives_none(rt: HostRuntime) -> Result<(), Fail> {
+    let trace = nothing(rt.alloc());
+    let split = Split::of(rt.alloc(), &trace)?;
+    let kqueues = replay_all(&rt, &split, 256, &Open)?;
+    assert!(rt; kqueues.is_empty());
+    Ok(())
+}
+
+#[test]
+fn two_workers_are_inside_at_once(rt: HostRuntime) -> Result<(), Fail> {
+    let gate = Meeting::new();
+    assert_eq!(rt; all_come(&rt, rt.alloc(), 2, &gate, &Always), Ok(true));
+    assert!(rt; gate.was_held());
+    Ok(())
+}
+
+#[test]
+fn a_start_is_refused(rt: HostRuntime) -> Result<(), Fail> {
+    for worker in [2, 3] {
+        let refused = all_come(&rt, rt.alloc(), 256, &Open, &Without(worker));
+        assert_eq!(rt; refused, Err(RunFault::Spawn));
+    }
+    assert_eq!(rt;
+        all_come(&rt, rt.alloc(), 256, &Open, &Without(4)),
+        Ok(true)
+    );
+    Ok(())
+}
