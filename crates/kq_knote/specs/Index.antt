@@ -34,7 +34,8 @@ first_hinted posted knotes = slice_get (hinted_keys posted knotes) 0
 
 -- of each knote the key is among these just where it watches such a target
 abbrev pub AreHinted : List Posted → List Knote → List Key → Type 0
-AreHinted posted knotes keys = (k : Knote) → find_knote k.key knotes ≡ Some k → list_any (key_eq k.key) keys ≡ is_hinted posted k
+AreHinted posted knotes keys =
+    (k : Knote) → find_knote k.key knotes ≡ Some k → list_any (key_eq k.key) keys ≡ is_hinted posted k
 
 -- the knotes behind the one of this key
 abbrev pub behind : Key → List Knote → List Knote
@@ -66,7 +67,7 @@ abbrev pub watch_of : Knote → Watch Key (Option Target)
 watch_of k = record { key = k.key; target = k.target }
 
 -- Where the index is whole, it has each knote whose target others may share, and no other. After the moment `since`
--- no timer expires before `soonest`. Where the alarms are whole, each knote has one when it expires first after `since`.
+-- no timer expires before `soonest`; where the alarms are whole, each knote has one when it expires first after `since`
 pub record IsKept (knotes : List Knote) (whole : Bool) (index : Watched Key (Option Target)) (since soonest : ℕ)
     (alarmed : Bool) (alarms : Armed) : Type 0 where
   pub own_keys : HaveOwnKeys knotes
