@@ -36,4 +36,5 @@ mod SaidNext
 pub mod PrivateOf
 mod AnsweringOf
 mod SplitNext
+mod SplittingNext
 mod Events

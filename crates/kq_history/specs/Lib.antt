@@ -22,3 +22,4 @@ pub mod Said
 pub mod BetweenCalls
 pub mod Private
 pub mod Heard
+pub mod Splitting

@@ -1,22 +1,13 @@
-ghost use Rattle.std.specs.Prelude.{◌≡◌, ◌++◌, length, IfOk, OnOk};
-ghost use Rattle.kq_process.specs.World.{world_of};
-ghost use Rattle.kq_history.specs.Heard.{IsHeard};
-ghost use Rattle.kq_history.specs.Plain.{plain_row};
-ghost use Rattle.kq_history.specs.Sayings.{kqueue_of};
-ghost use Rattle.kq_model.specs.Objects.{counted};
-ghost use Rattle.kq_model.specs.World as model;
-ghost use Rattle.std.specs.List.Sorted.{IsStrictlyIncreasing};
+ghost use Rattle.std.specs.Prelude.{◌≡◌, IfOk};
 
 use crate::answering::Answering;
 use crate::at::HistoryAt;
 use crate::item::Source;
 use crate::private::Private;
-use crate::said::{Before, Said};
+use crate::said::Said;
 use crate::seen::Seen;
-use crate::touched::Touched;
-use crate::tracking::track;
-use kq_model::{Event, Memory, Named, Reply, Row, Target, Trace, View, Why};
-use kq_process::{Effect, World};
+use crate::splitting::Splitting;
+use kq_model::{Event, Memory, Named, Row, Target, Trace, View};
 use std::alloc::Global;
 use std::marker::Model;
 
@@ -24,11 +15,11 @@ use std::marker::Model;
 /// the rows of those that are impossible.
 #[derive(Drop)]
 pub struct Split<'a> {
-    version: u32,
-    events: &'a [Event],
-    seen: Seen,
-    said: Said,
-    plain: Vec<Row>,
+    pub(crate) version: u32,
+    pub(crate) events: &'a [Event],
+    pub(crate) seen: Seen,
+    pub(crate) said: Said,
+    pub(crate) plain: Vec<Row>,
 }
 
 impl<'a> Model for Split<'a> {
@@ -46,30 +37,14 @@ impl<'a> Model for Split<'a> {
 impl<'a> Split<'a> {
     ghost use Rattle.kq_history.specs.Traced.{places_of, plain_rows_of, seen_at, traced, IsBorn};
 
-    /// One pass of the world over the trace. Its cost is that of the trace.
+    /// One pass of the world over the trace. Its cost is that of the trace. Memory: a growth was refused.
     pub fn of(alloc: Global, trace: &'a Trace) -> Result<Self, Memory>
         ensures { IfOk result (λ s. s ≡ traced trace.now) }
     {
         let events = trace.events.as_slice();
-        let mut world = World::new(alloc)?;
-        let mut seen = Seen::new(alloc);
-        let mut said = Said::new(alloc);
-        let mut touched = Touched::new(alloc);
-        let mut plain = Vec::new(alloc);
-        for (before, event) in events.iter().enumerate() {
-            let place = before as u64 + 1;
-            let before_it = Before::of(event, &world);
-            let effect = track(place, event, &mut world, &mut seen, &mut touched)?;
-            hear(&mut said, place, event, &effect, before_it, &world)?;
-            put_plain(&mut plain, place, &effect.verdict)?;
-        }
-        Ok(Split {
-            version: trace.version,
-            events,
-            seen,
-            said,
-            plain,
-        })
+        let mut splitting = Splitting::new(alloc)?;
+        splitting.take(0, events)?;
+        Ok(splitting.end(trace))
     }
 
     /// The places where kqueues were made, rising.
@@ -184,39 +159,5 @@ impl<'a> Split<'a> {
     {
         let before = place.checked_sub(1)?;
         self.events.get(before as usize)
-    }
-}
-
-/// What the record of a place says, where it was possible.
-fn hear(
-    said: &mut Said,
-    place: u64,
-    event: &Event,
-    effect: &Effect,
-    before: Before,
-    world: &World,
-) -> Result<(), Memory>
-    requires rising { IsStrictlyIncreasing said.old.kqueues.places.items }
-    requires one_each { length said.old.kqueues.concerned.items ≡ length said.old.kqueues.places.items }
-    ensures { OnOk result ((old : model.World counted) → before.clock ≡ old.now
-        → before.kqueue ≡ kqueue_of event.now old
-        → IsHeard place event.now effect.now old (world_of world.now) said.old said.new) }
-{
-    match effect.verdict {
-        Err(_) => Ok(()),
-        Ok(()) => said.hear(place, event, effect, before, world),
-    }
-}
-
-/// Adds the row of the record at a place, if it is impossible.
-fn put_plain(plain: &mut Vec<Row>, at: u64, verdict: &Result<(), Why>) -> Result<(), Memory>
-    ensures { OnOk result (plain.new.items ≡ plain.old.items ++ plain_row at verdict.now) }
-{
-    match verdict {
-        Ok(()) => Ok(()),
-        Err(why) => {
-            let reply = Reply::Impossible(*why);
-            plain.push(Row { at, reply }).map_err(|_| Memory)
-        }
     }
 }

@@ -1,0 +1,12 @@
+use Rattle.std.proofs.Common.{◌∙◌, ℕ}
+use Rattle.kq_history.proofs.FirstTracked.{first-plain, first-tracked}
+use Rattle.kq_history.proofs.SplitNext.{first-said}
+use Rattle.kq_history.proofs.splitting.Splitting.new.Goals as goal
+
+pub returns : goal.returns
+returns c =
+    λ (version : ℕ). record {
+      tracked = first-tracked version c.in_ok-world.world c.new-seen.result c.in_ok-world.ensures c.new-seen.ensures;
+      said = first-said version c.new-said.result c.new-said.ensures.log c.new-said.ensures.shelved c.new-said.ensures.places c.new-said.ensures.concerned;
+      plain_is = c.new-plain.ensures.items ∙ first-plain version;
+    }

@@ -1,0 +1,16 @@
+-- A split of the records that came so far.
+use Rattle.std.specs.Prelude.{◌≡◌, ℕ, length}
+use Rattle.kq_history.specs.declared.splitting.Splitting.{Splitting}
+use Rattle.kq_history.specs.Said.{IsSaid}
+use Rattle.kq_history.specs.Traced.{Traced, plain_rows_of}
+use Rattle.kq_history.specs.Tracked.{IsTracked}
+
+-- these are all records that came so far: the world is that after them, and what is kept is what they say
+pub record IsSplitSoFar (t : Traced) (s : Splitting) : Type 0 where
+  pub tracked : IsTracked t s.world s.seen
+  pub said : IsSaid t s.said
+  pub plain_is : s.plain.items ≡ plain_rows_of t
+
+-- so many records came so far
+abbrev pub AreSoMany : ℕ → Splitting → Type 0
+AreSoMany before s = (t : Traced) × (length t.events ≡ before) × IsSplitSoFar t s

@@ -1,0 +1,130 @@
+ghost use Rattle.std.specs.Prelude.{◌≡◌, ◌+◌, ◌<◌, ◌^◌, ◌++◌, [], ℕ, length, IfOk, OnOk};
+ghost use Rattle.kq_process.specs.World.{world_of};
+ghost use Rattle.kq_history.specs.Heard.{IsHeard};
+ghost use Rattle.kq_history.specs.Plain.{plain_row};
+ghost use Rattle.kq_history.specs.Sayings.{kqueue_of};
+ghost use Rattle.kq_history.specs.Splitting.{AreSoMany, IsSplitSoFar};
+ghost use Rattle.kq_history.specs.Traced.{traced, Traced};
+ghost use Rattle.kq_model.specs.Objects.{counted};
+ghost use Rattle.kq_model.specs.World as model;
+ghost use Rattle.std.specs.List.Sorted.{IsStrictlyIncreasing};
+
+use crate::said::{Before, Said};
+use crate::seen::Seen;
+use crate::split::Split;
+use crate::touched::Touched;
+use crate::tracking::track;
+use kq_model::{Event, Memory, Reply, Row, Trace, Why};
+use kq_process::{Effect, World};
+use std::alloc::Global;
+
+/// A split of the records that came so far, part by part: so that it can run beside their reading.
+#[derive(Drop)]
+pub struct Splitting {
+    pub(crate) world: World,
+    pub(crate) seen: Seen,
+    pub(crate) said: Said,
+    pub(crate) plain: Vec<Row>,
+    touched: Touched,
+}
+
+impl Splitting {
+    /// Of no record. Memory: a growth was refused.
+    pub fn new(alloc: Global) -> Result<Self, Memory>
+        ensures { IfOk result (λ s. (version : ℕ) → IsSplitSoFar (record { version = version; events = [] }) s) }
+    {
+        let world = World::new(alloc)?;
+        let seen = Seen::new(alloc);
+        let said = Said::new(alloc);
+        let plain = Vec::new(alloc);
+        let touched = Touched::new(alloc);
+        Ok(Splitting {
+            world,
+            seen,
+            said,
+            plain,
+            touched,
+        })
+    }
+
+    /// The records that follow those so far, which are so many: the world takes each of them. Its cost
+    /// is theirs. After Memory nothing is known, and the splitting is to be dropped.
+    pub fn take(&mut self, before: u64, events: &[Event]) -> Result<(), Memory>
+        requires few { before + length events.now < 2 ^ 31 }
+        requires before { AreSoMany before self.old }
+        ensures { OnOk result ((t : Traced) → length t.events ≡ before → IsSplitSoFar t self.old
+            → IsSplitSoFar (record { version = t.version; events = t.events ++ events.now }) self.new) }
+    {
+        for (taken, event) in events.iter().enumerate() {
+            let place = before + taken as u64 + 1;
+            let before_it = Before::of(event, &self.world);
+            let world = &mut self.world;
+            let effect = track(place, event, world, &mut self.seen, &mut self.touched)?;
+            hear(
+                &mut self.said,
+                place,
+                event,
+                &effect,
+                before_it,
+                &self.world,
+            )?;
+            put_plain(&mut self.plain, place, &effect.verdict)?;
+        }
+        Ok(())
+    }
+
+    /// The split of a trace all of whose records came. Its cost is that of dropping the world.
+    pub fn end<'a>(self, trace: &'a Trace) -> Split<'a>
+        requires { IsSplitSoFar (traced trace.now) self }
+        ensures { result ≡ traced trace.now }
+    {
+        let events = trace.events.as_slice();
+        let Splitting {
+            seen,
+            said,
+            plain,
+            ..
+        } = self;
+        Split {
+            version: trace.version,
+            events,
+            seen,
+            said,
+            plain,
+        }
+    }
+}
+
+/// What the record of a place says, where it was possible.
+fn hear(
+    said: &mut Said,
+    place: u64,
+    event: &Event,
+    effect: &Effect,
+    before: Before,
+    world: &World,
+) -> Result<(), Memory>
+    requires rising { IsStrictlyIncreasing said.old.kqueues.places.items }
+    requires one_each { length said.old.kqueues.concerned.items ≡ length said.old.kqueues.places.items }
+    ensures { OnOk result ((old : model.World counted) → before.clock ≡ old.now
+        → before.kqueue ≡ kqueue_of event.now old
+        → IsHeard place event.now effect.now old (world_of world.now) said.old said.new) }
+{
+    match effect.verdict {
+        Err(_) => Ok(()),
+        Ok(()) => said.hear(place, event, effect, before, world),
+    }
+}
+
+/// Adds the row of the record at a place, if it is impossible.
+fn put_plain(plain: &mut Vec<Row>, at: u64, verdict: &Result<(), Why>) -> Result<(), Memory>
+    ensures { OnOk result (plain.new.items ≡ plain.old.items ++ plain_row at verdict.now) }
+{
+    match verdict {
+        Ok(()) => Ok(()),
+        Err(why) => {
+            let reply = Reply::Impossible(*why);
+            plain.push(Row { at, reply }).map_err(|_| Memory)
+        }
+    }
+}
