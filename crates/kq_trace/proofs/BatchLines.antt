@@ -16,7 +16,8 @@ use Rattle.kq_trace.specs.declared.batches.Batch.{Batch}
 use Rattle.kq_trace.specs.declared.batches.Batch.TheVariants as batch
 use Rattle.kq_trace.specs.Batches.{AreReadAs, IsReadAs}
 use Rattle.kq_trace.specs.Rest.{texts}
-use Rattle.kq_trace.proofs.TraceLines.{all_read, behind_events, behind_more, none_yet}
+use Rattle.kq_trace.specs.Unread.{behind_events}
+use Rattle.kq_trace.proofs.TraceLines.{all_read, behind_more, none_yet}
 
 -- ---- lines that are cut off
 
@@ -29,6 +30,9 @@ line_cut all ahead later lines after line so_far cut added =
 
 pub few_texts : (lines : List (Bor (List ℕ))) (most : ℕ) → length lines ≤ most → length (texts lines) ≤ most
 few_texts lines most few = omega (arith, few, length-map lines (λ (line : Bor (List ℕ)). line.now))
+
+pub few_lines : (lines : List (Bor (List ℕ))) (first : ℕ) → first + length lines ≤ 2 + most_records → first + length (texts lines) ≤ 2 + most_records
+few_lines lines first few = omega (arith, few, length-map lines (λ (line : Bor (List ℕ)). line.now))
 
 -- ---- a line at a time
 

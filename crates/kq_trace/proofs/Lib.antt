@@ -15,3 +15,4 @@ pub mod LeastFault
 pub mod PutTogether
 pub mod BatchLines
 pub mod WholeTrace
+pub mod PartRead

@@ -10,12 +10,7 @@ use Rattle.kq_trace.specs.declared.fault.TraceError.{TraceError}
 use Rattle.kq_trace.specs.declared.fault.TraceError.TheVariants.{Memory as NoMemory, Bad as BadTrace}
 use Rattle.kq_trace.specs.Faults.{IsFault}
 use Rattle.kq_trace.specs.Rest.{lines_behind}
-use Rattle.kq_trace.specs.Unread.{IsFaultAhead}
-
--- what lines give that follow lines with these events
-abbrev pub behind_events : List Event → Outcome → Outcome
-behind_events before (Good version events) = Good version (before ++ events)
-behind_events before (Bad line fault) = Bad line fault
+use Rattle.kq_trace.specs.Unread.{behind_events, IsFaultAhead}
 
 -- ---- one line
 

@@ -11,9 +11,9 @@ use Rattle.kq_trace.specs.declared.fault.TraceError.{TraceError}
 use Rattle.kq_trace.specs.declared.fault.TraceError.TheVariants.{Memory as NoMemory, Bad as BadTrace}
 use Rattle.kq_trace.specs.Faults.{IsFault}
 use Rattle.kq_trace.specs.Rest.{lines_behind, texts}
-use Rattle.kq_trace.specs.Unread.{IsFaultAhead}
+use Rattle.kq_trace.specs.Unread.{behind_events, IsFaultAhead}
 use Rattle.kq_trace.proofs.PutTogether.{followed_by, lines_followed}
-use Rattle.kq_trace.proofs.TraceLines.{behind_events, empty_list}
+use Rattle.kq_trace.proofs.TraceLines.{empty_list}
 
 -- an error that is passed on
 pub error_passed : {A : Type 0} (r : Result A TraceError) (error : TraceError) (P : TraceError → Type 0)

@@ -24,10 +24,10 @@ abbrev pub AreReadAs : List (List ℕ) → List Batch → Type 0
 AreReadAs lines batches =
     (parts : List (List (List ℕ))) × (flat_map (λ part. part) parts ≡ lines) × AllZip IsReadAs parts batches
 
--- Behind a header these lines are these records.
-abbrev pub AreRecords : List (List ℕ) → List Event → Type 0
-AreRecords lines events = (version : ℕ) → read_records version 2 lines ≡ Good version events
+-- Numbered from `first`, these lines are these records.
+abbrev pub AreRecords : ℕ → List (List ℕ) → List Event → Type 0
+AreRecords first lines events = (version : ℕ) → read_records version first lines ≡ Good version events
 
--- Behind a header this is the first bad line of these. That memory is short says nothing of them.
-abbrev pub IsFaultAmong : List (List ℕ) → TraceError → Type 0
-IsFaultAmong lines error = (version : ℕ) → IsFaultAhead (read_records version 2 lines) error
+-- Numbered from `first`, this is the first bad line of these. That memory is short says nothing of them.
+abbrev pub IsFaultAmong : ℕ → List (List ℕ) → TraceError → Type 0
+IsFaultAmong first lines error = (version : ℕ) → IsFaultAhead (read_records version first lines) error

@@ -4,4 +4,5 @@ pub mod Faults
 pub mod Parts
 pub mod Rest
 pub mod Texts
+pub mod Told
 pub mod Unread

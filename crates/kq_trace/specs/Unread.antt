@@ -1,10 +1,15 @@
 -- What a reader of a trace has before it, and what reading one record more leaves of that.
-use Rattle.std.specs.Prelude.{◌≡◌, ℕ, ◌+◌, ◌≤◌, [], Option, Some, None}
+use Rattle.std.specs.Prelude.{◌≡◌, ℕ, ◌+◌, ◌≤◌, List, [], ◌++◌, length, Option, Some, None}
 use Rattle.kq_model.specs.declared.event.Event.{Event}
 use Rattle.kq_model.specs.Limits.{most_records}
 use Rattle.kq_model.specs.Reading.{Outcome, Good, Bad, with_event}
 use Rattle.kq_trace.specs.declared.fault.TraceError.{TraceError}
 use Rattle.kq_trace.specs.declared.fault.TraceError.TheVariants.{Memory, Bad as BadTrace}
+
+-- what lines give that follow lines with these events
+abbrev pub behind_events : List Event → Outcome → Outcome
+behind_events before (Good version events) = Good version (before ++ events)
+behind_events before (Bad line fault) = Bad line fault
 
 pub record Unread : Type 0 where
   -- the version that the header names
@@ -25,6 +30,13 @@ pub record IsReadOff (event : Event) (old new : Unread) : Type 0 where
 abbrev pub IsNext : Unread → Option Event → Unread → Type 0
 IsNext old (Some event) new = IsReadOff event old new
 IsNext old None new = old.meaning ≡ Good old.version []
+
+-- these records were read off the next lines, or no line is left
+pub record IsPart (events : List Event) (old new : Unread) : Type 0 where
+  pub meaning : old.meaning ≡ behind_events events new.meaning
+  pub line : new.line ≡ old.line + length events
+  pub limit : new.line ≤ 2 + most_records
+  pub last : events ≡ [] → new.meaning ≡ Good new.version []
 
 -- This is the first bad line of those ahead. That memory is short says nothing of them.
 abbrev pub IsFaultAhead : Outcome → TraceError → Type 0

@@ -1,6 +1,6 @@
 //! Lines decoded in batches, each on one of several threads, and put together in their order.
 
-ghost use Rattle.std.specs.Prelude.{◌≤◌, IfErr, IfOk, length};
+ghost use Rattle.std.specs.Prelude.{◌+◌, ◌≤◌, IfErr, IfOk, length};
 ghost use Rattle.kq_model.specs.Limits.{most_records};
 ghost use Rattle.kq_trace.specs.Batches.{AreReadAs, AreRecords, IsFaultAmong, IsReadAs};
 ghost use Rattle.kq_trace.specs.Rest.{texts};
@@ -83,12 +83,17 @@ fn batches_of<R: Threads + Sync>(
         .collect(rt, alloc)
 }
 
-/// The records of all batches in their order, or the first bad line, numbered as it stands behind a header.
-fn joined(alloc: Global, lines: &[&[u8]], batches: Vec<Batch>) -> Result<Vec<Event>, TraceError>
-    requires few { length lines.now ≤ most_records }
+/// The records of all batches in their order, or the first bad line, where lines are numbered from `first`.
+fn joined(
+    alloc: Global,
+    first: u64,
+    lines: &[&[u8]],
+    batches: Vec<Batch>,
+) -> Result<Vec<Event>, TraceError>
+    requires few { first + length lines.now ≤ 2 + most_records }
     requires read { AreReadAs (texts lines.now) batches.items }
-    ensures good { IfOk result (λ events. AreRecords (texts lines.now) events.items) }
-    ensures bad { IfErr result (IsFaultAmong (texts lines.now)) }
+    ensures good { IfOk result (λ events. AreRecords first (texts lines.now) events.items) }
+    ensures bad { IfErr result (IsFaultAmong first (texts lines.now)) }
 {
     let mut events = Vec::with_capacity(alloc, lines.len()).map_err(|_| Memory)?;
     let mut ahead = VecDeque::from(batches);
@@ -97,7 +102,7 @@ fn joined(alloc: Global, lines: &[&[u8]], batches: Vec<Batch>) -> Result<Vec<Eve
             Batch::Records(mut more) => events.append(&mut more).map_err(|_| Memory)?,
             Batch::Bad { place, fault } => {
                 return Err(TraceError::Bad {
-                    line: 2 + events.len() as u64 + place,
+                    line: first + events.len() as u64 + place,
                     fault,
                 });
             }
@@ -107,38 +112,39 @@ fn joined(alloc: Global, lines: &[&[u8]], batches: Vec<Batch>) -> Result<Vec<Eve
     Ok(events)
 }
 
-/// The records on the lines that follow a header, decoded on the calling thread as one batch, which is not copied, or the
-/// first bad one of these lines.
-fn events_alone(alloc: Global, lines: &[&[u8]]) -> Result<Vec<Event>, TraceError>
-    requires { length lines.now ≤ most_records }
-    ensures good { IfOk result (λ events. AreRecords (texts lines.now) events.items) }
-    ensures bad { IfErr result (IsFaultAmong (texts lines.now)) }
+/// The records on these lines, decoded on the calling thread as one batch, which is not copied, or the first bad one of
+/// them, where they are numbered from `first`.
+fn events_alone(alloc: Global, first: u64, lines: &[&[u8]]) -> Result<Vec<Event>, TraceError>
+    requires { first + length lines.now ≤ 2 + most_records }
+    ensures good { IfOk result (λ events. AreRecords first (texts lines.now) events.items) }
+    ensures bad { IfErr result (IsFaultAmong first (texts lines.now)) }
 {
     match batch_of(alloc, lines) {
         Batch::Records(events) => Ok(events),
         Batch::Bad { place, fault } => Err(TraceError::Bad {
-            line: 2 + place,
+            line: first + place,
             fault,
         }),
         Batch::Memory => Err(TraceError::Memory),
     }
 }
 
-/// The records on the lines that follow a header, decoded by at most so many threads, or the first bad one of these
-/// lines.
+/// The records on these lines, decoded by at most so many threads, or the first bad one of them, where they are numbered
+/// from `first`.
 pub fn events_on<R: Threads + Sync>(
     rt: &R,
     alloc: Global,
+    first: u64,
     lines: &[&[u8]],
     threads: u32,
 ) -> Result<Vec<Event>, TraceError>
-    requires { length lines.now ≤ most_records }
-    ensures good { IfOk result (λ events. AreRecords (texts lines.now) events.items) }
-    ensures bad { IfErr result (IsFaultAmong (texts lines.now)) }
+    requires { first + length lines.now ≤ 2 + most_records }
+    ensures good { IfOk result (λ events. AreRecords first (texts lines.now) events.items) }
+    ensures bad { IfErr result (IsFaultAmong first (texts lines.now)) }
 {
     if threads < 2 {
-        return events_alone(alloc, lines);
+        return events_alone(alloc, first, lines);
     }
     let batches = batches_of(rt, alloc, lines, threads).map_err(|_| Memory)?;
-    joined(alloc, lines, batches)
+    joined(alloc, first, lines, batches)
 }

@@ -16,6 +16,9 @@ use kq_model::{LineFault, Memory};
 use serde_json::Value;
 use std::alloc::Global;
 
+/// The number of the first line behind the header.
+pub const FIRST_RECORD_LINE: u64 = 2;
+
 /// The version of the format that is read.
 const VERSION: u32 = 1;
 

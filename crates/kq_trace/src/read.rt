@@ -7,7 +7,7 @@ ghost use Rattle.kq_trace.specs.Faults.{IsFault, IsLeastFault};
 use crate::TraceError;
 use crate::batches::events_on;
 use crate::decoding::{Readers, late_fault};
-use crate::header::opened;
+use crate::header::{FIRST_RECORD_LINE, opened};
 use crate::line::{first_line, lines_up_to};
 use crate::trace_reader::TraceReader;
 use kq_model::limits::MOST_RECORDS;
@@ -44,7 +44,7 @@ pub fn read_trace_with<R: AllocGlobal + Threads + Sync>(
     let alloc = rt.alloc();
     let (version, rest) = opened(alloc, bytes)?;
     let (lines, behind) = lines_up_to(alloc, rest, MOST_RECORDS)?;
-    let events = events_on(rt, alloc, lines.as_slice(), threads)?;
+    let events = events_on(rt, alloc, FIRST_RECORD_LINE, lines.as_slice(), threads)?;
     if !behind.is_empty() {
         let (line, _) = first_line(behind);
         return Err(TraceError::Bad {

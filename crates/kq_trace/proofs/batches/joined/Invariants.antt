@@ -5,7 +5,7 @@ use Rattle.kq_trace.proofs.PutTogether.{IsPutTogether}
 use Rattle.kq_trace.proofs.batches.joined.Given as goal
 
 abbrev pub invariant-batches : goal.invariant-batches
-invariant-batches l = IsPutTogether (texts l.lines) l.events.items l.ahead.items
+invariant-batches l = IsPutTogether l.first (texts l.lines) l.events.items l.ahead.items
 
 abbrev pub decreases-batches : goal.decreases-batches
 decreases-batches l = length l.ahead.items

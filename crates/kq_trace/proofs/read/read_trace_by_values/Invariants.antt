@@ -1,7 +1,7 @@
 -- The events so far stand before what the lines ahead mean.
 use Rattle.std.proofs.Common.{◌≡◌, ◌≤◌, ◌+◌, ◌-◌, length}
 use Rattle.kq_model.specs.Reading.{reading}
-use Rattle.kq_trace.proofs.TraceLines.{behind_events}
+use Rattle.kq_trace.specs.Unread.{behind_events}
 use Rattle.kq_trace.proofs.read.read_trace_by_values.Given as goal
 
 abbrev pub invariant-records : goal.invariant-records

@@ -1,0 +1,6 @@
+-- Who was told of so many events.
+use Rattle.std.specs.Prelude.{◌≡◌, ℕ, List, length}
+use Rattle.kq_model.specs.declared.event.Event.{Event}
+
+abbrev pub HasHeard : {A : Type 0} → (A → List Event → Type 0) → ℕ → A → Type 0
+HasHeard heard count it = (events : List Event) × (length events ≡ count) × heard it events

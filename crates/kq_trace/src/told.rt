@@ -1,0 +1,119 @@
+//! Reading a trace while another thread is told of what was read.
+
+ghost use Rattle.std.specs.Prelude.{◌≡◌, ◌<◌, ◌+◌, ◌^◌, ◌++◌, IfErr, IfOk, List, OnOk, length, []};
+ghost use Rattle.kq_model.specs.declared.event.Event.{Event};
+ghost use Rattle.kq_model.specs.Reading.{Good, reading};
+ghost use Rattle.kq_trace.specs.Faults.{IsFault, IsLeastFault};
+ghost use Rattle.kq_trace.specs.Told.{HasHeard};
+ghost use Rattle.kq_trace.specs.Unread.{IsFaultAhead, IsPart};
+ghost use Rattle.std.specs.Thread.{IsSync};
+
+use crate::TraceError;
+use crate::part_reader::PartReader;
+use crate::read::read_trace_with;
+use kq_model::{Event, Memory, Series, Trace};
+use std::thread::{Threads, join_mut};
+
+/// Is told of the records of a trace, one part after the other.
+pub trait Listener {
+    // These are the events that it was told of.
+    ghost heard: { Self → List Event → Type 0 };
+
+    /// The events of the records that follow so many. After Memory nothing is known.
+    fn hear(&mut self, before: u64, events: &[Event]) -> Result<(), Memory>
+        requires before { HasHeard heard before self.old }
+        requires few { before + length events.now < 2 ^ 31 }
+        ensures { OnOk result ((so_far : List Event) → length so_far ≡ before → heard self.old so_far
+            → heard self.new (so_far ++ events.now)) };
+}
+
+/// Reads the text of a trace as [`read_trace_with`](crate::read_trace_with) does, and tells the listener of its
+/// records, a part while the next one is read. So many threads are used at most, of which the calling one is the
+/// first: with 0 and 1 none is started, and the listener hears of all records at once. After an error nothing is
+/// known of the listener.
+pub fn read_trace_told<R: AllocGlobal + Threads + Sync, L: Listener + Send>(
+    rt: &R,
+    bytes: &[u8],
+    threads: u32,
+    listener: &mut L,
+) -> Result<Trace, TraceError>
+    requires { L.heard listener.old [] }
+    ensures good { IfOk result (λ trace. reading bytes.now ≡ Good trace.version trace.events) }
+    ensures told { IfOk result (λ trace. L.heard listener.new trace.events) }
+    ensures bad { IfErr result (IsFault bytes.now) }
+    ensures least { IfErr result (IsLeastFault bytes.now) }
+{
+    if threads < 2 {
+        return read_and_tell(rt, bytes, listener);
+    }
+    let mut reader = PartReader::new(rt.alloc(), bytes)?;
+    let mut part = reader.next_part(rt, threads)?;
+    let mut events = Vec::new(rt.alloc());
+    'parts: while !part.is_empty() {
+        let before = events.len() as u64;
+        let (told, next) = tell_and_read(
+            rt,
+            listener,
+            before,
+            part.as_slice(),
+            &mut reader,
+            threads - 1,
+        );
+        let next = next?;
+        told?;
+        events.append(&mut part).map_err(|_| Memory)?;
+        part = next;
+    }
+    Ok(Trace {
+        version: reader.version(),
+        events: Series::from_vec(events),
+    })
+}
+
+/// Reads a trace on the calling thread, and then tells the listener of it.
+fn read_and_tell<R: AllocGlobal + Threads + Sync, L: Listener>(
+    rt: &R,
+    bytes: &[u8],
+    listener: &mut L,
+) -> Result<Trace, TraceError>
+    requires { L.heard listener.old [] }
+    ensures good { IfOk result (λ trace. reading bytes.now ≡ Good trace.version trace.events) }
+    ensures told { IfOk result (λ trace. L.heard listener.new trace.events) }
+    ensures bad { IfErr result (IsFault bytes.now) }
+    ensures least { IfErr result (IsLeastFault bytes.now) }
+{
+    let trace = read_trace_with(rt, bytes, 1)?;
+    listener.hear(0, trace.events.as_slice())?;
+    Ok(trace)
+}
+
+/// Tells the listener of a part on a thread of its own, and meanwhile reads the next part.
+fn tell_and_read<'a, R: Threads + Sync, L: Listener + Send>(
+    rt: &R,
+    listener: &mut L,
+    before: u64,
+    events: &[Event],
+    reader: &mut PartReader<'a>,
+    threads: u32,
+) -> (Result<(), Memory>, Result<Vec<Event>, TraceError>)
+    requires before { HasHeard L.heard before listener.old }
+    requires few { before + length events.now < 2 ^ 31 }
+    ensures heard { OnOk result.0 ((so_far : List Event) → length so_far ≡ before → L.heard listener.old so_far
+        → L.heard listener.new (so_far ++ events.now)) }
+    ensures part { IfOk result.1 (λ next. IsPart next.items reader.old reader.new) }
+    ensures version { reader.new.version ≡ reader.old.version }
+    ensures bad { IfErr result.1 (IsFaultAhead reader.old.meaning) }
+{
+    let mut tell = ||
+        requires { HasHeard L.heard before listener.now × (before + length events.now < 2 ^ 31) }
+        ensures { OnOk result ((so_far : List Event) → length so_far ≡ before → L.heard listener.entry.now so_far
+            → L.heard listener.exit.now (so_far ++ events.entry.now)) }
+    { listener.hear(before, events) };
+    let mut read = ||
+        requires { IsSync R.row }
+        ensures { IfOk result (λ next. IsPart next.items reader.entry.now reader.exit.now)
+            × (reader.exit.now.version ≡ reader.entry.now.version)
+            × IfErr result (IsFaultAhead reader.entry.now.meaning) }
+    { reader.next_part(rt, threads) };
+    join_mut(rt, &mut tell, &mut read)
+}
