@@ -2,3 +2,4 @@ pub mod Places
 pub mod Runs
 pub mod ReportLines
 pub mod WrittenRows
+pub mod WrittenParts

@@ -11,7 +11,7 @@ use Rattle.kq_model.specs.Report.{call_count, calls_in, event_count, events_data
 use Rattle.kq_model.specs.Spelling.{line_text, natural}
 use Rattle.kq_model.specs.System.{row_of}
 use Rattle.kq_text.specs.Adds.{Adds}
-use Rattle.kq_merge.specs.Written.{Written, nothing_written, with_reply}
+use Rattle.kq_merge.specs.Written.{Written, nothing_written, with_reply, written}
 
 -- ---- a reply that counts as a call has a line, so there are no more calls than bytes
 
@@ -78,8 +78,11 @@ all-written (row ∷ rest) w =
 from-zero : (n : ℕ) → 0 + n ≡ n
 from-zero n = omega arith
 
-pub report-is : (rs : List Row) (records : ℕ) (w : Written) (text : List ℕ) → w ≡ with_rows rs nothing_written
+pub written-is : (rs : List Row) (w : Written) → w ≡ with_rows rs nothing_written → w ≡ written rs
+written-is rs w all = all ∙ all-written rs nothing_written
+    ∙ ap₂ (λ (c e : ℕ). record { lines = row_lines rs; calls = c; events = e }) (from-zero (call_count rs)) (from-zero (event_count rs))
+
+pub report-is : (rs : List Row) (records : ℕ) (w : Written) (text : List ℕ) → w ≡ written rs
     → text ≡ w.lines ++ last_line w.calls w.events records → text ≡ report rs records
 unfolding report
-report-is rs records w text all is = rw (is, all, all-written rs nothing_written)
-    (ap₂ (λ (c e : ℕ). row_lines rs ++ last_line c e records) (from-zero (call_count rs)) (from-zero (event_count rs)))
+report-is rs records w text all is = rw (is, all) refl

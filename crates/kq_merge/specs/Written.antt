@@ -1,7 +1,8 @@
 -- How far a report is written: the lines of the rows so far, and what the last line is to count of them.
 use Rattle.std.specs.Prelude.{ℕ, ◌+◌, List, [], ◌++◌}
 use Rattle.kq_model.specs.declared.reply.Reply.{Reply}
-use Rattle.kq_model.specs.Report.{calls_in, events_in, reply_line}
+use Rattle.kq_model.specs.declared.row.Row.{Row}
+use Rattle.kq_model.specs.Report.{call_count, calls_in, event_count, events_in, reply_line, row_lines}
 
 pub record Written : Type 0 where
   pub lines : List ℕ
@@ -18,3 +19,15 @@ with_reply at reply w = record {
   calls = w.calls + calls_in reply;
   events = w.events + events_in reply;
 }
+
+-- the lines of the one, and behind them those of the other
+abbrev pub with_part : Written → Written → Written
+with_part w later = record {
+  lines = w.lines ++ later.lines;
+  calls = w.calls + later.calls;
+  events = w.events + later.events;
+}
+
+-- the lines of these rows, and what the last line is to count of them
+abbrev pub written : List Row → Written
+written rows = record { lines = row_lines rows; calls = call_count rows; events = event_count rows }

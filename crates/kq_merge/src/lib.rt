@@ -6,4 +6,4 @@ mod report;
 mod run;
 
 pub use merging::merge;
-pub use report::{ReportText, report_text};
+pub use report::{ReportText, report_text, report_text_with};

@@ -4,10 +4,13 @@ ghost use Rattle.kq_model.specs.Report.{report};
 
 mod event;
 mod line;
+mod parts;
 mod text;
 
+use crate::report::parts::{text_by, text_of};
 use kq_model::{Memory, Row};
 use std::alloc::Global;
+use std::thread::Threads;
 pub use text::ReportText;
 
 /// The report of these rows, out of so many records: a line for each row, and a last line that
@@ -15,9 +18,18 @@ pub use text::ReportText;
 pub fn report_text(alloc: Global, rows: &[Row], records: u64) -> Result<Vec<u8>, Memory>
     ensures { IfOk result (λ text. text.items ≡ report rows.now records) }
 {
-    let mut text = ReportText::new(alloc);
-    for row in rows {
-        text = text.with_row(row.at, &row.reply)?;
-    }
-    text.end(records)
+    text_of(alloc, rows)?.end(records)
+}
+
+/// The same, written by at most so many threads, of which the calling one is the first; 0 and 1
+/// start none. `rt` gives the memory and the threads; a thread that does not start is no error.
+pub fn report_text_with<R: AllocGlobal + Threads + Sync>(
+    rt: &R,
+    rows: &[Row],
+    records: u64,
+    threads: u32,
+) -> Result<Vec<u8>, Memory>
+    ensures { IfOk result (λ text. text.items ≡ report rows.now records) }
+{
+    text_by(rt, rows, threads)?.end(records)
 }

@@ -7,7 +7,7 @@ ghost use Rattle.kqsim.specs.Workers.{IsThreadCount};
 use crate::fault::Fault;
 use crate::workers::is_thread_count;
 use kq_live::Book;
-use kq_merge::report_text;
+use kq_merge::report_text_with;
 use kq_model::Trace;
 use kq_serve::{Always, Gate, Open, ServeError, Starts};
 use kq_trace::{TraceError, read_trace_with, write_trace};
@@ -84,7 +84,8 @@ pub fn live_report<R: AllocGlobal + Threads + Wait + Sync>(
 {
     let book = book_of(rt, bytes, threads)?;
     let rows = book.rows().map_err(|_| Fault::Memory)?;
-    report_text(rt.alloc(), rows.as_slice(), book.len() as u64).map_err(|_| Fault::Memory)
+    let records = book.len() as u64;
+    report_text_with(rt, rows.as_slice(), records, threads).map_err(|_| Fault::Memory)
 }
 
 /// The canonical text of the trace of such a book.

@@ -3,7 +3,7 @@
 use crate::watch::Watch;
 use anyhow::Context;
 use kq_history::Split;
-use kq_merge::{merge, report_text};
+use kq_merge::{merge, report_text_with};
 use kq_replay::{Open, replay_all};
 use kq_trace::read_trace_with;
 use std::alloc::AllocError;
@@ -30,7 +30,7 @@ pub fn parts<R: AllocGlobal + Clock + CpuClock + Threads + Wait + Sync, O: Write
     let rows = merge(rt.alloc(), kqueues, split.plain_rows()).map_err(|_| AllocError)?;
     watch.lap(rt, "merge", times)?;
     let records = trace.events.len() as u64;
-    let report = report_text(rt.alloc(), rows.as_slice(), records).map_err(|_| AllocError)?;
+    let report = report_text_with(rt, rows.as_slice(), records, workers).map_err(|_| AllocError)?;
     out.write_all(report.as_slice())?;
     watch.lap(rt, "write", times)?;
     Ok(())

@@ -1,6 +1,6 @@
 ghost use Rattle.std.specs.Prelude.{◌≡◌, ◌≤◌, ◌<◌, ◌^◌, ◌++◌, [], IfOk};
 ghost use Rattle.kq_model.specs.Report.{calls_in, events_in, last_line};
-ghost use Rattle.kq_merge.specs.Written.{nothing_written, with_reply};
+ghost use Rattle.kq_merge.specs.Written.{nothing_written, with_part, with_reply};
 
 use super::line::{put_counts, put_reply};
 use kq_model::{Memory, Reply};
@@ -46,6 +46,21 @@ impl ReportText {
         put_reply(&mut self.lines, at, reply)?;
         self.calls += calls_in(reply);
         self.events += u128::from(events_in(reply));
+        Ok(self)
+    }
+
+    /// The text with the lines that were written of the rows behind it.
+    pub(crate) fn with_part(mut self, part: ReportText) -> Result<Self, Memory>
+        ensures { IfOk result (λ text. text ≡ with_part self part) }
+    {
+        let ReportText {
+            mut lines,
+            calls,
+            events,
+        } = part;
+        self.lines.append(&mut lines).map_err(|_| Memory)?;
+        self.calls += calls;
+        self.events += events;
         Ok(self)
     }
 

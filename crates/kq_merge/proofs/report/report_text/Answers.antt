@@ -1,18 +1,7 @@
-use Rattle.std.proofs.Common.{◌∙◌, ◌+◌, drop, ap, sym}
 use Rattle.std.proofs.lemmas.Result.{IfOk-weaker}
-use Rattle.kq_merge.proofs.WrittenRows.{with_rows, with_rows-step, with_rows-end, report-is}
+use Rattle.kq_merge.proofs.WrittenRows.{report-is}
 use Rattle.kq_merge.proofs.report.report_text.Goals as goal
 
-pub loop-row-preserved : goal.loop-row-preserved
-loop-row-preserved c =
-    let rows = c.args.rows.now in
-    let i = c.loop-row.row-index in
-    ap (with_rows (drop (i + 1) rows)) c.in_ok-text.ensures
-    ∙ with_rows-step rows i c.row-item.result c.loop-row.text c.loop-row-test.true c.row-item.is
-    ∙ c.loop-row.invariant
-
 pub returns : goal.returns
-returns c =
-    let rows = c.args.rows.now in
-    let all = sym (with_rows-end rows c.loop-row.row-index c.loop-row.text c.loop-row-test.false) ∙ c.loop-row.invariant in
-    IfOk-weaker c.end.result _ _ (λ text is. report-is rows c.args.records c.loop-row.text text.items all is) c.end.ensures
+returns c = IfOk-weaker c.end.result _ _
+    (λ text is. report-is c.args.rows.now c.args.records _ text.items c.in_ok-text_of.ensures is) c.end.ensures
