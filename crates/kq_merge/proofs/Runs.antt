@@ -1,13 +1,12 @@
 -- Two runs joined, and a queue of runs.
-use Rattle.std.proofs.Common.{◌≡◌, ◌∙◌, ◌≤◌, ℕ, true, false, List, [], ◌∷◌, ◌++◌, map, Option, None, Some, refl, sym, ap, subst, arith, append-nil, append_assoc, Result, Ok, Err}
+use Rattle.std.proofs.Common.{◌≡◌, ◌∙◌, ◌≤◌, ℕ, true, false, List, [], ◌∷◌, ◌++◌, map, Option, None, Some, refl, sym, ap, subst, arith, append-nil, append_assoc}
 use Rattle.std.specs.List.{All, flat_map}
 use Rattle.std.specs.List.Sorted.{IsPermutation}
 use Rattle.std.specs.Option.{IfSome, option_to_list}
-use Rattle.std.specs.Result.{IfOk}
 use Rattle.std.proofs.lemmas.Bool.Decides.{nat_tests}
 use Rattle.std.proofs.lemmas.List.Elements.{All-append, All-cons, All-weaker}
 use Rattle.std.proofs.lemmas.List.Concat.{flat_map-append}
-use Rattle.std.proofs.lemmas.List.Sorted.{All-permutation, IsPermutation-append_comm, IsPermutation-append_left, IsPermutation-middle, IsPermutation-pop_more, IsPermutation-refl, IsPermutation-trans}
+use Rattle.std.proofs.lemmas.List.Sorted.{All-permutation, IsPermutation-append, IsPermutation-append_comm, IsPermutation-append_left, IsPermutation-middle, IsPermutation-pop_more, IsPermutation-refl, IsPermutation-trans}
 use Rattle.kq_model.specs.declared.row.Row.{Row}
 use Rattle.kq_model.specs.declared.rows.Rows.{Rows}
 use Rattle.kq_merge.specs.ByPlace.{NeverFall, rows_in}
@@ -98,7 +97,15 @@ queued (k ∷ ks) plain runs before is last =
     rw (last, is) (ap (λ l. k.rows ++ l) (queued ks plain (map (λ (r : Rows). r.rows) ks ++ plain ∷ []) (map (λ (r : Rows). r.rows) ks) refl refl)
     ∙ sym (append_assoc k.rows (flat_map (λ (r : Rows). r.rows) ks) plain))
 
--- what follows from two clauses on one result
-pub if_both : {T E : Type 0} (r : Result T E) (P Q R : T → Type 0) → ((x : T) → P x → Q x → R x) → IfOk r P → IfOk r Q → IfOk r R
-if_both (Ok x) P Q R follows p q = follows x p q
-if_both (Err e) P Q R follows p q = tt
+-- ---- runs cut in two, each half joined to one run, and these two joined
+
+pub halves_joined : (runs near far : List (List Row)) (first second run : List Row) → near ++ far ≡ runs
+    → IsPermutation (flat_map (λ r. r) near) first → IsPermutation (flat_map (λ r. r) far) second → IsPermutation (first ++ second) run
+    → IsPermutation (flat_map (λ r. r) runs) run
+halves_joined runs near far first second run cut one other whole =
+    let before = flat_map (λ (r : List Row). r) near in
+    let behind = flat_map (λ (r : List Row). r) far in
+    let all : before ++ behind ≡ flat_map (λ (r : List Row). r) runs = sym (flat_map-append (λ (r : List Row). r) near far) ∙ ap (flat_map (λ (r : List Row). r)) cut in
+    subst (λ l. IsPermutation l run) all (
+    IsPermutation-trans (before ++ behind) (first ++ second) run (IsPermutation-append before first behind second one other) whole
+    )

@@ -5,5 +5,5 @@ mod merging;
 mod report;
 mod run;
 
-pub use merging::merge;
+pub use merging::{merge, merge_with};
 pub use report::{ReportText, report_text, report_text_with};

@@ -1,12 +1,15 @@
 ghost use Rattle.std.specs.Prelude.{◌≡◌, ◌++◌, IfOk};
 ghost use Rattle.std.specs.List.{All, flat_map};
 ghost use Rattle.std.specs.List.Sorted.{IsPermutation};
+ghost use Rattle.std.specs.Thread.{IsSync};
 ghost use Rattle.kq_merge.specs.ByPlace.{IsOnlyOrder, NeverFall, rows_in};
 
 use crate::run::{Run, join};
 use kq_model::{Memory, Row, Rows};
 use std::alloc::Global;
 use std::collections::VecDeque;
+use std::thread;
+use std::thread::Threads;
 
 /// All rows of these kqueues and the plain rows, each once, by place. The rows of each kqueue, and
 /// the plain ones, stand by place already. Rows of kqueues move; the plain ones are copied.
@@ -20,6 +23,38 @@ pub fn merge(alloc: Global, kqueues: Vec<Rows>, plain: &[Row]) -> Result<Vec<Row
     ensures by_place { IfOk result (λ rows. NeverFall rows.items) }
     ensures only { IfOk result (λ rows. IsOnlyOrder (rows_in kqueues.items plain.now) rows.items) }
 {
+    let runs = runs_of(alloc, kqueues, plain)?;
+    Ok(join_all(alloc, runs)?.into_vec())
+}
+
+/// The same, put together by at most so many threads, of which the calling one is the first; 0 and 1
+/// start none. `rt` gives the memory and the threads; a thread that does not start is no error.
+///
+/// Each thread joins as many kqueues as any other. The last two runs are joined by the calling
+/// thread alone, which moves each row once more, as does each join of two threads' runs before.
+pub fn merge_with<R: AllocGlobal + Threads + Sync>(
+    rt: &R,
+    kqueues: Vec<Rows>,
+    plain: &[Row],
+    threads: u32,
+) -> Result<Vec<Row>, Memory>
+    requires kqueues { All (λ kqueue. NeverFall kqueue.rows) kqueues.items }
+    requires plain { NeverFall plain.now }
+    ensures same { IfOk result (λ rows. IsPermutation (rows_in kqueues.items plain.now) rows.items) }
+    ensures by_place { IfOk result (λ rows. NeverFall rows.items) }
+    ensures only { IfOk result (λ rows. IsOnlyOrder (rows_in kqueues.items plain.now) rows.items) }
+{
+    let alloc = rt.alloc();
+    let runs = runs_of(alloc, kqueues, plain)?;
+    Ok(join_by(rt, alloc, runs, threads)?.into_vec())
+}
+
+/// A run of each kqueue, in their order, and behind them one of the plain rows.
+fn runs_of(alloc: Global, kqueues: Vec<Rows>, plain: &[Row]) -> Result<VecDeque<Run>, Memory>
+    requires kqueues { All (λ kqueue. NeverFall kqueue.rows) kqueues.items }
+    requires plain { NeverFall plain.now }
+    ensures { IfOk result (λ runs. flat_map (λ run. run) runs.items ≡ rows_in kqueues.items plain.now) }
+{
     let mut runs = VecDeque::new(alloc);
     for kqueue in kqueues {
         let run = Run::from_vec(kqueue.rows.into_vec());
@@ -27,7 +62,7 @@ pub fn merge(alloc: Global, kqueues: Vec<Rows>, plain: &[Row]) -> Result<Vec<Row
     }
     let run = Run::from_vec(copied(alloc, plain)?);
     runs.push_back(run).map_err(|_| Memory)?;
-    join_all(alloc, runs)
+    Ok(runs)
 }
 
 fn copied(alloc: Global, rows: &[Row]) -> Result<Vec<Row>, Memory>
@@ -40,18 +75,45 @@ fn copied(alloc: Global, rows: &[Row]) -> Result<Vec<Row>, Memory>
     Ok(copies)
 }
 
+/// Joins the runs by at most so many threads: each half by half of them.
+#[cycle(halves)]
+fn join_by<R: Threads + Sync>(
+    rt: &R,
+    alloc: Global,
+    mut front: VecDeque<Run>,
+    threads: u32,
+) -> Result<Run, Memory>
+    ensures { IfOk result (λ run. IsPermutation (flat_map (λ r. r) front.items) run) }
+{
+    if threads < 2 || front.len() < 2 {
+        return join_all(alloc, front);
+    }
+    let back = front.split_off(front.len() / 2).map_err(|_| Memory)?;
+    let few = threads / 2;
+    let many = threads - few;
+    let near = move || -> Result<Run, Memory>
+        requires { IsSync R.row }
+        ensures { IfOk result (λ run. IsPermutation (flat_map (λ r. r) front.items) run) }
+    { join_by(rt, alloc, front, few) };
+    let far = move || -> Result<Run, Memory>
+        requires { IsSync R.row }
+        ensures { IfOk result (λ run. IsPermutation (flat_map (λ r. r) back.items) run) }
+    { join_by(rt, alloc, back, many) };
+    let (first, second) = thread::join(rt, near, far);
+    join(alloc, first?, second?)
+}
+
 /// Joins the two runs at the front and puts the new one at the back, until one is left. So every
 /// run takes part once before any takes part again.
-fn join_all(alloc: Global, mut runs: VecDeque<Run>) -> Result<Vec<Row>, Memory>
-    ensures same { IfOk result (λ rows. IsPermutation (flat_map (λ run. run) runs.items) rows.items) }
-    ensures by_place { IfOk result (λ rows. NeverFall rows.items) }
+fn join_all(alloc: Global, mut runs: VecDeque<Run>) -> Result<Run, Memory>
+    ensures { IfOk result (λ run. IsPermutation (flat_map (λ r. r) runs.items) run) }
 {
     while let Some(first) = runs.pop_front() {
         let Some(second) = runs.pop_front() else {
-            return Ok(first.into_vec());
+            return Ok(first);
         };
         runs.push_back(join(alloc, first, second)?)
             .map_err(|_| Memory)?;
     }
-    Ok(Vec::new(alloc))
+    Ok(Run::from_vec(Vec::new(alloc)))
 }

@@ -56,10 +56,16 @@ impl Run {
     }
 }
 
-/// One run of the rows of two.
+/// One run of the rows of two. Where one has none, it is the other, and no row moves.
 pub fn join(alloc: Global, mut first: Run, mut second: Run) -> Result<Run, Memory>
     ensures { IfOk result (λ run. IsPermutation (first ++ second) run) }
 {
+    if first.rows.is_empty() {
+        return Ok(second);
+    }
+    if second.rows.is_empty() {
+        return Ok(first);
+    }
     let room = first.rows.len().saturating_add(second.rows.len());
     let mut rows = VecDeque::with_capacity(alloc, room).map_err(|_| Memory)?;
     while let Some(row) = take_earliest(&mut first, &mut second) {

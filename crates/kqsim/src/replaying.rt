@@ -6,7 +6,7 @@ ghost use Rattle.kqsim.specs.Workers.{IsWorkerCount};
 use crate::fault::Fault;
 use crate::workers::is_worker_count;
 use kq_history::Split;
-use kq_merge::{merge, report_text_with};
+use kq_merge::{merge_with, report_text_with};
 use kq_model::Trace;
 use kq_replay::{Always, Gate, Open, RunFault, Starts, replay_all_with};
 use kq_trace::{TraceError, read_trace_with};
@@ -77,7 +77,7 @@ fn trace_report<R: AllocGlobal + Threads + Wait + Sync, G: Gate + Sync, S: Start
         Err(RunFault::Memory) => return Err(Fault::Memory),
         Err(RunFault::Spawn) => return Err(Fault::Spawn),
     };
-    let rows = merge(alloc, kqueues, split.plain_rows()).map_err(|_| Fault::Memory)?;
+    let rows = merge_with(rt, kqueues, split.plain_rows(), workers).map_err(|_| Fault::Memory)?;
     let records = trace.events.len() as u64;
     report_text_with(rt, rows.as_slice(), records, workers).map_err(|_| Fault::Memory)
 }

@@ -1,6 +1,6 @@
 //! Rows written in parts, each part on one of several threads, and put together in their order.
 
-ghost use Rattle.std.specs.Prelude.{◌≡◌, IfOk};
+ghost use Rattle.std.specs.Prelude.{◌≡◌, ◌<◌, IfOk};
 ghost use Rattle.kq_merge.specs.Parts.{AreWritten, IsWritten};
 ghost use Rattle.kq_merge.specs.Written.{written};
 
@@ -11,8 +11,8 @@ use std::alloc::{AllocError, Global};
 use std::collections::VecDeque;
 use std::thread::Threads;
 
-/// How many rows are written together.
-const PART_ROWS: usize = 1024;
+/// How few rows are worth a thread.
+const LEAST_ROWS: usize = 1024;
 
 /// The lines of these rows, and what the last line counts of them.
 pub fn text_of(alloc: Global, rows: &[Row]) -> Result<ReportText, Memory>
@@ -25,15 +25,15 @@ pub fn text_of(alloc: Global, rows: &[Row]) -> Result<ReportText, Memory>
     Ok(text)
 }
 
-/// How few parts of so many rows are worth a thread, where there may be so many threads. Lists are cut in halves, so
-/// what is cut as often as a thread can become two gives no more pieces than threads.
-fn least_parts(rows: usize, threads: u32) -> usize {
-    let parts = rows / PART_ROWS + 1;
-    parts >> threads.max(1).ilog2()
+/// How many rows each of so many threads writes.
+fn rows_each(rows: usize, threads: u32) -> usize
+    ensures { 0 < result }
+{
+    rows.div_ceil(threads.max(1) as usize).max(LEAST_ROWS)
 }
 
-/// Writes the rows in parts, by at most so many threads and by no more than suit the processors. Parts whose thread does
-/// not start are written on the thread that would have started it.
+/// Writes the rows in parts, one for each of at most so many threads, and those of no more threads than suit the
+/// processors. A part whose thread does not start is written on the thread that would have started it.
 fn parts_of<R: Threads + Sync>(
     rt: &R,
     alloc: Global,
@@ -42,8 +42,7 @@ fn parts_of<R: Threads + Sync>(
 ) -> Result<Vec<Result<ReportText, Memory>>, AllocError>
     ensures { IfOk result (λ parts. AreWritten rows.now parts.items) }
 {
-    rows.par_chunks(PART_ROWS)
-        .with_min_len(least_parts(rows.len(), threads))
+    rows.par_chunks(rows_each(rows.len(), threads))
         .map(
             |part: &[Row]| -> Result<ReportText, Memory>
                 ensures { IsWritten part.now result }
