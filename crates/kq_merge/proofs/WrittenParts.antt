@@ -65,6 +65,23 @@ nothing_yet rows ahead all = record {
   rest = all;
 }
 
+first_part : (rows : List Row) (text : Written) (ahead : List (Result Written Memory)) (parts : List (List Row))
+    → flat_map (λ p. p) parts ≡ rows → AllZip IsWritten parts (Ok text ∷ ahead) → IsPutTogether rows text ahead
+first_part rows text ahead [] whole each = absurd each
+first_part rows text ahead (here ∷ parts) whole each =
+    let later = flat_map (λ p. p) parts in
+    record {
+      before = here;
+      behind = later;
+      cut = sym whole;
+      done = each.0;
+      rest = (parts, refl, each.1);
+    }
+
+-- the first part begins the text
+pub put_first : (rows : List Row) (text : Written) (ahead : List (Result Written Memory)) → AreWritten rows (Ok text ∷ ahead) → IsPutTogether rows text ahead
+put_first rows text ahead all = first_part rows text ahead all.0 all.1 all.2
+
 part_behind : (rows : List Row) (text : Written) (before behind : List Row) (part : Written) (ahead : List (Result Written Memory)) (parts : List (List Row))
     → rows ≡ before ++ behind → text ≡ written before → flat_map (λ p. p) parts ≡ behind → AllZip IsWritten parts (Ok part ∷ ahead)
     → IsPutTogether rows (with_part text part) ahead

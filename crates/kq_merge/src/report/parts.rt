@@ -25,15 +25,16 @@ pub fn text_of(alloc: Global, rows: &[Row]) -> Result<ReportText, Memory>
     Ok(text)
 }
 
-/// How many rows each of so many threads writes.
+/// How many rows each of so many threads writes. The few that are left over are a part of their own, which the thread of
+/// the part before it writes.
 fn rows_each(rows: usize, threads: u32) -> usize
     ensures { 0 < result }
 {
-    rows.div_ceil(threads.max(1) as usize).max(LEAST_ROWS)
+    (rows / threads.max(1) as usize).max(LEAST_ROWS)
 }
 
-/// Writes the rows in parts, one for each of at most so many threads, and those of no more threads than suit the
-/// processors. A part whose thread does not start is written on the thread that would have started it.
+/// Writes the rows in parts, by at most so many threads and by no more than suit the processors. A part whose thread does
+/// not start is written on the thread that would have started it.
 fn parts_of<R: Threads + Sync>(
     rt: &R,
     alloc: Global,
@@ -64,8 +65,11 @@ pub fn text_by<R: AllocGlobal + Threads + Sync>(
         return text_of(alloc, rows);
     }
     let parts = parts_of(rt, alloc, rows, threads).map_err(|_| Memory)?;
-    let mut text = ReportText::new(alloc);
     let mut ahead = VecDeque::from(parts);
+    let Some(first) = ahead.pop_front() else {
+        return Ok(ReportText::new(alloc));
+    };
+    let mut text = first?;
     'parts: while let Some(part) = ahead.pop_front() {
         text = text.with_part(part?)?;
     }
