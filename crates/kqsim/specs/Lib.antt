@@ -4,3 +4,4 @@ pub mod Workers
 pub mod Replay
 pub mod Living
 pub mod Run
+pub mod Splitter

@@ -10,6 +10,7 @@ mod order;
 mod output;
 mod replaying;
 mod running;
+mod splitter;
 #[cfg(test)]
 mod tests;
 mod workers;

@@ -1,15 +1,16 @@
 ghost use Rattle.std.specs.Prelude.{◌≡◌, ◌↔◌, IfErr, IfOk, IsErrOf};
 ghost use Rattle.kq_model.specs.Report.{report_of};
 ghost use Rattle.kqsim.specs.Replay.{IsFault, IsReplayFault, IsReport};
+ghost use Rattle.kqsim.specs.Splitter.{HasSplit};
 ghost use Rattle.kqsim.specs.Workers.{IsWorkerCount};
 
 use crate::fault::Fault;
+use crate::splitter::Splitter;
 use crate::workers::is_worker_count;
-use kq_history::Split;
 use kq_merge::{merge_with, report_text_with};
 use kq_model::Trace;
 use kq_replay::{Always, Gate, Open, RunFault, Starts, replay_all_with};
-use kq_trace::{TraceError, read_trace_with};
+use kq_trace::{TraceError, read_trace_told};
 use std::sync::Wait;
 use std::thread::Threads;
 
@@ -49,28 +50,30 @@ pub fn replay_with<R: AllocGlobal + Threads + Wait + Sync, G: Gate + Sync, S: St
     if !is_worker_count(workers) {
         return Err(Fault::Usage);
     }
-    match read_trace_with(rt, bytes, workers) {
-        Ok(trace) => trace_report(rt, &trace, workers, gate, starts),
+    let mut splitter = Splitter::new(rt.alloc()).map_err(|_| Fault::Memory)?;
+    match read_trace_told(rt, bytes, workers, &mut splitter) {
+        Ok(trace) => trace_report(rt, &trace, splitter, workers, gate, starts),
         Err(TraceError::Memory) => Err(Fault::Memory),
         Err(TraceError::Bad { line, fault }) => Err(Fault::Trace { line, fault }),
     }
 }
 
-/// The report of a trace: each of its kqueues is replayed alone, and their rows are put together
+/// The report of a trace that was split: each of its kqueues is replayed alone, and their rows are put together
 /// by place with those of impossible records.
 fn trace_report<R: AllocGlobal + Threads + Wait + Sync, G: Gate + Sync, S: Starts>(
     rt: &R,
     trace: &Trace,
+    splitter: Splitter,
     workers: u32,
     gate: &G,
     starts: &S,
 ) -> Result<Vec<u8>, Fault>
-    requires { IsWorkerCount workers }
+    requires workers { IsWorkerCount workers }
+    requires split { HasSplit splitter trace.now.events }
     ensures report { IfOk result (λ text. text.items ≡ report_of trace.now.version trace.now.events) }
     ensures fault { IfErr result (IsReplayFault trace.now.version trace.now.events workers) }
 {
-    let alloc = rt.alloc();
-    let split = Split::of(alloc, trace).map_err(|_| Fault::Memory)?;
+    let split = splitter.end(trace);
     let kqueues = match replay_all_with(rt, &split, workers, gate, starts) {
         Ok(kqueues) => kqueues,
         Err(RunFault::Workers) => return Err(Fault::Usage),

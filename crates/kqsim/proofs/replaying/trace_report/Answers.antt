@@ -9,24 +9,23 @@ use Rattle.kqsim.proofs.ReplayedTraces.{given, kqueues_never_fall, plain_never_f
 use Rattle.kqsim.proofs.replaying.trace_report.Goals as goal
 
 pub merge_with-requires-clause-kqueues : goal.merge_with-requires-clause-kqueues
-merge_with-requires-clause-kqueues g c = kqueues_never_fall c.in_ok-split.split c.in-Ok.kqueues.items c.in-Ok.ensures.ok
+merge_with-requires-clause-kqueues g c = λ lifetimes lives. kqueues_never_fall c.end-split.result c.in-Ok.kqueues.items c.in-Ok.ensures.ok
 
 pub merge_with-requires-clause-plain : goal.merge_with-requires-clause-plain
-merge_with-requires-clause-plain g c =
-    subst NeverFall (sym c.plain_rows.ensures) (plain_never_falls c.in_ok-split.split c.in-Ok.kqueues.items c.in-Ok.ensures.ok)
+merge_with-requires-clause-plain g c = λ lifetimes lives.
+    subst NeverFall (sym c.plain_rows.ensures) (plain_never_falls c.end-split.result c.in-Ok.kqueues.items c.in-Ok.ensures.ok)
 
 pub returns-clause-report : goal.returns-clause-report
 returns-clause-report g c =
-    let split = c.in_ok-split.split in
+    let split = c.end-split.result in
     let kqueues = c.in-Ok.kqueues.items in
     let rows = c.in_ok-rows.rows.items in
-    let is_traced : split ≡ traced c.args.trace.now =
-    given (λ (t : Traced). t ≡ traced c.args.trace.now) c.of.result _ split c.in_ok-split.ensures.cases refl c.of.ensures in
+    let is_traced : split ≡ traced c.args.trace.now = c.end-split.ensures in
     let order = given (λ merged. IsOnlyOrder (rows_in kqueues c.plain_rows.result.now) merged.items) c.merge_with.result _ c.in_ok-rows.rows
     c.in_ok-rows.ensures.cases refl c.merge_with.ensures.only in
     let only = subst (λ (plain : List Row). IsOnlyOrder (rows_in kqueues plain) rows) c.plain_rows.ensures order in
-    let counts : c.len.result ≡ length split.events = c.len.ensures ∙ ap (λ (t : Traced). length t.events) (sym is_traced) in
-    let written : IfOk c.map_err-3.result (λ text. text.items ≡ report rows c.len.result) = search rules in
-    IfOk-weaker c.map_err-3.result _ _
+    let counts : c.len-records.result ≡ length split.events = c.len-records.ensures ∙ ap (λ (t : Traced). length t.events) (sym is_traced) in
+    let written : IfOk c.map_err-2.result (λ text. text.items ≡ report rows c.len-records.result) = search rules in
+    IfOk-weaker c.map_err-2.result _ _
     (λ text is. subst (λ (t : Traced). text.items ≡ report_of t.version t.events) is_traced
-    (report_again split kqueues rows c.len.result text.items c.in-Ok.ensures.ok only counts is)) written
+    (report_again split kqueues rows c.len-records.result text.items c.in-Ok.ensures.ok only counts is)) written

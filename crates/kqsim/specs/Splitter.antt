@@ -1,0 +1,9 @@
+-- Whose records were split so far.
+use Rattle.std.specs.Prelude.{ℕ, List}
+use Rattle.kq_model.specs.declared.event.Event.{Event}
+use Rattle.kq_history.specs.Splitting.{IsSplitSoFar}
+use Rattle.kqsim.specs.declared.splitter.Splitter.{Splitter}
+
+-- those of these events, and of no others
+abbrev pub HasSplit : Splitter → List Event → Type 0
+HasSplit s events = (version : ℕ) → IsSplitSoFar (record { version = version; events = events }) s.splitting
