@@ -17,11 +17,11 @@ fn read(alloc: Global, flags: EvFlags) -> Result<Series<Change>, Memory> {
     Ok(Series::from_vec(changes))
 }
 
-fn kqueue(pid: u32, fd: u32) -> Event {
+pub fn kqueue(pid: u32, fd: u32) -> Event {
     Event::Kqueue { pid, fd }
 }
 
-fn socket(fd: u32) -> Event {
+pub fn socket(fd: u32) -> Event {
     Event::Socket {
         pid: 1,
         fd,
@@ -31,7 +31,7 @@ fn socket(fd: u32) -> Event {
 }
 
 /// A call that reads number 3 from now on, or no more.
-fn reads(alloc: Global, pid: u32, fd: u32, flags: EvFlags, room: u32) -> Result<Event, Memory> {
+pub fn reads(alloc: Global, pid: u32, fd: u32, flags: EvFlags, room: u32) -> Result<Event, Memory> {
     Ok(Event::Kevent {
         pid,
         fd,
@@ -41,7 +41,7 @@ fn reads(alloc: Global, pid: u32, fd: u32, flags: EvFlags, room: u32) -> Result<
 }
 
 /// A call for one event.
-fn poll(alloc: Global, pid: u32, fd: u32) -> Event {
+pub fn poll(alloc: Global, pid: u32, fd: u32) -> Event {
     Event::Kevent {
         pid,
         fd,

@@ -7,6 +7,8 @@ mod dup;
 #[cfg(test)]
 mod gates;
 #[cfg(test)]
+mod lists;
+#[cfg(test)]
 mod places;
 #[cfg(test)]
 mod private;

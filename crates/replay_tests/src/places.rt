@@ -1,15 +1,19 @@
 //! At each place a split shows what the world shows there, in a trace with records of every kind.
+ghost use Rattle.std.specs.Prelude.{◌+◌, IfOk, OnOk};
+ghost use Rattle.kq_model.specs.CountedWorld.{IsCountedWorld};
+ghost use Rattle.kq_process.specs.World.{world_of};
+
 use kq_filters::Views;
-use kq_history::Split;
+use kq_history::{HistoryAt, Split};
 use kq_model::{Event, Memory, Mode, Note, Series, Side, Target, Trace};
 use kq_process::World;
 use std::alloc::Global;
 use std::process::Abort;
 use std::test::Fail;
 
-/// Processes, their descriptors and the clock.
-fn descriptors(events: &mut Vec<Event>) -> Result<(), Memory> {
-    let some = [
+/// A process with a kqueue and sockets.
+fn sockets() -> [Event; 9] {
+    [
         Event::Proc { pid: 1 },
         Event::Kqueue { pid: 1, fd: 9 },
         Event::Socket {
@@ -43,6 +47,12 @@ fn descriptors(events: &mut Vec<Event>) -> Result<(), Memory> {
             rcv: 10,
             snd: 10,
         },
+    ]
+}
+
+/// A pipe, a child, and numbers that take others' descriptors.
+fn copies() -> [Event; 7] {
+    [
         Event::Pipe {
             pid: 1,
             rfd: 7,
@@ -71,6 +81,12 @@ fn descriptors(events: &mut Vec<Event>) -> Result<(), Memory> {
             fd: 3,
             to: 3,
         },
+    ]
+}
+
+/// The clock, and the socket that the child has under a number twice given.
+fn sent() -> [Event; 6] {
+    [
         Event::Clock { ns: 5000 },
         Event::Tx {
             pid: 2,
@@ -99,16 +115,12 @@ fn descriptors(events: &mut Vec<Event>) -> Result<(), Memory> {
             side: Side::Write,
             error: 54,
         },
-    ];
-    for event in some {
-        events.push(event).map_err(|_| Memory)?;
-    }
-    Ok(())
+    ]
 }
 
-/// Files, and then the ends of both processes.
-fn files(events: &mut Vec<Event>) -> Result<(), Memory> {
-    let some = [
+/// A file, opened by both.
+fn files() -> [Event; 8] {
+    [
         Event::File { file: 4, size: 10 },
         Event::Open {
             pid: 1,
@@ -143,6 +155,12 @@ fn files(events: &mut Vec<Event>) -> Result<(), Memory> {
             n: 3,
         },
         Event::Truncate { file: 4, size: 2 },
+    ]
+}
+
+/// The file goes, signals, and the ends of both processes.
+fn ends() -> [Event; 11] {
+    [
         Event::Note {
             file: 4,
             note: Note::Delete,
@@ -164,11 +182,50 @@ fn files(events: &mut Vec<Event>) -> Result<(), Memory> {
         Event::Fork { pid: 1, child: 3 },
         Event::Exit { pid: 1, status: 0 },
         Event::Proc { pid: 1 },
-    ];
-    for event in some {
-        events.push(event).map_err(|_| Memory)?;
+    ]
+}
+
+fn add(events: &mut Vec<Event>, event: Event) -> Result<(), Memory> {
+    events.push(event).map_err(|_| Memory)
+}
+
+fn whole(rt: &impl Abort, alloc: Global) -> Result<Trace, Memory> {
+    let mut events = Vec::new(alloc);
+    for event in sockets() {
+        add(&mut events, event)?;
     }
-    Ok(())
+    for event in copies() {
+        add(&mut events, event)?;
+    }
+    for event in sent() {
+        add(&mut events, event)?;
+    }
+    for event in files() {
+        add(&mut events, event)?;
+    }
+    for event in ends() {
+        add(&mut events, event)?;
+    }
+    assert!(rt; events.len() < 100);
+    Ok(Trace {
+        version: 1,
+        events: Series::from_vec(events),
+    })
+}
+
+fn assert_descriptor(rt: &impl Abort, history: &HistoryAt, world: &World, pid: u32, number: u32) {
+    assert_eq!(rt;
+        history.descriptor(pid, number),
+        world.descriptor(pid, number)
+    );
+}
+
+fn assert_view(rt: &impl Abort, history: &HistoryAt, world: &World, target: Target) {
+    assert_eq!(rt; history.view(target), world.view(target));
+}
+
+fn assert_now(rt: &impl Abort, history: &HistoryAt, world: &World) {
+    assert_eq!(rt; history.now(), world.now());
 }
 
 /// What was seen after a place is what the world says then.
@@ -176,51 +233,62 @@ fn assert_seen(rt: &impl Abort, split: &Split, place: u64, world: &World) {
     let history = split.at(place);
     for pid in 0..5 {
         for number in 0..14 {
-            assert_eq!(rt;
-                history.descriptor(pid, number),
-                world.descriptor(pid, number)
-            );
+            assert_descriptor(rt, &history, world, pid, number);
         }
-        let process = Target::Process(pid);
-        assert_eq!(rt; history.view(process), world.view(process));
-        let file = Target::File(pid);
-        assert_eq!(rt; history.view(file), world.view(file));
+        assert_view(rt, &history, world, Target::Process(pid));
+        assert_view(rt, &history, world, Target::File(pid));
     }
     for object in 0..45 {
-        for target in [
-            Target::Socket(object),
-            Target::Pipe(object),
-            Target::Open(object),
-        ] {
-            assert_eq!(rt; history.view(target), world.view(target));
-        }
+        assert_view(rt, &history, world, Target::Socket(object));
+        assert_view(rt, &history, world, Target::Pipe(object));
+        assert_view(rt, &history, world, Target::Open(object));
     }
-    assert_eq!(rt; history.now(), world.now());
+    assert_now(rt, &history, world);
+}
+
+/// The world before the first record.
+fn unborn(alloc: Global) -> Result<World, Memory>
+    ensures { IfOk result (λ world. IsCountedWorld 1 (world_of world)) }
+{
+    World::new(alloc)
+}
+
+/// Whether the record of this place, which comes next, is possible.
+fn step(world: &mut World, place: u64, event: &Event) -> Result<bool, Memory>
+    requires { IsCountedWorld place (world_of world.old) }
+    ensures { OnOk result (IsCountedWorld (place + 1) (world_of world.new)) }
+{
+    let effect = world.apply(place, event)?;
+    Ok(effect.verdict.is_ok())
+}
+
+/// The world goes over the records, and is what was seen after each. Returns how many are impossible.
+fn assert_seen_at_each(
+    rt: &impl Abort,
+    split: &Split,
+    world: &mut World,
+    events: &[Event],
+) -> Result<usize, Memory>
+    requires { IsCountedWorld 1 (world_of world.old) }
+{
+    let mut impossible = 0;
+    for (before, event) in events.iter().enumerate() {
+        let place = before as u64 + 1;
+        if !step(world, place, event)? {
+            impossible += 1;
+        }
+        assert_seen(rt, split, place, world);
+    }
+    Ok(impossible)
 }
 
 #[test]
 fn at_each_place_the_world_is_seen(rt: HostRuntime) -> Result<(), Fail> {
-    let mut events = Vec::new(rt.alloc());
-    descriptors(&mut events)?;
-    files(&mut events)?;
-    assert!(rt; events.len() < 100);
-    let trace = Trace {
-        version: 1,
-        events: Series::from_vec(events),
-    };
+    let trace = whole(&rt, rt.alloc())?;
     let split = Split::of(rt.alloc(), &trace)?;
-    let mut world = World::new(rt.alloc())?;
+    let mut world = unborn(rt.alloc())?;
     assert_seen(&rt, &split, 0, &world);
-    let mut impossible = 0;
-    let events = trace.events.as_slice();
-    for (before, event) in events.iter().enumerate() {
-        let place = before as u64 + 1;
-        let effect = world.apply(place, event)?;
-        if effect.verdict.is_err() {
-            impossible += 1;
-        }
-        assert_seen(&rt, &split, place, &world);
-    }
+    let impossible = assert_seen_at_each(&rt, &split, &mut world, trace.events.as_slice())?;
     assert_eq!(rt; split.plain_rows().len(), impossible);
     assert_eq!(rt; impossible, 2);
     Ok(())

@@ -1,6 +1,7 @@
 //! The rows of each kqueue, by any number of workers.
 use crate::dup::{dup_over, nothing};
 use crate::gates::{Meeting, Without};
+use crate::lists::born;
 use kq_history::Split;
 use kq_model::{Memory, Reply, Rows};
 use kq_replay::{Always, Gate, Open, Replay, RunFault, Starts, replay_all, replay_all_with};
@@ -55,18 +56,30 @@ fn all_come<R: Threads + Wait + Sync, G: Gate + Sync, S: Starts>(
     Ok(kqueues.len() == 3 && told.as_slice() == EXPECTED.as_slice())
 }
 
+/// What the rows tell that these items of a kqueue give.
+fn told_alone(alloc: Global, items: &impl Replay) -> Result<Vec<Told>, Memory> {
+    let rows = [items.replay()?];
+    told(alloc, rows.as_slice())
+}
+
 #[test]
-fn one_kqueue_gives_its_rows(rt: HostRuntime) -> Result<(), Fail> {
+fn the_kqueues_stand_by_birth(rt: HostRuntime) -> Result<(), Fail> {
     let trace = dup_over(rt.alloc())?;
     let split = Split::of(rt.alloc(), &trace)?;
     let kqueues = split.kqueues();
     assert_eq!(rt; kqueues, [2, 3, 8].as_slice());
     assert_eq!(rt; kqueues.len(), 3);
-    let whole = [split.private(kqueues[2])?.replay()?];
-    let whole = told(rt.alloc(), whole.as_slice())?;
+    Ok(())
+}
+
+#[test]
+fn one_kqueue_gives_its_rows(rt: HostRuntime) -> Result<(), Fail> {
+    let trace = dup_over(rt.alloc())?;
+    let split = Split::of(rt.alloc(), &trace)?;
+    let kqueue = born(&rt, &split, 2);
+    let whole = told_alone(rt.alloc(), &split.private(kqueue)?)?;
     assert_eq!(rt; whole.as_slice(), &EXPECTED[5..]);
-    let answering = [split.answering(kqueues[2])?.replay()?];
-    let answering = told(rt.alloc(), answering.as_slice())?;
+    let answering = told_alone(rt.alloc(), &split.answering(kqueue)?)?;
     assert_eq!(rt; answering.as_slice(), &EXPECTED[5..]);
     Ok(())
 }

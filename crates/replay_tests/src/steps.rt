@@ -1,4 +1,5 @@
 //! The steps of the clock in the list of a kqueue with a timer.
+use crate::lists::{assert_answering, assert_private, born};
 use kq_history::{Item, Split, What};
 use kq_model::{Change, EvFlags, Event, Filter, Memory, Series, Trace};
 use std::alloc::Global;
@@ -63,16 +64,9 @@ fn clocked(place: u64, from: u64, to: u64) -> Item {
     }
 }
 
-#[test]
-fn steps_in_a_row_are_one(rt: HostRuntime) -> Result<(), Fail> {
-    let trace = ticking(rt.alloc())?;
-    let split = Split::of(rt.alloc(), &trace)?;
-    assert!(rt; split.plain_rows().is_empty());
-    let kqueues = split.kqueues();
-    assert_eq!(rt; kqueues, [2].as_slice());
-    assert_eq!(rt; kqueues.len(), 1);
-    let private = split.private(kqueues[0])?;
-    let whole = [
+/// Each step of the clock, as it came.
+fn each_step() -> [Item; 9] {
+    [
         clocked(3, 0, 10),
         called(4),
         clocked(5, 10, 20),
@@ -82,17 +76,38 @@ fn steps_in_a_row_are_one(rt: HostRuntime) -> Result<(), Fail> {
         called(10),
         called(11),
         clocked(12, 50, 90),
-    ];
-    assert_eq!(rt; private.items(), whole.as_slice());
-    let answering = split.answering(kqueues[0])?;
-    let shown = [
+    ]
+}
+
+/// The steps between calls, joined.
+fn joined() -> [Item; 6] {
+    [
         called(4),
         clocked(6, 10, 40),
         called(7),
         clocked(8, 40, 50),
         called(10),
         called(11),
-    ];
-    assert_eq!(rt; answering.items(), shown.as_slice());
+    ]
+}
+
+#[test]
+fn one_kqueue_is_made(rt: HostRuntime) -> Result<(), Fail> {
+    let trace = ticking(rt.alloc())?;
+    let split = Split::of(rt.alloc(), &trace)?;
+    assert!(rt; split.plain_rows().is_empty());
+    let kqueues = split.kqueues();
+    assert_eq!(rt; kqueues, [2].as_slice());
+    assert_eq!(rt; kqueues.len(), 1);
+    Ok(())
+}
+
+#[test]
+fn steps_in_a_row_are_one(rt: HostRuntime) -> Result<(), Fail> {
+    let trace = ticking(rt.alloc())?;
+    let split = Split::of(rt.alloc(), &trace)?;
+    let kqueue = born(&rt, &split, 0);
+    assert_private(&rt, &split, kqueue, each_step().as_slice())?;
+    assert_answering(&rt, &split, kqueue, joined().as_slice())?;
     Ok(())
 }
