@@ -41,37 +41,57 @@ impl Views for OneFile {
     }
 }
 
-/// The file is empty, and a kqueue watches it for bytes to read.
-fn watching(alloc: Global) -> Result<Kq, Memory> {
-    let mut kq = Kq::new(alloc, 1);
-    let read = Change {
+fn read() -> Change {
+    Change {
         ident: 3,
         filter: Filter::Read,
         flags: EvFlags::ADD,
         fflags: 0,
         datum: 0,
         udata: 0,
-    };
-    kq.call(&[read], 0, &OneFile { size: 0 })?;
+    }
+}
+
+/// One kevent call while the file has this size.
+fn called(kq: &mut Kq, changes: &[Change], room: u32, size: i64) -> Result<Reply, Memory> {
+    kq.call(changes, room, &OneFile { size })
+}
+
+/// The file is empty, and a kqueue watches it for bytes to read.
+fn watching(alloc: Global) -> Result<Kq, Memory> {
+    let mut kq = Kq::new(alloc, 1);
+    called(&mut kq, &[read()], 0, 0)?;
     Ok(kq)
 }
 
-/// How many events a poll returns once the file has 5 bytes, where these were the hints of the write, looked at in this
-/// world.
-fn returned(alloc: Global, world: &OneFile) -> Result<usize, Memory> {
-    let mut kq = watching(alloc)?;
-    kq.notify(&[(Target::Open(7), Hint::Readable)], world);
-    match kq.call(&[], 4, &OneFile { size: 5 })? {
+/// The hints of a write to the file, looked at where it has this size.
+fn notify(kq: &mut Kq, size: i64) {
+    kq.notify(&[(Target::Open(7), Hint::Readable)], &OneFile { size });
+}
+
+/// How many events a poll returns once the file has 5 bytes.
+fn polled(kq: &mut Kq) -> Result<usize, Memory> {
+    match called(kq, &[], 4, 5)? {
         Reply::Events(events) => Ok(events.len()),
         _ => Ok(0),
     }
 }
 
+/// How many events such a poll returns after a write whose hints were looked at where the file had this size.
+fn returned(alloc: Global, size: i64) -> Result<usize, Memory> {
+    let mut kq = watching(alloc)?;
+    notify(&mut kq, size);
+    polled(&mut kq)
+}
+
 #[test]
 fn a_write_is_heard_in_the_world_after_it(rt: HostRuntime) -> Result<(), Fail> {
-    let after = returned(rt.alloc(), &OneFile { size: 5 }).map_err(|_| "memory")?;
-    assert_eq!(rt; after, 1);
-    let before = returned(rt.alloc(), &OneFile { size: 0 }).map_err(|_| "memory")?;
-    assert_eq!(rt; before, 0);
+    assert_eq!(rt; returned(rt.alloc(), 5)?, 1);
+    Ok(())
+}
+
+#[test]
+fn a_write_is_not_heard_in_the_world_before_it(rt: HostRuntime) -> Result<(), Fail> {
+    assert_eq!(rt; returned(rt.alloc(), 0)?, 0);
     Ok(())
 }

@@ -1,15 +1,20 @@
 //! A kqueue and its knotes as a library: room is there where memory is.
 use kq_kevent::Kq;
 use kq_knote::{Knote, Knotes, Tally};
-use kq_model::{Filter, Key, Target};
+use kq_model::{Filter, Key, Memory, Target};
+use std::alloc::Global;
 use std::test::Fail;
+
+fn key(ident: u64) -> Key {
+    Key {
+        ident,
+        filter: Filter::User,
+    }
+}
 
 fn user(ident: u64) -> Knote {
     Knote {
-        key: Key {
-            ident,
-            filter: Filter::User,
-        },
+        key: key(ident),
         target: Some(Target::Own),
         fflags: 0,
         datum: 0,
@@ -27,14 +32,24 @@ fn user(ident: u64) -> Knote {
     }
 }
 
-#[test]
+/// This knote alone.
 #[tactic(auto, unfolding(kq_model::specs::Knote::find_knote))]
+fn attached(alloc: Global, knote: Knote) -> Result<Knotes, Memory> {
+    let mut knotes = Knotes::new(alloc);
+    knotes.reserve(1)?;
+    knotes.attach(knote);
+    Ok(knotes)
+}
+
+fn bits_under(knotes: &Knotes, key: Key) -> Option<u32> {
+    let knote = knotes.find(key)?;
+    Some(knote.bits)
+}
+
+#[test]
 fn an_attached_knote_is_got(rt: HostRuntime) -> Result<(), Fail> {
-    let mut knotes = Knotes::new(rt.alloc());
-    knotes.reserve(1).map_err(|_| "memory")?;
-    knotes.attach(user(7));
-    let key = user(7).key;
-    assert_eq!(rt; knotes.find(key).map(|knote| knote.bits), Some(5));
+    let knotes = attached(rt.alloc(), user(7))?;
+    assert_eq!(rt; bits_under(&knotes, key(7)), Some(5));
     assert_eq!(rt; knotes.len(), 1);
     Ok(())
 }
@@ -42,6 +57,6 @@ fn an_attached_knote_is_got(rt: HostRuntime) -> Result<(), Fail> {
 #[test]
 fn a_kqueue_has_room_where_memory_is(rt: HostRuntime) -> Result<(), Fail> {
     let mut kq = Kq::new(rt.alloc(), 1);
-    kq.reserve(1).map_err(|_| "memory")?;
+    kq.reserve(1)?;
     Ok(())
 }

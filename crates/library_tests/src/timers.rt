@@ -1,12 +1,14 @@
 //! Timers of one kqueue, in a world that is a clock alone.
-ghost use Rattle.std.specs.Prelude.{None};
+ghost use Rattle.std.specs.Prelude.{◌≤◌, None};
 ghost use Rattle.kq_model.specs.Views as world;
+ghost use Rattle.kq_model.specs.Ticks.{last_moment};
 
 use bitflags::Flags;
 use kq_filters::Views;
 use kq_kevent::Kq;
-use kq_model::{Change, EvFlags, Filter, Memory, Named, Reply, Target, View};
+use kq_model::{Change, Errno, EvFlags, Filter, Memory, Named, Reply, Target, View};
 use std::alloc::Global;
+use std::process::Abort;
 use std::test::Fail;
 
 /// A world of which nothing is seen but its clock, in nanoseconds.
@@ -30,21 +32,53 @@ impl Views for ClockAlone {
 }
 
 /// An ADD of a timer of so many milliseconds.
-fn timer(ident: u64, flags: EvFlags, milliseconds: i64) -> Change {
+fn timer(ident: u64, milliseconds: i64) -> Change {
     Change {
         ident,
         filter: Filter::Timer,
-        flags: flags.union(EvFlags::ADD),
+        flags: EvFlags::ADD,
         fflags: 0,
         datum: milliseconds,
         udata: 0,
     }
 }
 
+fn oneshot(ident: u64, milliseconds: i64) -> Change {
+    Change {
+        flags: EvFlags::ONESHOT.union(EvFlags::ADD),
+        ..timer(ident, milliseconds)
+    }
+}
+
+/// The same with these flags of the filter: 8 has the number count nanoseconds, and 16 makes it a moment.
+fn flagged(fflags: u32, timer: Change) -> Change {
+    Change { fflags, ..timer }
+}
+
+/// One kevent call at this moment.
+fn called(kqueue: &mut Kq, changes: &[Change], room: u32, now: u64) -> Result<Reply, Memory> {
+    kqueue.call(changes, room, &ClockAlone(now))
+}
+
+/// A kqueue with these timers, which start at 0.
+fn started(alloc: Global, timers: &[Change]) -> Result<Kq, Memory> {
+    let mut kqueue = Kq::new(alloc, 1);
+    called(&mut kqueue, timers, 0, 0)?;
+    Ok(kqueue)
+}
+
+/// The clock goes on.
+fn pass(kqueue: &mut Kq, from: u64, to: u64)
+    requires ordered { from ≤ to }
+    requires within { to ≤ last_moment }
+{
+    kqueue.clock(from, to);
+}
+
 /// The timers that a poll at this moment returns, each with the number of its expirations.
 fn polled(alloc: Global, kqueue: &mut Kq, now: u64) -> Result<Vec<(u64, i64)>, Memory> {
     let mut found = Vec::new(alloc);
-    if let Reply::Events(events) = kqueue.call(&[], 4, &ClockAlone(now))? {
+    if let Reply::Events(events) = called(kqueue, &[], 4, now)? {
         for event in events.as_slice() {
             found.push((event.ident, event.datum)).map_err(|_| Memory)?;
         }
@@ -52,92 +86,77 @@ fn polled(alloc: Global, kqueue: &mut Kq, now: u64) -> Result<Vec<(u64, i64)>, M
     Ok(found)
 }
 
-fn none() -> EvFlags {
-    EvFlags::from_bits_retain(0)
+fn assert_polled(
+    rt: &impl Abort,
+    alloc: Global,
+    kqueue: &mut Kq,
+    now: u64,
+    expected: &[(u64, i64)],
+) {
+    let found = polled(alloc, kqueue, now).expect(rt, "memory");
+    assert_eq!(rt; found.as_slice(), expected);
 }
 
 #[test]
 fn timers_come_in_the_order_of_their_first_expirations(rt: HostRuntime) -> Result<(), Fail> {
-    let mut kqueue = Kq::new(rt.alloc(), 1);
-    let changes = [timer(1, none(), 3), timer(2, none(), 2)];
-    kqueue
-        .call(&changes, 0, &ClockAlone(0))
-        .map_err(|_| "memory")?;
-    kqueue.clock(0, 6_000_000);
-    let found = polled(rt.alloc(), &mut kqueue, 6_000_000).map_err(|_| "memory")?;
-    assert_eq!(rt; found.as_slice(), [(2, 3), (1, 2)].as_slice());
-    let found = polled(rt.alloc(), &mut kqueue, 6_000_000).map_err(|_| "memory")?;
-    assert_eq!(rt; found.len(), 0);
+    let mut kqueue = started(rt.alloc(), &[timer(1, 3), timer(2, 2)])?;
+    pass(&mut kqueue, 0, 6_000_000);
+    assert_polled(&rt, rt.alloc(), &mut kqueue, 6_000_000, &[(2, 3), (1, 2)]);
+    assert_polled(&rt, rt.alloc(), &mut kqueue, 6_000_000, &[]);
     Ok(())
+}
+
+/// The clock stands at 3 milliseconds, when a timer of 2 milliseconds was added again.
+fn added_again(alloc: Global) -> Result<Kq, Memory> {
+    let add = [timer(1, 2)];
+    let mut kqueue = started(alloc, &add)?;
+    pass(&mut kqueue, 0, 3_000_000);
+    called(&mut kqueue, &add, 0, 3_000_000)?;
+    Ok(kqueue)
 }
 
 #[test]
 fn a_timer_that_is_added_again_starts_anew(rt: HostRuntime) -> Result<(), Fail> {
-    let mut kqueue = Kq::new(rt.alloc(), 1);
-    let add = [timer(1, none(), 2)];
-    kqueue.call(&add, 0, &ClockAlone(0)).map_err(|_| "memory")?;
-    kqueue.clock(0, 3_000_000);
-    kqueue
-        .call(&add, 0, &ClockAlone(3_000_000))
-        .map_err(|_| "memory")?;
-    let found = polled(rt.alloc(), &mut kqueue, 3_000_000).map_err(|_| "memory")?;
-    assert_eq!(rt; found.len(), 0);
-    kqueue.clock(3_000_000, 5_000_000);
-    let found = polled(rt.alloc(), &mut kqueue, 5_000_000).map_err(|_| "memory")?;
-    assert_eq!(rt; found.as_slice(), [(1, 1)].as_slice());
+    let mut kqueue = added_again(rt.alloc())?;
+    assert_polled(&rt, rt.alloc(), &mut kqueue, 3_000_000, &[]);
+    pass(&mut kqueue, 3_000_000, 5_000_000);
+    assert_polled(&rt, rt.alloc(), &mut kqueue, 5_000_000, &[(1, 1)]);
     Ok(())
 }
 
 #[test]
 fn a_timer_with_oneshot_expires_once(rt: HostRuntime) -> Result<(), Fail> {
-    let mut kqueue = Kq::new(rt.alloc(), 1);
-    let add = [timer(2, EvFlags::ONESHOT, 2)];
-    kqueue.call(&add, 0, &ClockAlone(0)).map_err(|_| "memory")?;
-    kqueue.clock(0, 1_999_999);
-    let found = polled(rt.alloc(), &mut kqueue, 1_999_999).map_err(|_| "memory")?;
-    assert_eq!(rt; found.len(), 0);
-    kqueue.clock(1_999_999, 14_000_000);
-    let found = polled(rt.alloc(), &mut kqueue, 14_000_000).map_err(|_| "memory")?;
-    assert_eq!(rt; found.as_slice(), [(2, 1)].as_slice());
+    let mut kqueue = started(rt.alloc(), &[oneshot(2, 2)])?;
+    pass(&mut kqueue, 0, 1_999_999);
+    assert_polled(&rt, rt.alloc(), &mut kqueue, 1_999_999, &[]);
+    pass(&mut kqueue, 1_999_999, 14_000_000);
+    assert_polled(&rt, rt.alloc(), &mut kqueue, 14_000_000, &[(2, 1)]);
     Ok(())
+}
+
+/// Timers of 3 and 2 milliseconds and of a nanosecond.
+fn three_timers() -> [Change; 3] {
+    [timer(1, 3), timer(2, 2), flagged(8, timer(3, 1))]
 }
 
 #[test]
 fn a_huge_step_is_counted(rt: HostRuntime) -> Result<(), Fail> {
-    let mut kqueue = Kq::new(rt.alloc(), 1);
-    let nanosecond = Change {
-        fflags: 8,
-        ..timer(3, none(), 1)
-    };
-    let changes = [timer(1, none(), 3), timer(2, none(), 2), nanosecond];
-    kqueue
-        .call(&changes, 0, &ClockAlone(0))
-        .map_err(|_| "memory")?;
+    let mut kqueue = started(rt.alloc(), &three_timers())?;
     let last = i64::MAX as u64;
-    kqueue.clock(0, last);
-    let found = polled(rt.alloc(), &mut kqueue, last).map_err(|_| "memory")?;
+    pass(&mut kqueue, 0, last);
     let expected = [
         (3, i64::MAX),
         (2, 4_611_686_018_427),
         (1, 3_074_457_345_618),
     ];
-    assert_eq!(rt; found.as_slice(), expected.as_slice());
+    assert_polled(&rt, rt.alloc(), &mut kqueue, last, &expected);
     Ok(())
 }
 
 #[test]
 fn an_absolute_timer_is_refused(rt: HostRuntime) -> Result<(), Fail> {
     let mut kqueue = Kq::new(rt.alloc(), 1);
-    let absolute = Change {
-        fflags: 16,
-        ..timer(1, none(), 7)
-    };
-    let reply = kqueue
-        .call(&[absolute], 0, &ClockAlone(5_000_000))
-        .map_err(|_| "memory")?;
-    assert_eq!(rt;
-        matches!(reply, Reply::Failed(kq_model::Errno::EINVAL)),
-        true
-    );
+    let reply = called(&mut kqueue, &[flagged(16, timer(1, 7))], 0, 5_000_000)?;
+    assert_eq!(rt; matches!(reply, Reply::Failed(Errno::EINVAL)), true);
     Ok(())
 }

@@ -21,23 +21,29 @@ fn played(alloc: Global, events: &[Event]) -> Result<World, Memory>
     Ok(world)
 }
 
+fn a_socket_listens() -> [Event; 4] {
+    [
+        Event::Proc { pid: 1 },
+        Event::Socket {
+            pid: 1,
+            fd: 3,
+            rcv: 100,
+            snd: 100,
+        },
+        Event::Listen {
+            pid: 1,
+            fd: 3,
+            backlog: 2,
+        },
+        Event::Arrive { pid: 1, fd: 3 },
+    ]
+}
+
 /// A process has a socket, where one connection waits and one more may.
 fn listening(alloc: Global) -> Result<World, Memory>
     ensures { IfOk result (λ w. IsCountedWorld 5 (world_of w)) }
 {
-    let socket = Event::Socket {
-        pid: 1,
-        fd: 3,
-        rcv: 100,
-        snd: 100,
-    };
-    let listen = Event::Listen {
-        pid: 1,
-        fd: 3,
-        backlog: 2,
-    };
-    let arrive = Event::Arrive { pid: 1, fd: 3 };
-    played(alloc, &[Event::Proc { pid: 1 }, socket, listen, arrive])
+    played(alloc, &a_socket_listens())
 }
 
 /// A file was made too.
@@ -50,106 +56,160 @@ fn with_file(alloc: Global) -> Result<World, Memory>
 }
 
 /// The record was possible, closed these numbers and gave these hints.
-fn assert_done(rt: &impl Abort, effect: &Effect, closed: &[(u32, u32)], hints: &[(Target, Hint)]) {
+fn assert_effect(
+    rt: &impl Abort,
+    effect: Result<Effect, Memory>,
+    closed: &[(u32, u32)],
+    hints: &[(Target, Hint)],
+) {
+    let effect = effect.expect(rt, "memory");
     assert!(rt; effect.verdict.is_ok());
     assert_eq!(rt; effect.closed.as_slice(), closed);
     assert_eq!(rt; effect.hints.as_slice(), hints);
 }
 
+/// The record was possible, closed nothing and gave no hint.
+fn assert_quiet(rt: &impl Abort, effect: Result<Effect, Memory>) {
+    assert_effect(rt, effect, &[], &[]);
+}
+
+/// The record was possible, closed nothing and gave this hint.
+fn assert_told(rt: &impl Abort, effect: Result<Effect, Memory>, target: Target, hint: Hint) {
+    assert_effect(rt, effect, &[], &[(target, hint)]);
+}
+
+fn assert_seen(rt: &impl Abort, world: &World, target: Target, expected: View) {
+    assert_eq!(rt; world.view(target), Some(expected));
+}
+
+/// The number of process 1 names this.
+fn assert_named(rt: &impl Abort, world: &World, number: u32, expected: Named) {
+    assert_eq!(rt; world.descriptor(1, number), Some(expected));
+}
+
 #[test]
-fn an_effect_tells_its_hints(rt: HostRuntime) -> Result<(), Fail> {
-    let hints = [
-        (Target::Pipe(2), Hint::Writable),
-        (Target::Pipe(2), Hint::Readable),
-    ];
-    let told = Effect::told(rt.alloc(), Target::Pipe(2), Hint::Writable)?;
-    assert_done(&rt, &told, &[], &hints[..1]);
-    assert_done(&rt, &Effect::telling(rt.alloc(), &hints)?, &[], &hints);
-    Ok(())
+fn an_effect_tells_its_hint(rt: HostRuntime) {
+    let pipe = Target::Pipe(2);
+    let told = Effect::told(rt.alloc(), pipe, Hint::Writable);
+    assert_told(&rt, told, pipe, Hint::Writable);
+}
+
+#[test]
+fn an_effect_tells_its_hints(rt: HostRuntime) {
+    let pipe = Target::Pipe(2);
+    let hints = [(pipe, Hint::Writable), (pipe, Hint::Readable)];
+    assert_effect(&rt, Effect::telling(rt.alloc(), &hints), &[], &hints);
+}
+
+/// Process 1 starts, and forks process 2.
+fn assert_started(rt: &impl Abort, world: &mut World) {
+    assert_quiet(rt, world.proc(1));
+    let forked = world.fork(1, 2);
+    assert_told(rt, forked, Target::Process(1), Hint::Note(NOTE_FORK));
+}
+
+/// Process 2 runs another program, and gets a signal.
+fn assert_runs(rt: &impl Abort, world: &World) {
+    let executed = world.exec(2);
+    assert_told(rt, executed, Target::Process(2), Hint::Note(NOTE_EXEC));
+    let signal = Target::Signal { pid: 2, signal: 30 };
+    assert_told(rt, world.signal(2, 30), signal, Hint::Delivered);
+}
+
+/// Process 2 exits with the status 7.
+fn assert_exits(rt: &impl Abort, world: &mut World) {
+    let process = Target::Process(2);
+    let exited = world.exit(2, 7);
+    assert_told(rt, exited, process, Hint::Note(NOTE_EXIT));
+    assert_seen(rt, world, process, View::Process { exited: Some(7) });
 }
 
 #[test]
 fn processes_start_and_end(rt: HostRuntime) -> Result<(), Fail> {
     let mut world = World::new(rt.alloc())?;
-    assert_done(&rt, &world.proc(1)?, &[], &[]);
-    let forked = (Target::Process(1), Hint::Note(NOTE_FORK));
-    assert_done(&rt, &world.fork(1, 2)?, &[], &[forked]);
-    let executed = (Target::Process(2), Hint::Note(NOTE_EXEC));
-    assert_done(&rt, &world.exec(2)?, &[], &[executed]);
-    let signal = Target::Signal { pid: 2, signal: 30 };
-    assert_done(
-        &rt,
-        &world.signal(2, 30)?,
-        &[],
-        &[(signal, Hint::Delivered)],
-    );
-    let exited = (Target::Process(2), Hint::Note(NOTE_EXIT));
-    assert_done(&rt, &world.exit(2, 7)?, &[], &[exited]);
-    let view = View::Process { exited: Some(7) };
-    assert_eq!(rt; world.view(Target::Process(2)), Some(view));
+    assert_started(&rt, &mut world);
+    assert_runs(&rt, &world);
+    assert_exits(&rt, &mut world);
     Ok(())
+}
+
+/// A new kqueue is number 9.
+fn assert_kqueue_named(rt: &impl Abort, world: &mut World) {
+    assert_quiet(rt, world.kqueue(5, 1, 9));
+    assert_named(rt, world, 9, Named::Kqueue(5));
+}
+
+/// The socket of number 3 becomes number 9 too, which is closed before.
+fn assert_duplicated(rt: &impl Abort, world: &mut World) {
+    assert_effect(rt, world.dup(1, 3, 9), &[(1, 9)], &[]);
+    assert_named(rt, world, 9, Named::Socket(2));
+}
+
+/// Number 3 is closed, and the socket stays.
+fn assert_closed(rt: &impl Abort, world: &mut World) {
+    assert_effect(rt, world.close(1, 3), &[(1, 3)], &[]);
+    assert_seen(rt, world, Target::Socket(2), View::Listen { pending: 1 });
 }
 
 #[test]
 fn numbers_are_shared_and_closed(rt: HostRuntime) -> Result<(), Fail> {
     let mut world = listening(rt.alloc())?;
-    assert_done(&rt, &world.kqueue(5, 1, 9)?, &[], &[]);
-    assert_eq!(rt; world.descriptor(1, 9), Some(Named::Kqueue(5)));
-    assert_done(&rt, &world.dup(1, 3, 9)?, &[(1, 9)], &[]);
-    assert_eq!(rt; world.descriptor(1, 9), Some(Named::Socket(2)));
-    assert_done(&rt, &world.close(1, 3)?, &[(1, 3)], &[]);
-    assert_eq!(rt;
-        world.view(Target::Socket(2)),
-        Some(View::Listen { pending: 1 })
-    );
+    assert_kqueue_named(&rt, &mut world);
+    assert_duplicated(&rt, &mut world);
+    assert_closed(&rt, &mut world);
     Ok(())
 }
 
 #[test]
 fn a_socket_is_named(rt: HostRuntime) -> Result<(), Fail> {
     let mut world = listening(rt.alloc())?;
-    assert_done(&rt, &world.socket(5, 1, 4, 100, 100)?, &[], &[]);
-    assert_eq!(rt; world.descriptor(1, 4), Some(Named::Socket(5)));
+    assert_quiet(&rt, world.socket(5, 1, 4, 100, 100));
+    assert_named(&rt, &world, 4, Named::Socket(5));
     Ok(())
 }
 
 #[test]
 fn a_connection_is_accepted(rt: HostRuntime) -> Result<(), Fail> {
     let mut world = listening(rt.alloc())?;
-    assert_done(&rt, &world.accept(5, 1, 3, 4, 10, 10)?, &[], &[]);
-    assert_eq!(rt; world.descriptor(1, 4), Some(Named::Socket(5)));
+    assert_quiet(&rt, world.accept(5, 1, 3, 4, 10, 10));
+    assert_named(&rt, &world, 4, Named::Socket(5));
     Ok(())
 }
 
 #[test]
 fn a_pipe_is_named(rt: HostRuntime) -> Result<(), Fail> {
     let mut world = listening(rt.alloc())?;
-    assert_done(&rt, &world.pipe(5, 1, 4, 6, 10)?, &[], &[]);
-    assert_eq!(rt; world.descriptor(1, 6), Some(Named::PipeWrite(5)));
+    assert_quiet(&rt, world.pipe(5, 1, 4, 6, 10));
+    assert_named(&rt, &world, 6, Named::PipeWrite(5));
     Ok(())
 }
 
 #[test]
 fn a_connection_arrives(rt: HostRuntime) -> Result<(), Fail> {
-    let hint = (Target::Socket(2), Hint::Readable);
     let mut world = listening(rt.alloc())?;
-    assert_done(
-        &rt,
-        &world.apply(5, &Event::Arrive { pid: 1, fd: 3 })?,
-        &[],
-        &[hint],
-    );
+    let arrived = world.apply(5, &Event::Arrive { pid: 1, fd: 3 });
+    assert_told(&rt, arrived, Target::Socket(2), Hint::Readable);
+    Ok(())
+}
+
+#[test]
+fn a_connection_arrives_by_its_number(rt: HostRuntime) -> Result<(), Fail> {
     let mut world = listening(rt.alloc())?;
-    assert_done(&rt, &world.use_object(5, 1, 3, Use::Arrive)?, &[], &[hint]);
+    let arrived = world.use_object(5, 1, 3, Use::Arrive);
+    assert_told(&rt, arrived, Target::Socket(2), Hint::Readable);
     Ok(())
 }
 
 #[test]
 fn a_file_is_opened(rt: HostRuntime) -> Result<(), Fail> {
     let mut world = with_file(rt.alloc())?;
-    let opened = (Target::File(8), Hint::Note(NOTE_OPEN));
-    assert_done(&rt, &world.open(6, 1, 4, 8, Mode::Read)?, &[], &[opened]);
-    let view = View::Open { size: 7, offset: 0 };
-    assert_eq!(rt; world.view(Target::Open(6)), Some(view));
+    let opened = world.open(6, 1, 4, 8, Mode::Read);
+    assert_told(&rt, opened, Target::File(8), Hint::Note(NOTE_OPEN));
+    assert_seen(
+        &rt,
+        &world,
+        Target::Open(6),
+        View::Open { size: 7, offset: 0 },
+    );
     Ok(())
 }
