@@ -4,12 +4,15 @@ mod refusals;
 mod runs;
 mod tries;
 
-ghost use Rattle.std.specs.Prelude.{◌≡◌, IfSome};
+ghost use Rattle.std.specs.Prelude.{◌≡◌, IfOk, IfSome};
 ghost use Rattle.kq_lock.specs.Seats.{EachSeat, IsFresh};
 
 use kq_live::{Live, LiveError, LiveReceipt, LiveSeat};
 use kq_model::{Change, EvFlags, Event, Filter, Memory, Reply, Series};
 use std::alloc::Global;
+use std::process::Abort;
+use std::sync::Wait;
+use std::test::Fail;
 
 /// NOTE_TRIGGER of kqueue(2): the user event happens now.
 const TRIGGER: u32 = 0x0100_0000;
@@ -22,6 +25,17 @@ fn next_seat(live: &Live, seats: &mut Vec<LiveSeat>) -> Option<LiveSeat>
 {
     let _ = live;
     seats.pop()
+}
+
+// Both seats of a live system that was made with two.
+fn both_seats(live: &Live, seats: &mut Vec<LiveSeat>) -> Result<(LiveSeat, LiveSeat), Fail>
+    requires { EachSeat (IsFresh live.now.lock) seats.old.items }
+    ensures one { IfOk result (λ both. both.0.lock ≡ live.now.lock) }
+    ensures two { IfOk result (λ both. both.1.lock ≡ live.now.lock) }
+{
+    let one = next_seat(live, seats).ok_or("a seat")?;
+    let two = next_seat(live, seats).ok_or("a second seat")?;
+    Ok((one, two))
 }
 
 // The process, under the number 9 of its kqueue, adds the user event 7 with these flags of the filter.
@@ -52,8 +66,21 @@ fn poll(alloc: Global, pid: u32) -> Event {
     }
 }
 
+// Process 1 with a user event that has happened, up to the event that is told of it.
+fn event_at(alloc: Global, place: u32) -> Result<Event, Memory> {
+    match place {
+        1 => Ok(Event::Proc { pid: 1 }),
+        2 => Ok(Event::Kqueue { pid: 1, fd: 9 }),
+        3 => add(alloc, 1, 0),
+        4 => add(alloc, 1, TRIGGER),
+        _ => Ok(poll(alloc, 1)),
+    }
+}
+
 // A call's place, how much its seat had seen, and how many events were returned.
-fn told(answered: Result<LiveReceipt, LiveError>) -> Result<(u64, u64, usize), LiveError> {
+type Told = Result<(u64, u64, usize), LiveError>;
+
+fn told(answered: Result<LiveReceipt, LiveError>) -> Told {
     let LiveReceipt {
         at,
         answer,
@@ -64,4 +91,19 @@ fn told(answered: Result<LiveReceipt, LiveError>) -> Result<(u64, u64, usize), L
         _ => 0,
     };
     Ok((at, seen_len, returned))
+}
+
+fn assert_told(rt: &impl Abort, told: Told, expected: &Told) {
+    assert_eq!(rt; told, *expected);
+}
+
+// The call with the event at this place.
+fn called<R: Wait>(rt: &R, alloc: Global, live: &Live, seat: &mut LiveSeat, place: u32) -> Told
+    requires { seat.old.lock ≡ live.now.lock }
+    ensures { seat.new.lock ≡ live.now.lock }
+{
+    match event_at(alloc, place) {
+        Ok(event) => told(live.call(rt, seat, event)),
+        Err(Memory) => Err(LiveError::Memory),
+    }
 }

@@ -4,19 +4,28 @@ mod machines;
 mod single;
 mod threads;
 
-ghost use Rattle.std.specs.Prelude.{◌≡◌, IfSome};
+ghost use Rattle.std.specs.Prelude.{◌≡◌, ◌≤◌, ◌^◌, IfOk, IfSome};
 ghost use Rattle.kq_lock.specs.Seats.{IsFresh, EachSeat};
 
 use kq_lock::{Machine, Receipt, TurnError, TurnLock, TurnSeat};
+use std::alloc::Global;
+use std::process::Abort;
+use std::test::Fail;
 
 // What a call tells: its place, its answer, and how much its seat had seen.
-fn told(answered: Result<Receipt<u64>, TurnError>) -> Result<(u64, u64, u64), TurnError> {
+type Told = Result<(u64, u64, u64), TurnError>;
+
+fn told(answered: Result<Receipt<u64>, TurnError>) -> Told {
     let Receipt {
         at,
         answer,
         seen_len,
     } = answered?;
     Ok((at, answer, seen_len))
+}
+
+fn assert_told(rt: &impl Abort, told: Told, expected: &Told) {
+    assert_eq!(rt; told, *expected);
 }
 
 // One of the seats that a lock was made with.
@@ -27,4 +36,34 @@ fn next_seat<M: Machine>(lock: &TurnLock<M>, seats: &mut Vec<TurnSeat<M>>) -> Op
 {
     let _ = lock;
     seats.pop()
+}
+
+// A lock round the machine, with one seat and so many tickets.
+fn with_seat<M: Machine>(
+    alloc: Global,
+    machine: M,
+    last: u64,
+) -> Result<(TurnLock<M>, TurnSeat<M>), Fail>
+    requires { last ≤ 2 ^ 62 }
+    ensures { IfOk result (λ made. made.1.lock ≡ made.0) }
+{
+    let (lock, mut seats) = TurnLock::new(alloc, machine, 1, last)?;
+    let seat = next_seat(&lock, &mut seats).ok_or("a seat")?;
+    Ok((lock, seat))
+}
+
+// The same with two seats.
+fn with_two_seats<M: Machine>(
+    alloc: Global,
+    machine: M,
+    last: u64,
+) -> Result<(TurnLock<M>, TurnSeat<M>, TurnSeat<M>), Fail>
+    requires { last ≤ 2 ^ 62 }
+    ensures one { IfOk result (λ made. made.1.lock ≡ made.0) }
+    ensures two { IfOk result (λ made. made.2.lock ≡ made.0) }
+{
+    let (lock, mut seats) = TurnLock::new(alloc, machine, 2, last)?;
+    let one = next_seat(&lock, &mut seats).ok_or("a seat")?;
+    let two = next_seat(&lock, &mut seats).ok_or("a second seat")?;
+    Ok((lock, one, two))
 }

@@ -5,6 +5,7 @@ use super::gates::{Counts, Meeting, Without};
 use kq_jobs::{Always, Gate, Jobs, Open, RunFault, Starts, run_all};
 use kq_model::Memory;
 use std::alloc::Global;
+use std::process::Abort;
 use std::sync::Wait;
 use std::sync::atomic::AtomicU64;
 use std::sync::atomic::Ordering::SeqCst;
@@ -73,84 +74,91 @@ fn summed<R: Threads + Wait + Sync, G: Gate + Sync, S: Starts>(
     Ok((sum, squares.len()))
 }
 
+// Jobs, of which so many workers give this sum and this number of squares.
+fn assert_summed<R: Abort + AllocGlobal + Threads + Wait + Sync, G: Gate + Sync, S: Starts>(
+    rt: &R,
+    (count, workers): (u32, u32),
+    gate: &G,
+    starts: &S,
+    expected: Result<(u64, usize), RunFault>,
+) {
+    let summed = summed(rt, rt.alloc(), count, workers, gate, starts);
+    assert_eq!(rt; summed, expected);
+}
+
+// A count for each of so many jobs.
+fn counts(alloc: Global, jobs: u32) -> Result<Counts, Memory> {
+    let mut entered = Vec::new(alloc);
+    for _ in 0..jobs {
+        entered.push(AtomicU64::new(0)).map_err(|_| Memory)?;
+    }
+    Ok(Counts { entered })
+}
+
+fn squares_to_count(count: u32) -> Counted {
+    Counted {
+        squares: Squares(count),
+        runs: AtomicU64::new(0),
+    }
+}
+
+// Three hundred jobs, each of which is entered and run once.
+fn assert_once<R: Abort + AllocGlobal + Threads + Wait + Sync>(
+    rt: &R,
+    workers: u32,
+) -> Result<(), Memory> {
+    let gate = counts(rt.alloc(), 300)?;
+    let jobs = squares_to_count(300);
+    let ran = run_all(rt, rt.alloc(), &jobs, workers, &gate, &Always);
+    assert_eq!(rt; ran.map(|all| all.len()), Ok(300));
+    assert_eq!(rt; jobs.runs.load(SeqCst), 300);
+    assert!(rt; gate.all_once());
+    Ok(())
+}
+
 #[test]
 fn each_job_is_entered_and_run_once(rt: HostRuntime) -> Result<(), Fail> {
     for workers in [1, 2, 256] {
-        let mut entered = Vec::new(rt.alloc());
-        for _ in 0..300 {
-            entered.push(AtomicU64::new(0)).map_err(|_| "memory")?;
-        }
-        let gate = Counts { entered };
-        let jobs = Counted {
-            squares: Squares(300),
-            runs: AtomicU64::new(0),
-        };
-        let ran = run_all(&rt, rt.alloc(), &jobs, workers, &gate, &Always);
-        assert_eq!(rt; ran.map(|all| all.len()), Ok(300));
-        assert_eq!(rt; jobs.runs.load(SeqCst), 300);
-        assert!(rt; gate.all_once());
+        assert_once(&rt, workers)?;
     }
     Ok(())
 }
 
 #[test]
-fn two_workers_are_inside_at_once(rt: HostRuntime) -> Result<(), Fail> {
+fn two_workers_are_inside_at_once(rt: HostRuntime) {
     let gate = Meeting::new(2, 2);
-    assert_eq!(rt; summed(&rt, rt.alloc(), 3, 2, &gate, &Always), Ok((5, 3)));
+    assert_summed(&rt, (3, 2), &gate, &Always, Ok((5, 3)));
     assert!(rt; gate.was_held());
-    Ok(())
 }
 
 #[test]
-fn a_worker_that_is_held_leaves_the_others_to_the_rest(rt: HostRuntime) -> Result<(), Fail> {
+fn a_worker_that_is_held_leaves_the_others_to_the_rest(rt: HostRuntime) {
     let gate = Meeting::new(1, 3);
-    assert_eq!(rt; summed(&rt, rt.alloc(), 3, 2, &gate, &Always), Ok((5, 3)));
+    assert_summed(&rt, (3, 2), &gate, &Always, Ok((5, 3)));
     assert!(rt; gate.was_held());
-    Ok(())
 }
 
 #[test]
-fn a_start_is_refused(rt: HostRuntime) -> Result<(), Fail> {
+fn a_start_is_refused(rt: HostRuntime) {
     let spawn = Err(RunFault::Spawn);
-    assert_eq!(rt; summed(&rt, rt.alloc(), 3, 256, &Open, &Without(2)), spawn);
-    assert_eq!(rt; summed(&rt, rt.alloc(), 3, 256, &Open, &Without(3)), spawn);
-    assert_eq!(rt;
-        summed(&rt, rt.alloc(), 3, 256, &Open, &Without(4)),
-        Ok((5, 3))
-    );
-    assert_eq!(rt;
-        summed(&rt, rt.alloc(), 3, 1, &Open, &Without(2)),
-        Ok((5, 3))
-    );
-    Ok(())
+    assert_summed(&rt, (3, 256), &Open, &Without(2), spawn);
+    assert_summed(&rt, (3, 256), &Open, &Without(3), spawn);
+    assert_summed(&rt, (3, 256), &Open, &Without(4), Ok((5, 3)));
+    assert_summed(&rt, (3, 1), &Open, &Without(2), Ok((5, 3)));
 }
 
 #[test]
-fn no_jobs_start_no_worker(rt: HostRuntime) -> Result<(), Fail> {
-    assert_eq!(rt;
-        summed(&rt, rt.alloc(), 0, 256, &Open, &Without(2)),
-        Ok((0, 0))
-    );
-    assert_eq!(rt;
-        summed(&rt, rt.alloc(), 1, 256, &Open, &Without(2)),
-        Ok((0, 1))
-    );
-    Ok(())
+fn no_jobs_start_no_worker(rt: HostRuntime) {
+    assert_summed(&rt, (0, 256), &Open, &Without(2), Ok((0, 0)));
+    assert_summed(&rt, (1, 256), &Open, &Without(2), Ok((0, 1)));
 }
 
 #[test]
-fn the_number_of_workers_is_refused(rt: HostRuntime) -> Result<(), Fail> {
+fn the_number_of_workers_is_refused(rt: HostRuntime) {
     let refused = Err(RunFault::Workers);
-    assert_eq!(rt; summed(&rt, rt.alloc(), 3, 0, &Open, &Without(2)), refused);
-    assert_eq!(rt;
-        summed(&rt, rt.alloc(), 3, 257, &Open, &Without(2)),
-        refused
-    );
-    assert_eq!(rt;
-        summed(&rt, rt.alloc(), 0, 257, &Open, &Without(2)),
-        refused
-    );
-    Ok(())
+    assert_summed(&rt, (3, 0), &Open, &Without(2), refused);
+    assert_summed(&rt, (3, 257), &Open, &Without(2), refused);
+    assert_summed(&rt, (0, 257), &Open, &Without(2), refused);
 }
 
 // Jobs of which the last has no memory.
@@ -174,10 +182,9 @@ impl Jobs for Forgetful {
 }
 
 #[test]
-fn a_job_without_memory_is_no_answer(rt: HostRuntime) -> Result<(), Fail> {
+fn a_job_without_memory_is_no_answer(rt: HostRuntime) {
     for workers in [1, 2, 3] {
         let ran = run_all(&rt, rt.alloc(), &Forgetful, workers, &Open, &Always);
         assert_eq!(rt; ran.map(|all| all.len()), Err(RunFault::Memory));
     }
-    Ok(())
 }

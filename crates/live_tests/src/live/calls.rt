@@ -1,62 +1,102 @@
 //! Calls of one thread.
-use super::{TRIGGER, add, next_seat, poll, told};
-use kq_live::{Live, LiveError};
-use kq_model::Event;
+ghost use Rattle.std.specs.Prelude.{◌≡◌};
+
+use super::{Told, assert_told, both_seats, called, next_seat, told};
+use kq_live::{Book, Live, LiveError, LiveSeat};
+use kq_model::{Event, Memory};
+use std::alloc::Global;
+use std::process::Abort;
+use std::sync::Wait;
 use std::test::Fail;
 
-#[test]
-fn seats_share_one_system(rt: HostRuntime) -> Result<(), Fail> {
-    let alloc = rt.alloc();
-    let (live, mut seats) = Live::new(alloc, 1, 2)?;
-    let mut one = next_seat(&live, &mut seats).ok_or("a seat")?;
-    let mut two = next_seat(&live, &mut seats).ok_or("a second seat")?;
-    assert_eq!(rt;
-        told(live.call(&rt, &mut one, Event::Proc { pid: 1 })),
-        Ok((1, 0, 0))
-    );
-    assert_eq!(rt;
-        told(live.call(&rt, &mut one, Event::Kqueue { pid: 1, fd: 9 })),
-        Ok((2, 1, 0))
-    );
-    let change = add(alloc, 1, 0).map_err(|_| "memory")?;
-    assert_eq!(rt; told(live.call(&rt, &mut one, change)), Ok((3, 2, 0)));
-    let change = add(alloc, 1, TRIGGER).map_err(|_| "memory")?;
-    assert_eq!(rt; told(live.call(&rt, &mut one, change)), Ok((4, 3, 0)));
-    let part = live.split(&mut one);
-    live.join(&mut two, part);
-    assert_eq!(rt; Live::seen_len(&two), 4);
-    assert_eq!(rt;
-        told(live.call(&rt, &mut two, poll(alloc, 1))),
-        Ok((5, 4, 1))
-    );
-    let alone = live.try_call(&mut one, Event::Clock { ns: 0 });
-    assert_eq!(rt; told(alone), Ok((6, 4, 0)));
-    let book = live.close(one)?;
+// Process 1 comes to a user event that has happened.
+fn assert_happens<R: Abort + Wait>(
+    rt: &R,
+    alloc: Global,
+    live: &Live,
+    mut seat: LiveSeat,
+) -> LiveSeat
+    requires { seat.lock ≡ live.now.lock }
+    ensures { result.lock ≡ live.now.lock }
+{
+    let calls = [
+        (1, (1, 0, 0)),
+        (2, (2, 1, 0)),
+        (3, (3, 2, 0)),
+        (4, (4, 3, 0)),
+    ];
+    for (place, expected) in calls {
+        assert_told(rt, called(rt, alloc, live, &mut seat, place), &Ok(expected));
+    }
+    seat
+}
+
+// The other seat learns the four calls, and is told of the event.
+fn assert_polled<R: Abort + Wait>(rt: &R, alloc: Global, live: &Live, seat: &mut LiveSeat)
+    requires { seat.old.lock ≡ live.now.lock }
+{
+    assert_eq!(rt; Live::seen_len(seat), 4);
+    assert_told(rt, called(rt, alloc, live, seat, 5), &Ok((5, 4, 1)));
+}
+
+// The first seat, which has seen four calls of five, makes another in a single try.
+fn assert_tried(rt: &impl Abort, live: &Live, seat: &mut LiveSeat)
+    requires { seat.old.lock ≡ live.now.lock }
+    ensures { seat.new.lock ≡ live.now.lock }
+{
+    let alone = live.try_call(seat, Event::Clock { ns: 0 });
+    assert_told(rt, told(alone), &Ok((6, 4, 0)));
+}
+
+// Six calls, of which three have a row, the last at the fifth place.
+fn assert_book(rt: &impl Abort, book: &Book) -> Result<(), Memory> {
     assert_eq!(rt; book.len(), 6);
-    let trace = book.trace().map_err(|_| "memory")?;
+    let trace = book.trace()?;
     assert_eq!(rt; trace.events.len(), 6);
-    let rows = book.rows().map_err(|_| "memory")?;
+    let rows = book.rows()?;
     assert_eq!(rt; rows.len(), 3);
     assert_eq!(rt; rows.last().map(|row| row.at), Some(5));
     Ok(())
 }
 
 #[test]
+fn seats_share_one_system(rt: HostRuntime) -> Result<(), Fail> {
+    let (live, mut seats) = Live::new(rt.alloc(), 1, 2)?;
+    let (one, mut two) = both_seats(&live, &mut seats)?;
+    let mut one = assert_happens(&rt, rt.alloc(), &live, one);
+    let part = live.split(&mut one);
+    live.join(&mut two, part);
+    assert_polled(&rt, rt.alloc(), &live, &mut two);
+    assert_tried(&rt, &live, &mut one);
+    let book = live.close(one)?;
+    assert_book(&rt, &book)?;
+    Ok(())
+}
+
+// The seat starts this process, and is told this.
+fn assert_starts<R: Abort + Wait>(
+    rt: &R,
+    live: &Live,
+    seat: &mut LiveSeat,
+    pid: u32,
+    expected: &Told,
+)
+    requires { seat.old.lock ≡ live.now.lock }
+    ensures { seat.new.lock ≡ live.now.lock }
+{
+    assert_told(rt, told(live.call(rt, seat, Event::Proc { pid })), expected);
+}
+
+#[test]
 fn a_live_system_wears_out(rt: HostRuntime) -> Result<(), Fail> {
     let (live, mut seats) = Live::with_last(rt.alloc(), 1, 1, 2)?;
     let mut seat = next_seat(&live, &mut seats).ok_or("a seat")?;
-    assert_eq!(rt;
-        told(live.call(&rt, &mut seat, Event::Proc { pid: 1 })),
-        Ok((1, 0, 0))
-    );
-    assert_eq!(rt;
-        told(live.call(&rt, &mut seat, Event::Proc { pid: 1 })),
-        Ok((2, 1, 0))
-    );
-    let third = live.call(&rt, &mut seat, Event::Proc { pid: 2 });
-    assert_eq!(rt; told(third), Err(LiveError::WornOut));
+    let worn_out = Err(LiveError::WornOut);
+    assert_starts(&rt, &live, &mut seat, 1, &Ok((1, 0, 0)));
+    assert_starts(&rt, &live, &mut seat, 1, &Ok((2, 1, 0)));
+    assert_starts(&rt, &live, &mut seat, 2, &worn_out);
     let tried = live.try_call(&mut seat, Event::Proc { pid: 2 });
-    assert_eq!(rt; told(tried), Err(LiveError::WornOut));
+    assert_told(&rt, told(tried), &worn_out);
     let book = live.close(seat)?;
     assert_eq!(rt; book.len(), 2);
     Ok(())

@@ -41,9 +41,9 @@ fn returned(book: &Book) -> Result<usize, Memory> {
 
 #[test]
 fn threads_run_a_trace(rt: HostRuntime) -> Result<(), Fail> {
-    let trace = two_processes(rt.alloc()).map_err(|_| "memory")?;
+    let trace = two_processes(rt.alloc())?;
     for threads in [1, 2, 3, 64] {
-        let book = live_run(&rt, rt.alloc(), &Open, &Always, &trace, threads).map_err(|_| "a run")?;
+        let book = live_run(&rt, rt.alloc(), &Open, &Always, &trace, threads)?;
         assert_eq!(rt; book.len(), 8);
         assert_eq!(rt; returned(&book), Ok(2));
     }
@@ -61,7 +61,7 @@ impl Starts for Without {
 
 #[test]
 fn a_start_is_refused(rt: HostRuntime) -> Result<(), Fail> {
-    let trace = two_processes(rt.alloc()).map_err(|_| "memory")?;
+    let trace = two_processes(rt.alloc())?;
     let refused = live_run(&rt, rt.alloc(), &Open, &Without, &trace, 2);
     assert_eq!(rt; refused.map(|book| book.len()), Err(ServeError::Spawn));
     Ok(())
@@ -95,12 +95,12 @@ impl Gate for Meeting {
 
 #[test]
 fn two_threads_are_inside_at_once(rt: HostRuntime) -> Result<(), Fail> {
-    let trace = two_processes(rt.alloc()).map_err(|_| "memory")?;
+    let trace = two_processes(rt.alloc())?;
     let gate = Meeting {
         entered: AtomicU64::new(0),
         given_up: AtomicU64::new(0),
     };
-    let book = live_run(&rt, rt.alloc(), &gate, &Always, &trace, 2).map_err(|_| "a run")?;
+    let book = live_run(&rt, rt.alloc(), &gate, &Always, &trace, 2)?;
     assert_eq!(rt; book.len(), 8);
     assert_eq!(rt;
         (gate.entered.load(SeqCst), gate.given_up.load(SeqCst)),

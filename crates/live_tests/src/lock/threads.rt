@@ -1,16 +1,16 @@
 //! Calls of several threads. Each is joined, and what they show does not hang on how they ran.
-ghost use Rattle.std.specs.Prelude.{◌≡◌, ◌^◌, ◌≤◌};
+ghost use Rattle.std.specs.Prelude.{◌≡◌, ◌^◌, ◌≤◌, IfOk};
 
 use super::machines::{Held, Sum, await_word};
-use super::{next_seat, told};
+use super::{Told, assert_told, next_seat, told, with_two_seats};
 use kq_lock::{TurnError, TurnLock, TurnSeat};
+use std::alloc::Global;
+use std::process::Abort;
 use std::sync::atomic::AtomicU64;
 use std::sync::atomic::Ordering::SeqCst;
 use std::sync::{Arc, Wait};
 use std::test::Fail;
 use std::thread::{Threads, join};
-
-type Told = Result<(u64, u64, u64), TurnError>;
 
 // One call holds the turn until the other has answered.
 fn held_and_tried<R: Threads + Wait + Sync>(
@@ -35,6 +35,15 @@ fn held_and_tried<R: Threads + Wait + Sync>(
     )
 }
 
+// A machine that is held by a word, and the word.
+fn held(alloc: Global) -> Result<(Held, Arc<AtomicU64, Global>), Fail> {
+    let word = Arc::new(alloc, AtomicU64::new(0))?;
+    let machine = Held {
+        word: Arc::try_clone(&word)?,
+    };
+    Ok((machine, word))
+}
+
 // What a call that holds the turn of a lock with so many tickets answers, and what a try meanwhile.
 fn tried_while_held<R: AllocGlobal + Threads + Wait + Sync>(
     rt: &R,
@@ -42,29 +51,24 @@ fn tried_while_held<R: AllocGlobal + Threads + Wait + Sync>(
 ) -> Result<(Told, Told), Fail>
     requires { last ≤ 2 ^ 62 }
 {
-    let word = Arc::new(rt.alloc(), AtomicU64::new(0))?;
-    let machine = Held {
-        word: Arc::try_clone(&word)?,
-    };
-    let (lock, mut seats) = TurnLock::new(rt.alloc(), machine, 2, last)?;
-    let one = next_seat(&lock, &mut seats).ok_or("a seat")?;
-    let two = next_seat(&lock, &mut seats).ok_or("a second seat")?;
+    let (machine, word) = held(rt.alloc())?;
+    let (lock, one, two) = with_two_seats(rt.alloc(), machine, last)?;
     Ok(held_and_tried(rt, &lock, &word, one, two))
 }
 
 #[test]
 fn busy_while_the_turn_is_held(rt: HostRuntime) -> Result<(), Fail> {
     let (held, tried) = tried_while_held(&rt, 2)?;
-    assert_eq!(rt; tried, Err(TurnError::Busy));
-    assert_eq!(rt; held, Ok((1, 1, 0)));
+    assert_told(&rt, tried, &Err(TurnError::Busy));
+    assert_told(&rt, held, &Ok((1, 1, 0)));
     Ok(())
 }
 
 #[test]
 fn worn_out_goes_before_busy(rt: HostRuntime) -> Result<(), Fail> {
     let (held, tried) = tried_while_held(&rt, 1)?;
-    assert_eq!(rt; tried, Err(TurnError::WornOut));
-    assert_eq!(rt; held, Ok((1, 1, 0)));
+    assert_told(&rt, tried, &Err(TurnError::WornOut));
+    assert_told(&rt, held, &Ok((1, 1, 0)));
     Ok(())
 }
 
@@ -105,10 +109,12 @@ fn two_hundred<R: Threads + Wait + Sync>(
     (first && second, seat)
 }
 
+type Four = (TurnSeat<Sum>, TurnSeat<Sum>, TurnSeat<Sum>, TurnSeat<Sum>);
+
 fn four_hundred<R: Threads + Wait + Sync>(
     rt: &R,
     lock: &TurnLock<Sum>,
-    seats: (TurnSeat<Sum>, TurnSeat<Sum>, TurnSeat<Sum>, TurnSeat<Sum>),
+    seats: Four,
 ) -> (bool, TurnSeat<Sum>)
     requires first { (seats.0.lock ≡ lock.now) × (seats.1.lock ≡ lock.now) }
     requires second { (seats.2.lock ≡ lock.now) × (seats.3.lock ≡ lock.now) }
@@ -130,17 +136,35 @@ fn four_hundred<R: Threads + Wait + Sync>(
     (first && second, seat)
 }
 
-#[test]
-fn four_threads_of_a_hundred_calls(rt: HostRuntime) -> Result<(), Fail> {
-    let (lock, mut seats) = TurnLock::new(rt.alloc(), Sum { total: 0 }, 4, 400)?;
+// A lock with four seats and four hundred tickets.
+fn with_four_seats(alloc: Global) -> Result<(TurnLock<Sum>, Four), Fail>
+    ensures first { IfOk result (λ made. (made.1.0.lock ≡ made.0) × (made.1.1.lock ≡ made.0)) }
+    ensures second { IfOk result (λ made. (made.1.2.lock ≡ made.0) × (made.1.3.lock ≡ made.0)) }
+{
+    let (lock, mut seats) = TurnLock::new(alloc, Sum { total: 0 }, 4, 400)?;
     let a = next_seat(&lock, &mut seats).ok_or("a seat")?;
     let b = next_seat(&lock, &mut seats).ok_or("a second seat")?;
     let c = next_seat(&lock, &mut seats).ok_or("a third seat")?;
     let d = next_seat(&lock, &mut seats).ok_or("a fourth seat")?;
-    let (all, mut seat) = four_hundred(&rt, &lock, (a, b, c, d));
+    Ok((lock, (a, b, c, d)))
+}
+
+// The seat has seen all four hundred calls, and the lock takes no more.
+fn assert_worn_out(rt: &impl Abort, lock: &TurnLock<Sum>, seat: &mut TurnSeat<Sum>)
+    requires { seat.old.lock ≡ lock.now }
+    ensures { seat.new.lock ≡ lock.now }
+{
+    assert_eq!(rt; TurnLock::seen_len(seat), 400);
+    let tried = told(lock.try_call(seat, 1));
+    assert_told(rt, tried, &Err(TurnError::WornOut));
+}
+
+#[test]
+fn four_threads_of_a_hundred_calls(rt: HostRuntime) -> Result<(), Fail> {
+    let (lock, seats) = with_four_seats(rt.alloc())?;
+    let (all, mut seat) = four_hundred(&rt, &lock, seats);
     assert!(rt; all);
-    assert_eq!(rt; TurnLock::seen_len(&seat), 400);
-    assert_eq!(rt; told(lock.try_call(&mut seat, 1)), Err(TurnError::WornOut));
+    assert_worn_out(&rt, &lock, &mut seat);
     let (sum, history) = lock.close(seat)?;
     assert_eq!(rt; (sum.total, history.len()), (400, 400));
     Ok(())
