@@ -129,8 +129,8 @@ fn events_alone(alloc: Global, first: u64, lines: &[&[u8]]) -> Result<Vec<Event>
     }
 }
 
-/// The records on these lines, decoded by at most so many threads, or the first bad one of them, where they are numbered
-/// from `first`.
+/// The records on these lines, decoded by at most so many threads, or the first bad one of them, where they are
+/// numbered from `first`.
 pub fn events_on<R: Threads + Sync>(
     rt: &R,
     alloc: Global,

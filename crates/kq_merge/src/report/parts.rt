@@ -25,16 +25,16 @@ pub fn text_of(alloc: Global, rows: &[Row]) -> Result<ReportText, Memory>
     Ok(text)
 }
 
-/// How many rows each of so many threads writes. The few that are left over are a part of their own, which the thread of
-/// the part before it writes.
+/// How many rows each of so many threads writes. The few that are left over are a part of their own, which the
+/// thread of the part before it writes.
 fn rows_each(rows: usize, threads: u32) -> usize
     ensures { 0 < result }
 {
     (rows / threads.max(1) as usize).max(LEAST_ROWS)
 }
 
-/// Writes the rows in parts, by at most so many threads and by no more than suit the processors. A part whose thread does
-/// not start is written on the thread that would have started it.
+/// Writes the rows in parts, by at most so many threads and by no more than suit the processors. A part whose thread
+/// does not start is written on the thread that would have started it.
 fn parts_of<R: Threads + Sync>(
     rt: &R,
     alloc: Global,
