@@ -31,7 +31,7 @@ pub trait Listener {
 /// records, a part while the next one is read. So many threads are used at most, of which the calling one is the
 /// first: with 0 and 1 none is started, and the listener hears of all records at once. After an error nothing is
 /// known of the listener.
-pub fn read_trace_told<R: AllocGlobal + Threads + Sync, L: Listener + Send>(
+pub fn read_trace_told<R: AllocGlobal + Threads + Sync, L: Listener>(
     rt: &R,
     bytes: &[u8],
     threads: u32,
@@ -87,8 +87,8 @@ fn read_and_tell<R: AllocGlobal + Threads + Sync, L: Listener>(
     Ok(trace)
 }
 
-/// Tells the listener of a part on a thread of its own, and meanwhile reads the next part.
-fn tell_and_read<'a, R: Threads + Sync, L: Listener + Send>(
+/// Tells the listener of a part, and meanwhile reads the next one on a thread of its own.
+fn tell_and_read<'a, R: Threads + Sync, L: Listener>(
     rt: &R,
     listener: &mut L,
     before: u64,
@@ -104,16 +104,17 @@ fn tell_and_read<'a, R: Threads + Sync, L: Listener + Send>(
     ensures version { reader.new.version ≡ reader.old.version }
     ensures bad { IfErr result.1 (IsFaultAhead reader.old.meaning) }
 {
-    let mut tell = ||
-        requires { HasHeard L.heard before listener.now × (before + length events.now < 2 ^ 31) }
-        ensures { OnOk result ((so_far : List Event) → length so_far ≡ before → L.heard listener.entry.now so_far
-            → L.heard listener.exit.now (so_far ++ events.entry.now)) }
-    { listener.hear(before, events) };
     let mut read = ||
         requires { IsSync R.row }
         ensures { IfOk result (λ next. IsPart next.items reader.entry.now reader.exit.now)
             × (reader.exit.now.version ≡ reader.entry.now.version)
             × IfErr result (IsFaultAhead reader.entry.now.meaning) }
     { reader.next_part(rt, threads) };
-    join_mut(rt, &mut tell, &mut read)
+    let mut tell = ||
+        requires { HasHeard L.heard before listener.now × (before + length events.now < 2 ^ 31) }
+        ensures { OnOk result ((so_far : List Event) → length so_far ≡ before → L.heard listener.entry.now so_far
+            → L.heard listener.exit.now (so_far ++ events.entry.now)) }
+    { listener.hear(before, events) };
+    let (next, told) = join_mut(rt, &mut read, &mut tell);
+    (told, next)
 }
