@@ -29,8 +29,8 @@ pub trait Listener {
 
 /// Reads the text of a trace as [`read_trace_with`](crate::read_trace_with) does, and tells the listener of its
 /// records, a part while the next one is read. So many threads are used at most, of which the calling one is the
-/// first: with 0 and 1 none is started, and the listener hears of all records at once. After an error nothing is
-/// known of the listener.
+/// first: with 0 and 1 none is started, and the listener hears of all records at once. `Memory` also comes where the
+/// listener answered it; a thread that does not start is no error. After an error nothing is known of the listener.
 pub fn read_trace_told<R: AllocGlobal + Threads + Sync, L: Listener>(
     rt: &R,
     bytes: &[u8],
