@@ -1,11 +1,10 @@
 -- Lists of pairs in rising order of their numbers: what a search finds, and what an edit there does.
-use Rattle.std.proofs.Common.{◌≡◌, ℕ, zero, suc, ◌+◌, ◌-◌, ◌<◌, ◌≤◌, ◌==◌, not, Bool, true, false, List, [], ◌∷◌, ◌++◌, length, get_or, set, take, drop, filter, if◌then◌else◌, Option, Some, None, Result, Ok, Err, MatchResult, nat_lt, refl, sym, ap, subst, arith, ◌∙◌}
+use Rattle.std.proofs.Common.{◌≡◌, ℕ, zero, suc, ◌<◌, ◌≤◌, ◌==◌, not, Bool, true, false, List, [], ◌∷◌, length, get_or, set, filter, if◌then◌else◌, Some, None, Result, Ok, Err, MatchResult, nat_lt, refl, sym, ap, subst, arith, ◌∙◌}
 use Rattle.std.specs.List.{AllByRecursion, insert, remove}
 use Rattle.std.specs.List.Sorted.{IsSearchInRange, IsBinarySearchResult, IsNonDecreasingBy}
 use Rattle.std.specs.Ordering.{nat_cmp, ordering_index}
 use Rattle.std.proofs.lemmas.Cmp.{ranked}
 use Rattle.std.proofs.lemmas.Bool.Decides.{nat_tests}
-use Rattle.std.proofs.lemmas.Grind.{common_steps}
 use Rattle.kq_process.specs.Shelf.{lookup, put, without, AreRising, IsPlace, IsGap}
 
 -- both cases of a test have the property
@@ -227,20 +226,22 @@ module _ {X : Type 0} where
       let rises : (get_or es i d).0 ≤ (get_or es j d).0 = rising-at es rising i j d le within in
       grind (arith, nat_tests)
 
+  -- the place of the pair that has the number
+  pub placed : (n : ℕ) (es : List (ℕ × X)) (i : ℕ) → AreRising es → i < length es → IsOf n es i → IsPlace n es i
+  placed n es i rising within is = record {
+    within = within;
+    number_there = is;
+    found = place-found n es i rising within is;
+    sets = place-sets n es i rising within is;
+    removes = place-removes n es i rising within is;
+    put_rises = λ x. put-rises n x es rising;
+    without_rises = without-rises n es rising;
+  }
+
   -- a binary search ends at the number's place, or at the gap for it
   pub searched : (n : ℕ) (es : List (ℕ × X)) → AreRising es → (r : Result ℕ ℕ) → IsSearchInRange r (length es)
       → IsBinarySearchResult (λ e. nat_cmp e.0 n) es r → MatchResult r (IsPlace n es) (IsGap n es)
-  searched n es rising (Ok i) within equal =
-      let is : IsOf n es i = λ d. ranked _ n _ (sym (equal d)) in
-      record {
-        within = within;
-        number_there = is;
-        found = place-found n es i rising within is;
-        sets = place-sets n es i rising within is;
-        removes = place-removes n es i rising within is;
-        put_rises = λ x. put-rises n x es rising;
-        without_rises = without-rises n es rising;
-      }
+  searched n es rising (Ok i) within equal = placed n es i rising within (λ d. ranked _ n _ (sym (equal d)))
   searched n es rising (Err i) within parted =
       let split = parted (comparisons-rise n es rising) in
       let lower : AreLower n es i = λ j d before. ranked _ n _ (sym (split.0 j d (omega arith) before)) in

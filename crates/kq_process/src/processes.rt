@@ -22,7 +22,8 @@ pub struct Processes {
 }
 
 impl Processes {
-    ghost use Rattle.kq_process.specs.Processes.{processes_of, table_of, descriptors_in, descriptor_in, descriptor_there, AreOnce};
+    ghost use Rattle.kq_process.specs.Processes.{processes_of, table_of, descriptors_in};
+    ghost use Rattle.kq_process.specs.Processes.{descriptor_in, descriptor_there, AreOnce};
 
     pub fn new(alloc: Global) -> Self
         ensures processes { processes_of result ≡ [] }

@@ -90,12 +90,25 @@ impl<T> Shelf<T> {
         }
     }
 
-    // The index of the number's pair, or where it would stand.
+    // The index of the number's pair, or where it would stand. Numbers mostly follow one another, so
+    // that a search is seldom needed.
     fn find(&self, number: u32) -> Result<usize, usize>
         ensures place { MatchResult result (IsPlace number self.now) (IsGap number self.now) }
         ensures rising { AreRising self.now }
     {
+        let guess = self.without_gaps(number);
+        if guess < self.entries.len() && self.entries[guess].0 == number {
+            return Ok(guess);
+        }
         self.entries.binary_search_by_key(&number, |entry| entry.0)
+    }
+
+    // The index of the number's pair, if each number follows the one before it.
+    fn without_gaps(&self, number: u32) -> usize {
+        match self.entries.first() {
+            Some(first) => number.saturating_sub(first.0) as usize,
+            None => 0,
+        }
     }
 }
 
