@@ -1,5 +1,5 @@
 -- Sources, each once; and those of what the changes of a kqueue name.
-use Rattle.std.specs.Prelude.{◌≡◌, ◌||◌, ℕ, Bool, List, [], ◌∷◌, ◌++◌, Option, Some, None, if◌then◌else◌}
+use Rattle.std.specs.Prelude.{◌≡◌, ◌||◌, ℕ, Bool, List, [], ◌∷◌, ◌++◌, drop, Option, Some, None, if◌then◌else◌}
 use Rattle.std.specs.HashSet.{contains}
 use Rattle.std.specs.List.{IsDistinct, flat_map}
 use Rattle.kq_model.specs.declared.change.Change.{Change}
@@ -12,10 +12,14 @@ use Rattle.kq_history.specs.declared.item.Source.TheVariants.{Number, Of, Clock,
 use Rattle.kq_history.specs.declared.sources.Sources.{Sources}
 use Rattle.kq_history.specs.Items.{has_source, source_eq}
 
--- a list without doubles, and the set of the same sources
+-- so many are looked through one by one
+abbrev pub few_sources : ℕ
+few_sources = 8
+
+-- a list without doubles, and the set of those behind the first few
 pub record AreKnown (s : Sources) : Type 0 where
   pub distinct : IsDistinct source_eq s.list.items
-  pub same : (x : Source) → contains source_eq s.known x ≡ has_source s.list.items x
+  pub same : (x : Source) → contains source_eq s.known x ≡ has_source (drop few_sources s.list.items) x
 
 -- these came to those that there were
 pub record Grows (extra : List Source) (old new : Sources) : Type 0 where

@@ -1,6 +1,5 @@
 ghost use Rattle.std.specs.Prelude.{◌≡◌, ◌++◌, ◌∷◌, [], false, IfOk, OnOk};
-ghost use Rattle.std.specs.HashSet.{contains};
-ghost use Rattle.kq_history.specs.Items.{source_eq};
+ghost use Rattle.kq_history.specs.Items.{has_source};
 ghost use Rattle.kq_model.specs.Knote.{is_timer, watches_number};
 ghost use Rattle.kq_model.specs.References.{named_target, unless_file};
 
@@ -11,10 +10,15 @@ use kq_model::{Change, Filter, Memory, Target};
 use std::alloc::Global;
 use std::collections::HashSet;
 
-/// Sources, each once (`AreKnown`), but after Memory.
+/// So many are looked through; only those behind them need a set.
+const FEW_SOURCES: usize = 8;
+
+/// Sources, each once (`AreKnown`), but after Memory. Most kqueues are concerned by a few alone, and
+/// need no set.
 #[derive(Drop)]
 pub struct Sources {
     pub(crate) list: Vec<Source>,
+    /// Those behind the first few.
     pub(crate) known: HashSet<Source>,
 }
 
@@ -53,20 +57,31 @@ impl Sources {
     pub fn add(&mut self, source: Source) -> Result<(), Memory>
         ensures { OnOk result (Grows (source ∷ []) self.old self.new) }
     {
-        if self.known.contains(&source) {
+        if self.has(&source) {
             return Ok(());
         }
         self.push(source)
     }
 
+    /// Whether the source is there.
+    fn has(&self, source: &Source) -> bool
+        ensures { AreKnown self.now → result ≡ has_source self.now.list.items source.now }
+    {
+        let few = self.list.len().min(FEW_SOURCES);
+        let (first, _) = self.list.as_slice().split_at(few);
+        first.contains(source) || self.known.contains(source)
+    }
+
     /// One source more, which is not there.
     fn push(&mut self, source: Source) -> Result<(), Memory>
-        requires { contains source_eq self.old.known source ≡ false }
+        requires { AreKnown self.old → has_source self.old.list.items source ≡ false }
         ensures list { OnOk result (self.new.list.items ≡ self.old.list.items ++ source ∷ []) }
         ensures grows { OnOk result (Grows (source ∷ []) self.old self.new) }
     {
         self.list.push(source).map_err(|_| Memory)?;
-        self.known.insert(source).map_err(|_| Memory)?;
+        if self.list.len() > FEW_SOURCES {
+            self.known.insert(source).map_err(|_| Memory)?;
+        }
         Ok(())
     }
 

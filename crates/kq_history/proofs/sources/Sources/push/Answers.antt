@@ -1,14 +1,28 @@
-use Rattle.std.proofs.Common.{◌≡◌, ◌++◌, ◌∷◌, [], true, rules}
+use Rattle.std.proofs.Common.{◌≡◌, ◌≤◌, ◌+◌, ◌++◌, ◌∷◌, [], length, true, refl, rules}
 use Rattle.std.specs.HashSet.{Updates}
 use Rattle.kq_history.specs.contracts.item.SourceEq.TheImpl.Laws.{laws-law}
+use Rattle.kq_history.specs.declared.sources.Sources.{Sources}
 use Rattle.kq_history.specs.Items.{source_eq}
-use Rattle.kq_history.proofs.Known.{grows-by}
+use Rattle.kq_history.specs.Sources.{few_sources}
+use Rattle.kq_history.proofs.Known.{behind-more, first-more, grows-by}
 use Rattle.kq_history.proofs.sources.Sources.push.Goals as goal
 
-pub returns-clause-grows : goal.returns-clause-grows
-returns-clause-grows c =
+pub returns-in_ok-map_err-2-clause-grows : goal.returns-in_ok-map_err-2-clause-grows
+returns-in_ok-map_err-2-clause-grows c =
     let old = c.args.self.now in
     let source = c.args.source in
     let put : Updates source_eq old.known c.insert.new.self source true = search rules in
     let pushed : c.push.new.self.items ≡ old.list.items ++ source ∷ [] = search rules in
-    grows-by laws-law old (record { list = c.push.new.self; known = c.insert.new.self }) source c.requires pushed put.0
+    let longer : length c.push.new.self.items ≡ length old.list.items + 1 = search rules in
+    let many : few_sources ≤ length old.list.items = search rules in
+    let new : Sources = record { list = c.push.new.self; known = c.insert.new.self } in
+    grows-by laws-law old new source c.requires pushed (λ is. behind-more laws-law old new source is pushed many put.0)
+
+pub returns-else-len-gt-FEW_SOURCES-clause-grows : goal.returns-else-len-gt-FEW_SOURCES-clause-grows
+returns-else-len-gt-FEW_SOURCES-clause-grows c =
+    let old = c.args.self.now in
+    let source = c.args.source in
+    let pushed : c.push.new.self.items ≡ old.list.items ++ source ∷ [] = search rules in
+    let few : length c.push.new.self.items ≤ few_sources = search rules in
+    let new : Sources = record { list = c.push.new.self; known = old.known } in
+    grows-by laws-law old new source c.requires pushed (λ is. first-more laws-law old new source is pushed few refl)
