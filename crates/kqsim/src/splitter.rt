@@ -1,7 +1,6 @@
 //! Splitting a trace while it is read.
 
 ghost use Rattle.std.specs.Prelude.{◌≡◌, IfOk, []};
-ghost use Rattle.kq_history.specs.Splitting.{IsSplitSoFar};
 ghost use Rattle.kq_history.specs.Traced.{traced};
 ghost use Rattle.kqsim.specs.Splitter.{HasSplit};
 

@@ -4,15 +4,20 @@ use kq_trace::{TraceError, read_trace, write_trace};
 use std::test::Fail;
 use std::thread::Threads;
 
-const TEXT: &[u8] =
-    b"{\"kqsim\":1}\n{\"op\":\"proc\",\"pid\":7}\n{\"fd\":3,\"op\":\"kqueue\",\"pid\":7}\n{\"changes\":[{\"data\":-5,\"fflags\":1,\"filter\":\"USER\",\"flags\":[\"ADD\",\"CLEAR\"],\"ident\":18446744073709551615,\"udata\":9}],\"fd\":3,\"op\":\"kevent\",\"pid\":7,\"room\":4}\n";
+const TEXT: &str = concat!(
+    "{\"kqsim\":1}\n",
+    "{\"op\":\"proc\",\"pid\":7}\n",
+    "{\"fd\":3,\"op\":\"kqueue\",\"pid\":7}\n",
+    "{\"changes\":[{\"data\":-5,\"fflags\":1,\"filter\":\"USER\",\"flags\":[\"ADD\",\"CLEAR\"],",
+    "\"ident\":18446744073709551615,\"udata\":9}],\"fd\":3,\"op\":\"kevent\",\"pid\":7,\"room\":4}\n",
+);
 
 #[test]
 fn reads_and_writes(rt: HostRuntime) -> Result<(), Fail> {
-    let trace = read_trace(&rt, TEXT)?;
+    let trace = read_trace(&rt, TEXT.as_bytes())?;
     assert_eq!(rt; trace.events.len(), 3);
     let text = write_trace(rt.alloc(), &trace)?;
-    assert!(rt; text.as_slice() == TEXT);
+    assert!(rt; text.as_slice() == TEXT.as_bytes());
     Ok(())
 }
 

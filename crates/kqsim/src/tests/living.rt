@@ -25,15 +25,19 @@ pub const FORKED: &str = concat!(
     "{\"op\":\"socket\",\"pid\":1,\"fd\":5,\"rcv\":100,\"snd\":100}\n",
     "{\"op\":\"fork\",\"pid\":1,\"child\":2}\n",
     "{\"op\":\"kqueue\",\"pid\":2,\"fd\":9}\n",
-    "{\"op\":\"kevent\",\"pid\":1,\"fd\":9,\"changes\":[{\"ident\":3,\"filter\":\"READ\",\"flags\":[\"ADD\"]}],\"room\":0}\n",
-    "{\"op\":\"kevent\",\"pid\":1,\"fd\":10,\"changes\":[{\"ident\":3,\"filter\":\"READ\",\"flags\":[\"ADD\"]}],\"room\":0}\n",
-    "{\"op\":\"kevent\",\"pid\":2,\"fd\":9,\"changes\":[{\"ident\":3,\"filter\":\"READ\",\"flags\":[\"ADD\"]}],\"room\":0}\n",
+    "{\"op\":\"kevent\",\"pid\":1,\"fd\":9,",
+    "\"changes\":[{\"ident\":3,\"filter\":\"READ\",\"flags\":[\"ADD\"]}],\"room\":0}\n",
+    "{\"op\":\"kevent\",\"pid\":1,\"fd\":10,",
+    "\"changes\":[{\"ident\":3,\"filter\":\"READ\",\"flags\":[\"ADD\"]}],\"room\":0}\n",
+    "{\"op\":\"kevent\",\"pid\":2,\"fd\":9,",
+    "\"changes\":[{\"ident\":3,\"filter\":\"READ\",\"flags\":[\"ADD\"]}],\"room\":0}\n",
     "{\"op\":\"rx\",\"pid\":1,\"fd\":3,\"n\":1}\n",
     "{\"op\":\"dup\",\"pid\":1,\"fd\":5,\"to\":3}\n",
     "{\"op\":\"kevent\",\"pid\":1,\"fd\":9,\"changes\":[],\"room\":1}\n",
     "{\"op\":\"kevent\",\"pid\":1,\"fd\":10,\"changes\":[],\"room\":1}\n",
     "{\"op\":\"kevent\",\"pid\":2,\"fd\":9,\"changes\":[],\"room\":1}\n",
-    "{\"op\":\"kevent\",\"pid\":1,\"fd\":9,\"changes\":[{\"ident\":3,\"filter\":\"READ\",\"flags\":[\"DELETE\"]}],\"room\":1}\n",
+    "{\"op\":\"kevent\",\"pid\":1,\"fd\":9,",
+    "\"changes\":[{\"ident\":3,\"filter\":\"READ\",\"flags\":[\"DELETE\"]}],\"room\":1}\n",
 );
 
 const SECOND_LINE: &str = "{\"op\":\"proc\",\"pid\":1}\n";
