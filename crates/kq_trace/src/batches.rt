@@ -1,6 +1,6 @@
 //! Lines decoded in batches, each on one of several threads, and put together in their order.
 
-ghost use Rattle.std.specs.Prelude.{◌+◌, ◌≤◌, IfErr, IfOk, length};
+ghost use Rattle.std.specs.Prelude.{◌+◌, ◌<◌, ◌≤◌, IfErr, IfOk, length};
 ghost use Rattle.kq_model.specs.Limits.{most_records};
 ghost use Rattle.kq_trace.specs.Batches.{AreReadAs, AreRecords, IsFaultAmong, IsReadAs};
 ghost use Rattle.kq_trace.specs.Rest.{texts};
@@ -14,8 +14,8 @@ use std::alloc::{AllocError, Global};
 use std::collections::VecDeque;
 use std::thread::Threads;
 
-/// How many lines are decoded together.
-const BATCH_LINES: usize = 1024;
+/// So few lines are decoded together.
+const LEAST_LINES: usize = 1024;
 
 /// What the lines of a batch are.
 #[derive(Drop)]
@@ -55,11 +55,12 @@ fn batch_of(alloc: Global, lines: &[&[u8]]) -> Batch
     Batch::Records(events)
 }
 
-/// How few batches of so many lines are worth a thread, where there may be so many threads. Lists are cut in halves,
-/// so what is cut as often as a thread can become two gives no more parts than threads.
-fn least_batches(lines: usize, threads: u32) -> usize {
-    let batches = lines / BATCH_LINES + 1;
-    batches >> threads.max(1).ilog2()
+/// How many lines are decoded together: an equal share of them for each of so many threads, but not too few to be worth
+/// one.
+fn batch_lines(lines: usize, threads: u32) -> usize
+    ensures { 0 < result }
+{
+    (lines / threads.max(1) as usize).max(LEAST_LINES)
 }
 
 /// Decodes the lines in batches, by at most so many threads and by no more than suit the processors. Batches whose
@@ -73,8 +74,7 @@ fn batches_of<R: Threads + Sync>(
     ensures { IfOk result (λ batches. AreReadAs (texts lines.now) batches.items) }
 {
     lines
-        .par_chunks(BATCH_LINES)
-        .with_min_len(least_batches(lines.len(), threads))
+        .par_chunks(batch_lines(lines.len(), threads))
         .map(
             |part: &[&[u8]]| -> Batch
                 ensures { IsReadAs (texts part.now) result }

@@ -1,6 +1,6 @@
 -- The chunks of the lines, and what each was decoded to.
 use Rattle.std.proofs.Common.{max, ap, ◌∙◌, arith}
-use Rattle.rayon.specs.Lists.{chunks_of, chunks_size, chunks_slice, min_len_base}
+use Rattle.rayon.specs.Lists.{chunks_of, chunks_size, chunks_slice}
 use Rattle.rayon.proofs.ListFacts.{IfOk-then}
 use Rattle.kq_trace.proofs.BatchLines.{cut_into}
 use Rattle.kq_trace.proofs.batches.batches_of.Goals as goal
@@ -11,7 +11,6 @@ returns g c =
     IfOk-then c.collect.result _ _ c.collect.ensures (λ v h.
     let chain = h.1 in
     let shown = chain.1
-    ∙ ap (λ it. chunks_of (max (chunks_size (min_len_base it)) 1) (chunks_slice (min_len_base it))) c.map.ensures.base
-    ∙ ap (λ it. chunks_of (max (chunks_size it) 1) (chunks_slice it)) c.with_min_len.ensures.base
+    ∙ ap (λ it. chunks_of (max (chunks_size it) 1) (chunks_slice it)) c.map.ensures.base
     ∙ (λ i. chunks_of (max (cut.size i) 1) (cut.slice i)) in
-    rw h.2 (cut_into chain.0 c.args.lines.now 1024 h.0 (omega arith) shown chain.2))
+    rw h.2 (cut_into chain.0 c.args.lines.now (max c.batch_lines.result 1) h.0 (omega arith) shown chain.2))
