@@ -22,7 +22,7 @@ use Rattle.kq_history.specs.Seen.{pair_eq, target_key, IsBlank}
 use Rattle.kq_history.specs.Timeline.{value_at, IsUpTo}
 use Rattle.kq_history.specs.Timelines.{marks_at}
 use Rattle.kq_history.specs.Traced.{plain_rows_of}
-use Rattle.kq_history.specs.Tracked.{IsTracked}
+use Rattle.kq_history.specs.Tracked.{IsTracked, IsWorldAfter}
 
 no-view : (t : Target) → view_in (empty_world counted) t ≡ None
 unfolding view_in view_of process_of process_view
@@ -37,12 +37,18 @@ no-view Own = refl
 none-later : {V : Type 0} (ms : List (Mark V)) → ms ≡ [] → IsUpTo 0 ms
 none-later ms none = subst (IsUpTo 0) (sym none) (All-nil _)
 
-pub first-tracked : (version : ℕ) (w : World) (s : Seen) → world_of w ≡ empty_world counted → IsBlank s → IsTracked (record { version = version; events = [] }) w s
-unfolding views_of named_by named_among view_in view_of process_of process_view world_after plans_from world_at
-first-tracked version w s is blank = record {
+pub first-world : (version : ℕ) (w : World) → world_of w ≡ empty_world counted → IsWorldAfter (record { version = version; events = [] }) w
+unfolding world_after plans_from world_at
+first-world version w is = record {
   world = is;
   counted = subst (IsCountedWorld 1) (sym is) counted-empty;
   listed = subst (λ (x : model.World counted). AreListed x.objects) (sym is) listed-empty;
+}
+
+pub first-tracked : (version : ℕ) (w : World) (s : Seen) → world_of w ≡ empty_world counted → IsBlank s → IsTracked (record { version = version; events = [] }) w s
+unfolding views_of named_by named_among view_in view_of process_of process_view world_after plans_from world_at
+first-tracked version w s is blank = record {
+  after = first-world version w is;
   shows = record {
     view = λ place t. ap (value_at place None) (blank.views t) ∙ sym (no-view t);
     descriptor = λ place pid number. ap (value_at place None) (blank.numbers (pid, number));

@@ -26,6 +26,7 @@ mod SameValues
 mod ListedRecords
 mod TracedWorlds
 mod TrackedRecords
+mod WorldNext
 mod TrackedNext
 pub mod Sayings
 mod FirstTracked

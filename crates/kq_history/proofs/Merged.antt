@@ -1,5 +1,5 @@
 -- Rising numbers of which some pass a test: those that pass, put between the others, give all of them.
-use Rattle.std.proofs.Common.{◌≡◌, ◌∙◌, ◌<◌, ◌≤◌, ◌+◌, ℕ, suc, Bool, true, false, not, cond, ltb, List, [], ◌∷◌, ◌++◌, filter, refl, sym, ap, arith}
+use Rattle.std.proofs.Common.{◌≡◌, ◌∙◌, ◌<◌, ◌≤◌, ℕ, suc, Bool, true, false, not, cond, ltb, List, [], ◌∷◌, ◌++◌, filter, refl, sym, ap, arith}
 use Rattle.std.proofs.lemmas.Bool.{false≢true, ltb-false, ltb-true}
 use Rattle.kq_model.proofs.KnoteLaws.{by_test}
 use Rattle.kq_history.proofs.Rising.{AreFrom, DoNotFall}

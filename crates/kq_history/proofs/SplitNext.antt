@@ -21,17 +21,17 @@ use Rattle.kq_process.specs.declared.world.World.{World}
 use Rattle.kq_process.specs.Effects.{IsEffectOf}
 use Rattle.kq_process.specs.World.{world_of, IsEffectBy}
 use Rattle.kq_history.specs.declared.said.Said.{Said}
-use Rattle.kq_history.specs.declared.seen.Seen.{Seen}
 use Rattle.kq_history.specs.Heard.{IsHeard}
 use Rattle.kq_history.specs.Log.{AreShelved}
 use Rattle.kq_history.specs.Said.{AreNamedBy, IsSaid}
 use Rattle.kq_history.specs.Sayings.{kqueue_of}
 use Rattle.kq_history.specs.Traced.{Traced, births_of, longer, places_of}
-use Rattle.kq_history.specs.Tracked.{IsTracked}
+use Rattle.kq_history.specs.Tracked.{IsWorldAfter}
 use Rattle.kq_history.proofs.NamedKqueues.{named-length}
 use Rattle.kq_history.proofs.SaidNext.{said-next}
 use Rattle.kq_history.proofs.TracedWorlds.{end, now, plans-length, world-longer}
 use Rattle.kq_history.proofs.TrackedRecords.{next-is}
+use Rattle.kq_history.proofs.WorldNext.{counted_now, listed_now}
 
 -- ---- the places of births rise
 
@@ -104,22 +104,22 @@ first-said version s items shelved places concerned = record {
 
 -- ---- one record more
 
-pub heard-next : (t : Traced) (e : Event) (place : ℕ) (old new : World) (seen seen' : Seen) (effect : Effect) (clock : ℕ) (kqueue : Option ℕ) (s s' : Said)
-    → length t.events + 1 ≡ place → IsTracked t old seen → IsTracked (longer t e) new seen' → IsEffectBy (plan place e) old effect
+pub heard-next : (t : Traced) (e : Event) (place : ℕ) (old new : World) (effect : Effect) (clock : ℕ) (kqueue : Option ℕ) (s s' : Said)
+    → length t.events + 1 ≡ place → IsWorldAfter t old → IsWorldAfter (longer t e) new → IsEffectBy (plan place e) old effect
     → clock ≡ (world_of old).now → kqueue ≡ kqueue_of e (world_of old)
     → ((w : model.World counted) → clock ≡ w.now → kqueue ≡ kqueue_of e w → IsHeard place e effect w (world_of new) s s') → IsSaid t s → IsSaid (longer t e) s'
-heard-next t e place old new seen seen' effect clock kqueue s s' at tracked after of clock_is kqueue_is heard said =
+heard-next t e place old new effect clock kqueue s s' at before after of clock_is kqueue_is heard said =
     said-next t e counts (plan (end t e) e (now t e)) refl effect
-    (subst (λ n. IsEffectOf (plan n e (now t e)) effect) (sym at) (subst (λ (w : model.World counted). IsEffectOf (plan place e w) effect) tracked.world of))
+    (subst (λ n. IsEffectOf (plan n e (now t e)) effect) (sym at) (subst (λ (w : model.World counted). IsEffectOf (plan place e w) effect) before.world of))
     (world_of new) leads s s' said
     (subst (λ n. IsHeard n e effect (now t e) (world_of new) s s') (sym at)
-    (heard (now t e) (clock_is ∙ ap (λ (w : model.World counted). w.now) tracked.world) (kqueue_is ∙ ap (kqueue_of e) tracked.world)))
+    (heard (now t e) (clock_is ∙ ap (λ (w : model.World counted). w.now) before.world) (kqueue_is ∙ ap (kqueue_of e) before.world)))
   where
     counts : IsCountedWorld (end t e) (now t e)
-    counts = subst (IsCountedWorld (end t e)) tracked.world tracked.counted
+    counts = counted_now t e old before
 
     lists : AreListed (now t e).objects
-    lists = subst (λ (w : model.World counted). AreListed w.objects) tracked.world tracked.listed
+    lists = listed_now t e old before
 
     leads : (p : Plan) → plan (end t e) e (now t e) ≡ Possible p → world_of new ≡ carried_out (end t e) p (now t e)
     leads p is = after.world ∙ world-longer t e ∙ next-is t e counts lists p is

@@ -7,13 +7,14 @@ use Rattle.kq_model.specs.Plans.{plan}
 use Rattle.kq_model.specs.World as model
 use Rattle.kq_process.specs.declared.effect.Effect.{Effect}
 use Rattle.kq_process.specs.World.{world_of, IsEffectBy}
+use Rattle.kq_history.specs.declared.hearing.Hearing.{Hearing}
 use Rattle.kq_history.specs.declared.splitting.Splitting.{Splitting}
 use Rattle.kq_history.specs.Heard.{IsHeard}
 use Rattle.kq_history.specs.Plain.{plain_row}
 use Rattle.kq_history.specs.Sayings.{kqueue_of}
-use Rattle.kq_history.specs.Splitting.{IsSplitSoFar}
+use Rattle.kq_history.specs.Splitting.{IsHeardSoFar, IsSplitSoFar}
 use Rattle.kq_history.specs.Traced.{Traced, longer}
-use Rattle.kq_history.specs.Tracked.{IsTracked}
+use Rattle.kq_history.specs.Tracked.{IsTracked, IsWorldAfter}
 use Rattle.kq_history.proofs.FirstTracked.{none-taken}
 use Rattle.kq_history.proofs.PlainRows.{plain-longer}
 use Rattle.kq_history.proofs.SplitNext.{heard-next}
@@ -43,8 +44,22 @@ pub split-next : (t : Traced) (e : Event) (place : ℕ) (old new : Splitting) (e
     → new.plain.items ≡ old.plain.items ++ plain_row place effect.verdict → IsSplitSoFar (longer t e) new
 split-next t e place old new effect clock kqueue at so_far onward of clock_is kqueue_is heard rows = record {
   tracked = onward;
-  said = heard-next t e place old.world new.world old.seen new.seen effect clock kqueue old.said new.said at so_far.tracked onward
+  said = heard-next t e place old.world new.world effect clock kqueue old.said new.said at so_far.tracked.after onward.after
       of clock_is kqueue_is heard so_far.said;
   plain_is = rows ∙ ap (λ xs. xs ++ plain_row place effect.verdict) so_far.plain_is
-      ∙ sym (plain-longer t e place old.world effect at so_far.tracked.world of);
+      ∙ sym (plain-longer t e place old.world effect at so_far.tracked.after.world of);
+}
+
+-- the same of the half that hears
+pub hearing-next : (t : Traced) (e : Event) (place : ℕ) (old new : Hearing) (effect : Effect) (clock : ℕ) (kqueue : Option ℕ)
+    → length t.events + 1 ≡ place → IsHeardSoFar t old → IsWorldAfter (longer t e) new.world → IsEffectBy (plan place e) old.world effect
+    → clock ≡ (world_of old.world).now → kqueue ≡ kqueue_of e (world_of old.world)
+    → ((w : model.World counted) → clock ≡ w.now → kqueue ≡ kqueue_of e w → IsHeard place e effect w (world_of new.world) old.said new.said)
+    → new.plain.items ≡ old.plain.items ++ plain_row place effect.verdict → IsHeardSoFar (longer t e) new
+hearing-next t e place old new effect clock kqueue at so_far onward of clock_is kqueue_is heard rows = record {
+  after = onward;
+  said = heard-next t e place old.world new.world effect clock kqueue old.said new.said at so_far.after onward
+      of clock_is kqueue_is heard so_far.said;
+  plain_is = rows ∙ ap (λ xs. xs ++ plain_row place effect.verdict) so_far.plain_is
+      ∙ sym (plain-longer t e place old.world effect at so_far.after.world of);
 }

@@ -1,8 +1,7 @@
 -- The world and what was seen of it are those of the trace with the record that was applied and followed.
-use Rattle.std.proofs.Common.{◌≡◌, ◌+◌, ◌≤◌, ℕ, length, List, [], ◌∷◌, ◌++◌, Result, Ok, Err, refl, sym, ap, subst, ◌∙◌, arith}
+use Rattle.std.proofs.Common.{◌≡◌, ◌+◌, ◌≤◌, ℕ, length, List, [], ◌∷◌, ◌++◌, Result, Ok, Err, refl, sym, subst, arith}
 use Rattle.std.specs.Prelude.{IsOk}
 use Rattle.std.proofs.lemmas.Bool.{false≢true}
-use Rattle.std.proofs.lemmas.List.{length-append}
 use Rattle.std.proofs.lemmas.List.Elements.{All-weaker}
 use Rattle.kq_model.specs.declared.event.Event.{Event}
 use Rattle.kq_model.specs.declared.why.Why.{Why}
@@ -25,8 +24,9 @@ use Rattle.kq_history.specs.Touched.{touched_numbers, touched_targets}
 use Rattle.kq_history.specs.Traced.{Traced, longer, seen_at}
 use Rattle.kq_history.specs.Timelines.{marks_at}
 use Rattle.kq_history.specs.Tracked.{IsFollowed, IsFollowedBy, IsNoted, IsTracked}
-use Rattle.kq_history.proofs.TracedWorlds.{end, now, world-longer}
-use Rattle.kq_history.proofs.TrackedRecords.{next-is, next-listed, next-stays, next-world, shows-still}
+use Rattle.kq_history.proofs.TracedWorlds.{end, now}
+use Rattle.kq_history.proofs.TrackedRecords.{next-world, shows-still}
+use Rattle.kq_history.proofs.WorldNext.{counted_now, length_is, listed_now, planned-next, world-by}
 
 pub up-later : (n m : ℕ) (s : Seen) → n ≤ m → AreAllUpTo n s → AreAllUpTo m s
 up-later n m s later up = record {
@@ -40,20 +40,14 @@ up-later n m s later up = record {
 
 module _ (t : Traced) (e : Event) (old new : World) (s s' : Seen) (effect : Effect) (tracked : IsTracked t old s)
     (counts : IsCountedWorld (end t e + 1) (world_of new)) where
-  counted_now : IsCountedWorld (end t e) (now t e)
-  counted_now = subst (IsCountedWorld (end t e)) tracked.world tracked.counted
+  abbrev counted_here : IsCountedWorld (end t e) (now t e)
+  counted_here = counted_now t e old tracked.after
 
-  listed_now : AreListed (now t e).objects
-  listed_now = subst (λ (w : model.World counted). AreListed w.objects) tracked.world tracked.listed
-
-  length_is : length (t.events ++ e ∷ []) ≡ end t e
-  length_is = length-append t.events (e ∷ [])
-
-  counted_next : IsCountedWorld (length (t.events ++ e ∷ []) + 1) (world_of new)
-  counted_next = subst (λ n. IsCountedWorld (n + 1) (world_of new)) (sym length_is) counts
+  abbrev listed_here : AreListed (now t e).objects
+  listed_here = listed_now t e old tracked.after
 
   up_next : (x : Seen) → AreAllUpTo (end t e) x → AreAllUpTo (length (t.events ++ e ∷ [])) x
-  up_next x up = subst (λ n. AreAllUpTo n x) (sym length_is) up
+  up_next x up = subst (λ n. AreAllUpTo n x) (sym (length_is t e)) up
 
   followed_done : (v : Result (Unit {0}) Why) → IsOk v → IsFollowedBy (end t e) e v effect.closed effect.hints (world_of new) s s'
       → AreAllUpTo (end t e) s' × IsNoted (end t e) e effect.closed effect.hints (world_of new) s s'
@@ -65,20 +59,16 @@ module _ (t : Traced) (e : Event) (old new : World) (s s' : Seen) (effect : Effe
   tracked-by (Impossible why) is refused same followed =
       let none : s' ≡ s = subst (λ v. IsFollowedBy (end t e) e v effect.closed effect.hints (world_of new) s s') refused.verdict followed in
       record {
-        world = same ∙ sym (world-longer t e ∙ next-stays t e counted_now listed_now why is);
-        counted = counted_next;
-        listed = subst (λ (w : model.World counted). AreListed w.objects) (sym same) listed_now;
-        shows = subst (λ x. Shows (seen_at (longer t e)) x) (sym none) (shows-still t e counted_now listed_now why is s tracked.shows);
+        after = world-by t e old tracked.after new counts (Impossible why) is same;
+        shows = subst (λ x. Shows (seen_at (longer t e)) x) (sym none) (shows-still t e counted_here listed_here why is s tracked.shows);
         up_to = up_next s' (subst (AreAllUpTo (end t e)) (sym none) (up-later (length t.events) (end t e) s (omega arith) tracked.up_to));
       }
   tracked-by (Possible p) is done same followed =
       let noted = followed_done effect.verdict done.verdict followed in
       let counted_after : IsCountedWorld (end t e + 1) (carried_out (end t e) p (now t e)) = subst (IsCountedWorld (end t e + 1)) same counts in
-      let onward = next-world t e counted_now listed_now p is s effect.closed done.closed counted_after tracked.shows in
+      let onward = next-world t e counted_here listed_here p is s effect.closed done.closed counted_after tracked.shows in
       record {
-        world = same ∙ sym (world-longer t e ∙ next-is t e counted_now listed_now p is);
-        counted = counted_next;
-        listed = subst (λ (w : model.World counted). AreListed w.objects) (sym same) (next-listed t e counted_now listed_now p is);
+        after = world-by t e old tracked.after new counts (Possible p) is same;
         shows = noted.1 (seen_at t) (seen_at (longer t e))
             (subst (λ (w : model.World counted). IsNextWorld (end t e) (views_of w) (touched_numbers e effect.closed w)
             (touched_targets e effect.hints (seen_by s (end t e)) (views_of w) (touched_numbers e effect.closed w)) (seen_at t) (seen_at (longer t e))) (sym same)
@@ -93,8 +83,8 @@ module _ (t : Traced) (e : Event) (old new : World) (s s' : Seen) (effect : Effe
       → IsTracked (longer t e) new s'
   tracked-here of is followed =
       tracked-by (plan (end t e) e (now t e)) refl
-      (subst (λ (w : model.World counted). IsEffectOf (plan (end t e) e w) effect) tracked.world of)
-      (is ∙ ap (λ (w : model.World counted). world_after (end t e) (plan (end t e) e w) w) tracked.world) followed
+      (subst (λ (w : model.World counted). IsEffectOf (plan (end t e) e w) effect) tracked.after.world of)
+      (planned-next t e old tracked.after new is) followed
 
 pub tracked-next : (t : Traced) (e : Event) (place : ℕ) (old new : World) (s s' : Seen) (effect : Effect) → length t.events + 1 ≡ place → IsTracked t old s
     → IsCountedWorld (place + 1) (world_of new) → IsEffectBy (plan place e) old effect → IsNext place (plan place e) old new

@@ -1,9 +1,11 @@
--- A split of the records that came so far.
+-- A split of the records that came so far, and each of its halves alone.
 use Rattle.std.specs.Prelude.{◌≡◌, ℕ, length}
+use Rattle.kq_history.specs.declared.hearing.Hearing.{Hearing}
 use Rattle.kq_history.specs.declared.splitting.Splitting.{Splitting}
+use Rattle.kq_history.specs.declared.watching.Watching.{Watching}
 use Rattle.kq_history.specs.Said.{IsSaid}
 use Rattle.kq_history.specs.Traced.{Traced, plain_rows_of}
-use Rattle.kq_history.specs.Tracked.{IsTracked}
+use Rattle.kq_history.specs.Tracked.{IsTracked, IsWorldAfter}
 
 -- these are all records that came so far: the world is that after them, and what is kept is what they say
 pub record IsSplitSoFar (t : Traced) (s : Splitting) : Type 0 where
@@ -14,3 +16,21 @@ pub record IsSplitSoFar (t : Traced) (s : Splitting) : Type 0 where
 -- so many records came so far
 abbrev pub AreSoMany : ℕ → Splitting → Type 0
 AreSoMany before s = (t : Traced) × (length t.events ≡ before) × IsSplitSoFar t s
+
+-- ---- the half that keeps what is seen
+
+abbrev pub IsWatchedSoFar : Traced → Watching → Type 0
+IsWatchedSoFar t w = IsTracked t w.world w.seen
+
+abbrev pub AreSoManyWatched : ℕ → Watching → Type 0
+AreSoManyWatched before w = (t : Traced) × (length t.events ≡ before) × IsWatchedSoFar t w
+
+-- ---- the half that keeps what the records say
+
+pub record IsHeardSoFar (t : Traced) (h : Hearing) : Type 0 where
+  pub after : IsWorldAfter t h.world
+  pub said : IsSaid t h.said
+  pub plain_is : h.plain.items ≡ plain_rows_of t
+
+abbrev pub AreSoManyHeard : ℕ → Hearing → Type 0
+AreSoManyHeard before h = (t : Traced) × (length t.events ≡ before) × IsHeardSoFar t h

@@ -18,10 +18,14 @@ use Rattle.kq_history.specs.Seen.{seen_by, Shows}
 use Rattle.kq_history.specs.Touched.{touched_numbers, touched_targets}
 use Rattle.kq_history.specs.Traced.{Traced, seen_at, world_at_end}
 
-pub record IsTracked (t : Traced) (w : World) (s : Seen) : Type 0 where
+-- this is the world after all of the records
+pub record IsWorldAfter (t : Traced) (w : World) : Type 0 where
   pub world : world_of w ≡ world_at_end t
   pub counted : IsCountedWorld (length t.events + 1) (world_of w)
   pub listed : AreListed (world_of w).objects
+
+pub record IsTracked (t : Traced) (w : World) (s : Seen) : Type 0 where
+  pub after : IsWorldAfter t w
   pub shows : Shows (seen_at t) s
   pub up_to : AreAllUpTo (length t.events) s
 

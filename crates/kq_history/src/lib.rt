@@ -4,6 +4,7 @@
 
 mod answering;
 mod at;
+mod hearing;
 mod item;
 mod kqueues;
 mod log;
@@ -19,11 +20,14 @@ mod timeline;
 mod timelines;
 mod touched;
 mod tracking;
+mod watching;
 mod weave;
 
 pub use answering::Answering;
 pub use at::HistoryAt;
+pub use hearing::Hearing;
 pub use item::{Item, Source, What};
 pub use private::Private;
 pub use split::Split;
 pub use splitting::Splitting;
+pub use watching::Watching;

@@ -2,11 +2,13 @@ ghost use Rattle.std.specs.Prelude.{◌≡◌, IfOk};
 
 use crate::answering::Answering;
 use crate::at::HistoryAt;
+use crate::hearing::Hearing;
 use crate::item::Source;
 use crate::private::Private;
 use crate::said::Said;
 use crate::seen::Seen;
 use crate::splitting::Splitting;
+use crate::watching::Watching;
 use kq_model::{Event, Memory, Named, Row, Target, Trace, View};
 use std::alloc::Global;
 use std::marker::Model;
@@ -35,6 +37,7 @@ impl<'a> Model for Split<'a> {
 }
 
 impl<'a> Split<'a> {
+    ghost use Rattle.kq_history.specs.Splitting.{IsHeardSoFar, IsWatchedSoFar};
     ghost use Rattle.kq_history.specs.Traced.{places_of, plain_rows_of, seen_at, traced, IsBorn};
 
     /// One pass of the world over the trace. Its cost is that of the trace. Memory: a growth was refused.
@@ -45,6 +48,25 @@ impl<'a> Split<'a> {
         let mut splitting = Splitting::new(alloc)?;
         splitting.take(0, events)?;
         Ok(splitting.end(trace))
+    }
+
+    /// The same from two halves, each of which took all records of the trace. Its cost is that of
+    /// dropping their worlds.
+    pub fn of_halves(trace: &'a Trace, watching: Watching, hearing: Hearing) -> Self
+        requires watched { IsWatchedSoFar (traced trace.now) watching }
+        requires heard { IsHeardSoFar (traced trace.now) hearing }
+        ensures { result ≡ traced trace.now }
+    {
+        let events = trace.events.as_slice();
+        let Watching { seen, .. } = watching;
+        let Hearing { said, plain, .. } = hearing;
+        Split {
+            version: trace.version,
+            events,
+            seen,
+            said,
+            plain,
+        }
     }
 
     /// The places where kqueues were made, rising.
@@ -143,6 +165,13 @@ impl<'a> Split<'a> {
         ensures one { result ≡ 1 }
     {
         self.version
+    }
+
+    /// How many records the trace has.
+    pub fn record_count(&self) -> u64
+        ensures { result ≡ length self.now.events }
+    {
+        self.events.len() as u64
     }
 
     /// How many kqueues the trace makes: fewer than it has records.

@@ -1,21 +1,15 @@
 ghost use Rattle.std.specs.Prelude.{◌≡◌, ◌+◌, ◌<◌, ◌^◌, ◌++◌, [], ℕ, length, IfOk, OnOk};
-ghost use Rattle.kq_process.specs.World.{world_of};
-ghost use Rattle.kq_history.specs.Heard.{IsHeard};
-ghost use Rattle.kq_history.specs.Plain.{plain_row};
-ghost use Rattle.kq_history.specs.Sayings.{kqueue_of};
 ghost use Rattle.kq_history.specs.Splitting.{AreSoMany, IsSplitSoFar};
 ghost use Rattle.kq_history.specs.Traced.{traced, Traced};
-ghost use Rattle.kq_model.specs.Objects.{counted};
-ghost use Rattle.kq_model.specs.World as model;
-ghost use Rattle.std.specs.List.Sorted.{IsStrictlyIncreasing};
 
+use crate::hearing::{hear, put_plain};
 use crate::said::{Before, Said};
 use crate::seen::Seen;
 use crate::split::Split;
 use crate::touched::Touched;
 use crate::tracking::track;
-use kq_model::{Event, Memory, Reply, Row, Trace, Why};
-use kq_process::{Effect, World};
+use kq_model::{Event, Memory, Row, Trace};
+use kq_process::World;
 use std::alloc::Global;
 
 /// A split of the records that came so far, part by part: so that it can run beside their reading.
@@ -91,40 +85,6 @@ impl Splitting {
             seen,
             said,
             plain,
-        }
-    }
-}
-
-/// What the record of a place says, where it was possible.
-fn hear(
-    said: &mut Said,
-    place: u64,
-    event: &Event,
-    effect: &Effect,
-    before: Before,
-    world: &World,
-) -> Result<(), Memory>
-    requires rising { IsStrictlyIncreasing said.old.kqueues.places.items }
-    requires one_each { length said.old.kqueues.concerned.items ≡ length said.old.kqueues.places.items }
-    ensures { OnOk result ((old : model.World counted) → before.clock ≡ old.now
-        → before.kqueue ≡ kqueue_of event.now old
-        → IsHeard place event.now effect.now old (world_of world.now) said.old said.new) }
-{
-    match effect.verdict {
-        Err(_) => Ok(()),
-        Ok(()) => said.hear(place, event, effect, before, world),
-    }
-}
-
-/// Adds the row of the record at a place, if it is impossible.
-fn put_plain(plain: &mut Vec<Row>, at: u64, verdict: &Result<(), Why>) -> Result<(), Memory>
-    ensures { OnOk result (plain.new.items ≡ plain.old.items ++ plain_row at verdict.now) }
-{
-    match verdict {
-        Ok(()) => Ok(()),
-        Err(why) => {
-            let reply = Reply::Impossible(*why);
-            plain.push(Row { at, reply }).map_err(|_| Memory)
         }
     }
 }

@@ -21,7 +21,7 @@ track-requires-clause-counted c =
     let given = c.requires.before in
     let so_far = c.loop-taken.invariant given.0 given.1 given.2 in
     subst (λ k. IsCountedWorld k (world_of c.loop-taken.self.world))
-    (place-of-next given.0 c.args.events.now c.args.before c.loop-taken.taken given.1 c.loop-taken.auto.taken-end) so_far.tracked.counted
+    (place-of-next given.0 c.args.events.now c.args.before c.loop-taken.taken given.1 c.loop-taken.auto.taken-end) so_far.tracked.after.counted
 
 pub track-requires-clause-up_to : goal.track-requires-clause-up_to
 track-requires-clause-up_to c =
