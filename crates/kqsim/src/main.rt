@@ -4,6 +4,7 @@
 
 mod command_line;
 mod fault;
+mod halves;
 mod input;
 mod living;
 mod order;

@@ -1,18 +1,22 @@
 ghost use Rattle.std.specs.Prelude.{◌≡◌, ◌↔◌, IfErr, IfOk, IsErrOf};
-ghost use Rattle.kq_model.specs.Report.{report_of};
+ghost use Rattle.kq_model.specs.Report.{report, report_of};
 ghost use Rattle.kqsim.specs.Replay.{IsFault, IsReplayFault, IsReport};
-ghost use Rattle.kqsim.specs.Splitter.{HasSplit};
 ghost use Rattle.kqsim.specs.Workers.{IsWorkerCount};
 
 use crate::fault::Fault;
+use crate::halves::HalvesSplitter;
 use crate::splitter::Splitter;
 use crate::workers::is_worker_count;
+use kq_history::Split;
 use kq_merge::{merge_with, report_text_with};
-use kq_model::Trace;
+use kq_model::{Memory, Row};
 use kq_replay::{Always, Gate, Open, RunFault, Starts, replay_all_with};
 use kq_trace::{TraceError, read_trace_told};
 use std::sync::Wait;
-use std::thread::Threads;
+use std::thread::{Threads, join};
+
+/// With fewer workers the second pass of the world takes time from reading.
+const LEAST_FOR_HALVES: u32 = 4;
 
 /// The report of the trace that the bytes are, replayed by so many workers, 1 to 256; any other
 /// number is [`Fault::Usage`], before all else.
@@ -35,7 +39,6 @@ pub fn replay<R: AllocGlobal + Threads + Wait + Sync>(
 /// The same, where the gate is asked before each kqueue is replayed, with the number of the worker
 /// and that of the kqueue in order of birth, both from 1 on, and `starts` before each worker but
 /// the first is started.
-#[tactic(auto, using(crate::proofs::ReplayedTraces::replay_fault, crate::proofs::ReplayedTraces::no_usage))]
 pub fn replay_with<R: AllocGlobal + Threads + Wait + Sync, G: Gate + Sync, S: Starts>(
     rt: &R,
     bytes: &[u8],
@@ -50,9 +53,52 @@ pub fn replay_with<R: AllocGlobal + Threads + Wait + Sync, G: Gate + Sync, S: St
     if !is_worker_count(workers) {
         return Err(Fault::Usage);
     }
+    if workers < LEAST_FOR_HALVES {
+        by_one_pass(rt, bytes, workers, gate, starts)
+    } else {
+        by_halves(rt, bytes, workers, gate, starts)
+    }
+}
+
+/// The report, where one thread splits the trace while others read it.
+#[tactic(auto, using(crate::proofs::ReplayedTraces::replay_fault, crate::proofs::ReplayedTraces::no_usage))]
+fn by_one_pass<R: AllocGlobal + Threads + Wait + Sync, G: Gate + Sync, S: Starts>(
+    rt: &R,
+    bytes: &[u8],
+    workers: u32,
+    gate: &G,
+    starts: &S,
+) -> Result<Vec<u8>, Fault>
+    requires { IsWorkerCount workers }
+    ensures usage { ¬ IsErrOf result Fault.Usage }
+    ensures report { IfOk result (λ text. IsReport bytes.now text.items) }
+    ensures fault { IfErr result (IsFault bytes.now workers) }
+{
     let mut splitter = Splitter::new(rt.alloc()).map_err(|_| Fault::Memory)?;
     match read_trace_told(rt, bytes, workers, &mut splitter) {
-        Ok(trace) => trace_report(rt, &trace, splitter, workers, gate, starts),
+        Ok(trace) => trace_report(rt, splitter.end(&trace), workers, gate, starts),
+        Err(TraceError::Memory) => Err(Fault::Memory),
+        Err(TraceError::Bad { line, fault }) => Err(Fault::Trace { line, fault }),
+    }
+}
+
+/// The same, where two threads split it, so that there is one more than workers until the trace is read.
+#[tactic(auto, using(crate::proofs::ReplayedTraces::replay_fault, crate::proofs::ReplayedTraces::no_usage))]
+fn by_halves<R: AllocGlobal + Threads + Wait + Sync, G: Gate + Sync, S: Starts>(
+    rt: &R,
+    bytes: &[u8],
+    workers: u32,
+    gate: &G,
+    starts: &S,
+) -> Result<Vec<u8>, Fault>
+    requires { IsWorkerCount workers }
+    ensures usage { ¬ IsErrOf result Fault.Usage }
+    ensures report { IfOk result (λ text. IsReport bytes.now text.items) }
+    ensures fault { IfErr result (IsFault bytes.now workers) }
+{
+    let mut splitter = HalvesSplitter::new(rt).map_err(|_| Fault::Memory)?;
+    match read_trace_told(rt, bytes, workers, &mut splitter) {
+        Ok(trace) => trace_report(rt, splitter.end(&trace), workers, gate, starts),
         Err(TraceError::Memory) => Err(Fault::Memory),
         Err(TraceError::Bad { line, fault }) => Err(Fault::Trace { line, fault }),
     }
@@ -62,18 +108,15 @@ pub fn replay_with<R: AllocGlobal + Threads + Wait + Sync, G: Gate + Sync, S: St
 /// by place with those of impossible records.
 fn trace_report<R: AllocGlobal + Threads + Wait + Sync, G: Gate + Sync, S: Starts>(
     rt: &R,
-    trace: &Trace,
-    splitter: Splitter,
+    split: Split<'_>,
     workers: u32,
     gate: &G,
     starts: &S,
 ) -> Result<Vec<u8>, Fault>
-    requires workers { IsWorkerCount workers }
-    requires split { HasSplit splitter trace.now.events }
-    ensures report { IfOk result (λ text. text.items ≡ report_of trace.now.version trace.now.events) }
-    ensures fault { IfErr result (IsReplayFault trace.now.version trace.now.events workers) }
+    requires { IsWorkerCount workers }
+    ensures report { IfOk result (λ text. text.items ≡ report_of split.entry.version split.entry.events) }
+    ensures fault { IfErr result (IsReplayFault split.entry.version split.entry.events workers) }
 {
-    let split = splitter.end(trace);
     let kqueues = match replay_all_with(rt, &split, workers, gate, starts) {
         Ok(kqueues) => kqueues,
         Err(RunFault::Workers) => return Err(Fault::Usage),
@@ -81,6 +124,27 @@ fn trace_report<R: AllocGlobal + Threads + Wait + Sync, G: Gate + Sync, S: Start
         Err(RunFault::Spawn) => return Err(Fault::Spawn),
     };
     let rows = merge_with(rt, kqueues, split.plain_rows(), workers).map_err(|_| Fault::Memory)?;
-    let records = trace.events.len() as u64;
-    report_text_with(rt, rows.as_slice(), records, workers).map_err(|_| Fault::Memory)
+    let records = split.record_count();
+    written_beside(rt, split, rows.as_slice(), records, workers).map_err(|_| Fault::Memory)
+}
+
+/// The text of a report, while another thread lets go of the split that its rows came from.
+fn written_beside<R: AllocGlobal + Threads + Sync>(
+    rt: &R,
+    split: Split<'_>,
+    rows: &[Row],
+    records: u64,
+    threads: u32,
+) -> Result<Vec<u8>, Memory>
+    ensures { IfOk result (λ text. text.items ≡ report rows.now records) }
+{
+    if threads < 2 {
+        return report_text_with(rt, rows, records, threads);
+    }
+    let write = ||
+        ensures { IfOk result (λ text. text.items ≡ report rows.entry.now records) }
+    { report_text_with(rt, rows, records, threads) };
+    let let_go = || { drop(split) };
+    let (text, _) = join(rt, write, let_go);
+    text
 }

@@ -2,7 +2,7 @@
 use Rattle.std.proofs.Common.{[], refl}
 use Rattle.kqsim.specs.Splitter.{HasSplit}
 use Rattle.kqsim.proofs.ReplayedTraces.{given}
-use Rattle.kqsim.proofs.replaying.replay_with.Goals as goal
+use Rattle.kqsim.proofs.replaying.by_one_pass.Goals as goal
 
 pub read_trace_told-requires-after_bounds : goal.read_trace_told-requires-after_bounds
 read_trace_told-requires-after_bounds g c = λ lifetimes alive.
