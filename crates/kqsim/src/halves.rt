@@ -49,6 +49,7 @@ impl<'r, R: AllocGlobal + Threads + Sync> Listener for HalvesSplitter<'r, R> {
     ghost use Rattle.kqsim.specs.Splitter.{HaveSplit};
     ghost use Rattle.std.specs.Thread.{IsSync};
 
+    // `hear` starts a thread by `rt`, and knows of its type only what stands here.
     ghost heard = { λ s events. IsSync R.row × HaveSplit s.halves events };
 
     fn hear(&mut self, before: u64, events: &[Event]) -> Result<(), Memory> {
@@ -72,17 +73,17 @@ fn take_both<R: Threads + Sync>(
         → IsHeardSoFar (record { version = t.version; events = t.events ++ events.now }) halves.new.hearing) }
 {
     let Halves { watching, hearing } = halves;
-    let mut hear = ||
+    let mut take_hearing = ||
         requires { AreSoManyHeard before hearing.now × (before + length events.now < 2 ^ 31) }
         ensures { OnOk result ((t : Traced) → length t.events ≡ before → IsHeardSoFar t hearing.entry.now
             → IsHeardSoFar (record { version = t.version; events = t.events ++ events.entry.now }) hearing.exit.now) }
     { hearing.take(before, events) };
-    let mut watch = ||
+    let mut take_watching = ||
         requires { AreSoManyWatched before watching.now × (before + length events.now < 2 ^ 31) }
         ensures { OnOk result ((t : Traced) → length t.events ≡ before → IsWatchedSoFar t watching.entry.now
             → IsWatchedSoFar (record { version = t.version; events = t.events ++ events.entry.now }) watching.exit.now) }
     { watching.take(before, events) };
-    let (heard, watched) = join_mut(rt, &mut hear, &mut watch);
-    watched?;
-    heard
+    let (hearing_taken, watching_taken) = join_mut(rt, &mut take_hearing, &mut take_watching);
+    watching_taken?;
+    hearing_taken
 }

@@ -60,7 +60,7 @@ pub fn replay_with<R: AllocGlobal + Threads + Wait + Sync, G: Gate + Sync, S: St
     }
 }
 
-/// The report, where one thread splits the trace while others read it.
+/// The report, where one thread splits the trace while others read it; by one worker it is split once it is read.
 #[tactic(auto, using(crate::proofs::ReplayedTraces::replay_fault, crate::proofs::ReplayedTraces::no_usage))]
 fn by_one_pass<R: AllocGlobal + Threads + Wait + Sync, G: Gate + Sync, S: Starts>(
     rt: &R,
@@ -128,7 +128,8 @@ fn trace_report<R: AllocGlobal + Threads + Wait + Sync, G: Gate + Sync, S: Start
     written_beside(rt, split, rows.as_slice(), records, workers).map_err(|_| Fault::Memory)
 }
 
-/// The text of a report, while another thread lets go of the split that its rows came from.
+/// The text of a report. By two threads or more it is written while the calling one lets go of the split that its
+/// rows came from.
 fn written_beside<R: AllocGlobal + Threads + Sync>(
     rt: &R,
     split: Split<'_>,
