@@ -71,6 +71,11 @@ among-then xs ys old mid new first second = λ t is.
     (λ in_ys. second t (in-first ys mid t in_ys)))
     (λ in_old. second t (in-second ys mid t (first t (in-second xs old t in_old))))
 
+-- behind the same others
+pub among-behind : (xs ys zs : List Target) → AreAmong ys zs → AreAmong (xs ++ ys) (xs ++ zs)
+among-behind xs ys zs among = λ t is.
+    in-either xs ys t is (λ in_xs. in-first xs zs t in_xs) (λ in_ys. in-second xs zs t (among t in_ys))
+
 -- twice the same
 pub among-once : (xs old new : List Target) → AreAmong (xs ++ old) new → AreAmong (xs ++ xs ++ old) new
 among-once xs old new all = λ t is.

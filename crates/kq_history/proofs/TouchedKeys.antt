@@ -12,11 +12,10 @@ use Rattle.kq_model.specs.Close.{Pair, has_pair}
 use Rattle.kq_model.specs.Descriptors.{Descriptor, is_before, with_descriptor, with_descriptors}
 use Rattle.kq_model.specs.ProcessPlans.{descriptors_of}
 use Rattle.kq_model.specs.Targets.{target_eq}
-use Rattle.kq_model.specs.Views.{Views}
 use Rattle.kq_model.specs.World.{with_kqueue}
 use Rattle.kq_model.proofs.KnoteLaws.{by_test}
 use Rattle.kq_history.specs.Spoken.{process_targets, file_targets}
-use Rattle.kq_history.specs.Touched.{has_number, has_target, keys_of, targets_of}
+use Rattle.kq_history.specs.Touched.{has_number, has_target, keys_of}
 
 pub or_true : (b : Bool) → (b || true) ≡ true
 or_true true = refl
@@ -108,19 +107,19 @@ all-have ts (x ∷ xs) part =
     All-cons (λ t. has_target t ts ≡ true) x xs (part x (ap (λ b. b || has_target x xs) (target-itself x)))
     (all-have ts xs (λ t there. part t (ap (λ b. target_eq x t || b) there ∙ or_true (target_eq x t))))
 
--- what a number of these names is among what they all name
-pub named-have : (before after : Views) (pid number : ℕ) (t : Target) (ps : List (ℕ × ℕ)) → has_number pid number ps ≡ true
-    → has_target t (targets_of before after (pid, number)) ≡ true → has_target t (flat_map (targets_of before after) ps) ≡ true
-named-have before after pid number t [] there names = absurd (true≢false (sym there))
-named-have before after pid number t (p ∷ ps) there names =
-    by_test (λ b. (eqb p.0 pid && eqb p.1 number) ≡ b → (b || has_number pid number ps) ≡ true → has_target t (flat_map (targets_of before after) (p ∷ ps)) ≡ true) (eqb p.0 pid && eqb p.1 number)
-    (λ _ is _. in_left (λ x. target_eq x t) (targets_of before after p) (flat_map (targets_of before after) ps) (same p is))
-    (λ _ _ later. in_right (λ x. target_eq x t) (targets_of before after p) (flat_map (targets_of before after) ps) (named-have before after pid number t ps later names)) refl there
+-- what stands for a number of these is among what stands for them all
+pub named-have : (of : ℕ × ℕ → List Target) (pid number : ℕ) (t : Target) (ps : List (ℕ × ℕ)) → has_number pid number ps ≡ true
+    → has_target t (of (pid, number)) ≡ true → has_target t (flat_map of ps) ≡ true
+named-have of pid number t [] there names = absurd (true≢false (sym there))
+named-have of pid number t (p ∷ ps) there names =
+    by_test (λ b. (eqb p.0 pid && eqb p.1 number) ≡ b → (b || has_number pid number ps) ≡ true → has_target t (flat_map of (p ∷ ps)) ≡ true) (eqb p.0 pid && eqb p.1 number)
+    (λ _ is _. in_left (λ x. target_eq x t) (of p) (flat_map of ps) (same p is))
+    (λ _ _ later. in_right (λ x. target_eq x t) (of p) (flat_map of ps) (named-have of pid number t ps later names)) refl there
   where
-    same : (p : ℕ × ℕ) → (eqb p.0 pid && eqb p.1 number) ≡ true → has_target t (targets_of before after p) ≡ true
+    same : (p : ℕ × ℕ) → (eqb p.0 pid && eqb p.1 number) ≡ true → has_target t (of p) ≡ true
     same (a, b) is =
         let both = and_parts (eqb a pid) (eqb b number) is in
-        ap₂ (λ x y. has_target t (targets_of before after (x, y))) (eqb-true a pid both.0) (eqb-true b number both.1) ∙ names
+        ap₂ (λ x y. has_target t (of (x, y))) (eqb-true a pid both.0) (eqb-true b number both.1) ∙ names
 
 -- which process a record speaks of
 pub process-spoken : (x y : Option ℕ) (pid : ℕ) → has_target (target.Process pid) (process_targets x ++ file_targets y) ≡ true → x ≡ Some pid

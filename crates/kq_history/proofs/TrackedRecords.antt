@@ -17,8 +17,8 @@ use Rattle.kq_model.specs.World.{World, Plan, Impossible, Possible, carried_out,
 use Rattle.kq_history.specs.declared.seen.Seen.{Seen}
 use Rattle.kq_history.specs.Noted.{IsNextWorld}
 use Rattle.kq_history.specs.Seen.{seen_by, Shows}
-use Rattle.kq_history.specs.Touched.{has_target, targets_named, told_targets, touched_numbers, touched_targets}
-use Rattle.kq_history.specs.Spoken.{spoken_targets}
+use Rattle.kq_history.specs.Touched.{all_named, has_target, targets_named, told_targets, touched_numbers, touched_targets}
+use Rattle.kq_history.specs.Spoken.{opened_numbers, spoken_numbers, spoken_targets}
 use Rattle.kq_history.specs.Traced.{Traced, longer, seen_at}
 use Rattle.kq_history.proofs.AnyWithin.{any-within}
 use Rattle.kq_history.proofs.ListedRecords.{listed-record}
@@ -26,7 +26,6 @@ use Rattle.kq_history.proofs.TouchedKeys.{to_pair}
 use Rattle.kq_history.proofs.TracedWorlds.{end, next, now, seen-longer, seen-stands}
 use Rattle.kq_history.proofs.UntouchedRecords.{untouched_number, untouched_view}
 use Rattle.kq_history.specs.Within.{IsWithin, IsWithinRecord}
-use Rattle.kq_history.specs.Spoken.{spoken_numbers}
 
 module _ (t : Traced) (e : Event) (counts : IsCountedWorld (end t e) (now t e)) (lists : AreListed (now t e).objects) where
   -- what was seen after the last record
@@ -44,9 +43,9 @@ module _ (t : Traced) (e : Event) (counts : IsCountedWorld (end t e) (now t e)) 
   targets-same : (s : Seen) (after : Views) (hints : _) (numbers : List (ℕ × ℕ)) → Shows (seen_at t) s
       → touched_targets e hints (seen_by s (end t e)) after numbers ≡ touched_targets e hints (views_of (now t e)) after numbers
   targets-same s after hints numbers shows =
-      ap (λ names. named_by_numbers after names numbers ++ (told_targets hints ++ spoken_targets e)) (before-same s shows)
+      ap (λ names. named_by_numbers after names numbers ++ (told_targets hints ++ (spoken_targets e ++ all_named after (spoken_numbers e)))) (before-same s shows)
 
-  within : (p : Plan) → plan (end t e) e (now t e) ≡ Possible p → IsWithin (spoken_numbers e) (spoken_targets e) (now t e) p
+  within : (p : Plan) → plan (end t e) e (now t e) ≡ Possible p → IsWithin (opened_numbers e) (spoken_numbers e) (spoken_targets e) (now t e) p
   within p is = subst (IsWithinRecord e (now t e)) is (any-within (end t e) e (now t e) counts.rising)
 
   -- ---- a possible record

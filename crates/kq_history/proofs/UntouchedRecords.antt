@@ -20,15 +20,15 @@ use Rattle.kq_model.specs.World.{World, Plan, carried_out, named_by, view_in, vi
 use Rattle.kq_model.proofs.KnoteLaws.{by_test}
 use Rattle.kq_model.proofs.UntouchedNumbers.{untouched-number}
 use Rattle.kq_model.proofs.UntouchedTargets.{untouched-target}
-use Rattle.kq_history.specs.Spoken.{spoken_file, spoken_numbers, spoken_process, spoken_targets}
-use Rattle.kq_history.specs.Touched.{has_number, has_target, open_numbers, targets_named, targets_of, told_targets, touched_numbers, touched_targets}
+use Rattle.kq_history.specs.Spoken.{opened_numbers, spoken_file, spoken_numbers, spoken_process, spoken_targets}
+use Rattle.kq_history.specs.Touched.{all_named, has_number, has_target, open_numbers, targets_named, targets_of, told_targets, touched_numbers, touched_targets}
 use Rattle.kq_history.specs.Within.{IsWithin, PassesAll}
 use Rattle.kq_history.proofs.Altering.{unaltered}
 use Rattle.kq_history.proofs.RisingTables.{IsNamedIn, is_same, named-rising, opened-put, stand-there}
 use Rattle.kq_history.proofs.TouchedKeys.{all-have, in_left, in_right, named-have, none-passes, open-has, pairs-have, process-spoken, table-has, to_pair}
 
 module _ (place : ℕ) (e : Event) (w : World counted) (p : Plan) (closed : List (ℕ × ℕ)) (shut : map to_pair closed ≡ p.closed)
-    (within : IsWithin (spoken_numbers e) (spoken_targets e) w p) where
+    (within : IsWithin (opened_numbers e) (spoken_numbers e) (spoken_targets e) w p) where
   abbrev after : World counted
   after = carried_out place p w
 
@@ -40,14 +40,14 @@ module _ (place : ℕ) (e : Event) (w : World counted) (p : Plan) (closed : List
   is_it : ℕ → ℕ → Descriptor → Bool
   is_it pid number d = eqb d.pid pid && eqb d.number number
 
-  spoken-touched : (pid number : ℕ) → has_number pid number (spoken_numbers e) ≡ true → has_number pid number numbers ≡ true
-  spoken-touched pid number there =
-      in_right (λ (x : ℕ × ℕ). (x.0 == pid) && (x.1 == number)) closed (spoken_numbers e ++ open_numbers (spoken_process e) after)
-      (in_left (λ (x : ℕ × ℕ). (x.0 == pid) && (x.1 == number)) (spoken_numbers e) (open_numbers (spoken_process e) after) there)
+  said-touched : (pid number : ℕ) → has_number pid number (opened_numbers e) ≡ true → has_number pid number numbers ≡ true
+  said-touched pid number there =
+      in_right (λ (x : ℕ × ℕ). (x.0 == pid) && (x.1 == number)) closed (opened_numbers e ++ open_numbers (spoken_process e) after)
+      (in_left (λ (x : ℕ × ℕ). (x.0 == pid) && (x.1 == number)) (opened_numbers e) (open_numbers (spoken_process e) after) there)
 
   closed-touched : (pid number : ℕ) → has_pair pid number p.closed ≡ true → has_number pid number numbers ≡ true
   closed-touched pid number there =
-      in_left (λ (x : ℕ × ℕ). (x.0 == pid) && (x.1 == number)) closed (spoken_numbers e ++ open_numbers (spoken_process e) after)
+      in_left (λ (x : ℕ × ℕ). (x.0 == pid) && (x.1 == number)) closed (opened_numbers e ++ open_numbers (spoken_process e) after)
       (sym (pairs-have pid number closed) ∙ ap (has_pair pid number) shut ∙ there)
 
   open-touched : (x : Option ℕ) (pid number : ℕ) → x ≡ Some pid → list_any (λ (d : Descriptor). eqb d.pid pid && eqb d.number number) after.table ≡ true
@@ -59,17 +59,17 @@ module _ (place : ℕ) (e : Event) (w : World counted) (p : Plan) (closed : List
   unfolding carried_out
   started-touched d starting there =
       let spoken = process-spoken (spoken_process e) (spoken_file e) d.pid (within.process d.pid (ap (λ b. b || ends d.pid p.ended) starting)) in
-      in_right (λ (x : ℕ × ℕ). (x.0 == d.pid) && (x.1 == d.number)) closed (spoken_numbers e ++ open_numbers (spoken_process e) after)
-      (in_right (λ (x : ℕ × ℕ). (x.0 == d.pid) && (x.1 == d.number)) (spoken_numbers e) (open_numbers (spoken_process e) after)
+      in_right (λ (x : ℕ × ℕ). (x.0 == d.pid) && (x.1 == d.number)) closed (opened_numbers e ++ open_numbers (spoken_process e) after)
+      (in_right (λ (x : ℕ × ℕ). (x.0 == d.pid) && (x.1 == d.number)) (opened_numbers e) (open_numbers (spoken_process e) after)
       (open-touched (spoken_process e) d.pid d.number spoken
       (table-has (is_same d) place p.born p.opened (without_closed p.closed w.table) there)))
 
   opened-touched : All (λ (d : Descriptor). has_number d.pid d.number numbers ≡ true) p.opened
   opened-touched =
-      All-both (λ (d : Descriptor). (has_number d.pid d.number (spoken_numbers e) || starts d.pid p.started) ≡ true) (λ (d : Descriptor). list_any (is_same d) p.opened ≡ true)
+      All-both (λ (d : Descriptor). (has_number d.pid d.number (opened_numbers e) || starts d.pid p.started) ≡ true) (λ (d : Descriptor). list_any (is_same d) p.opened ≡ true)
       (λ (d : Descriptor). has_number d.pid d.number numbers ≡ true) (λ d spoken there.
-      by_test (λ b. has_number d.pid d.number (spoken_numbers e) ≡ b → (b || starts d.pid p.started) ≡ true → has_number d.pid d.number numbers ≡ true) (has_number d.pid d.number (spoken_numbers e))
-      (λ _ is _. spoken-touched d.pid d.number is) (λ _ _ starting. started-touched d starting there) refl spoken)
+      by_test (λ b. has_number d.pid d.number (opened_numbers e) ≡ b → (b || starts d.pid p.started) ≡ true → has_number d.pid d.number numbers ≡ true) (has_number d.pid d.number (opened_numbers e))
+      (λ _ is _. said-touched d.pid d.number is) (λ _ _ starting. started-touched d starting there) refl spoken)
       p.opened within.opened (stand-there p.opened)
 
   born-touched : (pid number : ℕ) (x : Option Pair) → p.born ≡ x → has_number pid number numbers ≡ false → has_pair pid number (born_numbers x) ≡ false
@@ -79,7 +79,7 @@ module _ (place : ℕ) (e : Event) (w : World counted) (p : Plan) (closed : List
       ap (λ t. t || false) (false_from_ne_true (eqb b.pid pid && eqb b.number number) (λ same.
       let both = and_parts (eqb b.pid pid) (eqb b.number number) same in
       both_ways (has_number pid number numbers) absent
-      (ap₂ (λ x y. has_number x y numbers) (sym (eqb-true b.pid pid both.0)) (sym (eqb-true b.number number both.1)) ∙ spoken-touched b.pid b.number (within.born b is))))
+      (ap₂ (λ x y. has_number x y numbers) (sym (eqb-true b.pid pid both.0)) (sym (eqb-true b.number number both.1)) ∙ said-touched b.pid b.number (within.born b is))))
 
   pub untouched_number : (pid number : ℕ) → has_number pid number numbers ≡ false → named_among pid number after.table ≡ named_among pid number w.table
   untouched_number pid number absent =
@@ -109,16 +109,33 @@ module _ (place : ℕ) (e : Event) (w : World counted) (p : Plan) (closed : List
     abbrev named_targets : List Target
     named_targets = flat_map (targets_of (views_of w) (views_of after)) numbers
 
+    -- what it speaks of, and what its numbers name
+    abbrev spoken_on : List Target
+    spoken_on = spoken_targets e ++ all_named (views_of after) (spoken_numbers e)
+
     named-passes : (pid number : ℕ) (t : Target) → has_number pid number numbers ≡ true → has_target t (targets_of (views_of w) (views_of after) (pid, number)) ≡ true → passes t ≡ true
     named-passes pid number t there names =
-        in_left (λ x. target_eq x t) named_targets (told_targets p.hints ++ spoken_targets e)
-        (named-have (views_of w) (views_of after) pid number t numbers there names)
+        in_left (λ x. target_eq x t) named_targets (told_targets p.hints ++ spoken_on)
+        (named-have (targets_of (views_of w) (views_of after)) pid number t numbers there names)
 
     before-passes : (pid number : ℕ) → has_number pid number numbers ≡ true → All (λ t. passes t ≡ true) (targets_named (named_among pid number w.table))
     unfolding views_of named_by
     before-passes pid number there =
         all-have targets (targets_named (named_among pid number w.table))
         (λ t names. named-passes pid number t there (in_left (λ x. target_eq x t) (targets_named (named_among pid number w.table)) (targets_named (named_among pid number after.table)) names))
+
+    -- a number that it does not touch names after it what it named before it
+    spoken-passes : (pid number : ℕ) → has_number pid number (spoken_numbers e) ≡ true → All (λ t. passes t ≡ true) (targets_named (named_among pid number w.table))
+    unfolding views_of named_by
+    spoken-passes pid number there =
+        by_test (λ b. has_number pid number numbers ≡ b → All (λ t. passes t ≡ true) (targets_named (named_among pid number w.table))) (has_number pid number numbers)
+        (λ _ touched. before-passes pid number touched)
+        (λ _ untouched. all-have targets (targets_named (named_among pid number w.table))
+        (λ t names. in_right (λ x. target_eq x t) named_targets (told_targets p.hints ++ spoken_on)
+        (in_right (λ x. target_eq x t) (told_targets p.hints) spoken_on
+        (in_right (λ x. target_eq x t) (spoken_targets e) (all_named (views_of after) (spoken_numbers e))
+        (named-have (λ (x : ℕ × ℕ). targets_named ((views_of after).descriptor x.0 x.1)) pid number t (spoken_numbers e) there
+        (ap (λ n. has_target t (targets_named n)) (untouched_number pid number untouched) ∙ names)))))) refl
 
     after-passes : (d : Descriptor) → has_number d.pid d.number numbers ≡ true → IsNamedIn after.table d → All (λ t. passes t ≡ true) (targets_named (Some d.named))
     unfolding views_of named_by
@@ -132,15 +149,16 @@ module _ (place : ℕ) (e : Event) (w : World counted) (p : Plan) (closed : List
     unfolding carried_out
     opened-named = opened-put (IsNamedIn after.table) place p.born p.opened (without_closed p.closed w.table) (named-rising after.table rising)
 
-    all-pass : PassesAll (spoken_numbers e) (spoken_targets e) w passes p
+    all-pass : PassesAll (opened_numbers e) (spoken_numbers e) (spoken_targets e) w passes p
     all-pass = record {
-      told = all-have targets (told_targets p.hints) (λ t there. in_right (λ x. target_eq x t) named_targets (told_targets p.hints ++ spoken_targets e)
-          (in_left (λ x. target_eq x t) (told_targets p.hints) (spoken_targets e) there));
-      spoken = all-have targets (spoken_targets e) (λ t there. in_right (λ x. target_eq x t) named_targets (told_targets p.hints ++ spoken_targets e)
-          (in_right (λ x. target_eq x t) (told_targets p.hints) (spoken_targets e) there));
+      told = all-have targets (told_targets p.hints) (λ t there. in_right (λ x. target_eq x t) named_targets (told_targets p.hints ++ spoken_on)
+          (in_left (λ x. target_eq x t) (told_targets p.hints) spoken_on there));
+      spoken = all-have targets (spoken_targets e) (λ t there. in_right (λ x. target_eq x t) named_targets (told_targets p.hints ++ spoken_on)
+          (in_right (λ x. target_eq x t) (told_targets p.hints) spoken_on
+          (in_left (λ x. target_eq x t) (spoken_targets e) (all_named (views_of after) (spoken_numbers e)) there)));
       opened = All-both (λ (d : Descriptor). has_number d.pid d.number numbers ≡ true) (IsNamedIn after.table)
           (λ (d : Descriptor). All (λ t. passes t ≡ true) (targets_named (Some d.named))) (λ d there named. after-passes d there named) p.opened opened-touched opened-named;
-      numbered = λ pid number there. before-passes pid number (spoken-touched pid number there);
+      numbered = spoken-passes;
       closed = λ pid number there. before-passes pid number (closed-touched pid number there);
     }
 
@@ -148,8 +166,9 @@ module _ (place : ℕ) (e : Event) (w : World counted) (p : Plan) (closed : List
     process-untouched pid absent =
         false_from_ne_true (starts pid p.started || ends pid p.ended) (λ is.
         both_ways (passes (target.Process pid)) absent
-        (in_right (λ x. target_eq x (target.Process pid)) named_targets (told_targets p.hints ++ spoken_targets e)
-        (in_right (λ x. target_eq x (target.Process pid)) (told_targets p.hints) (spoken_targets e) (within.process pid is))))
+        (in_right (λ x. target_eq x (target.Process pid)) named_targets (told_targets p.hints ++ spoken_on)
+        (in_right (λ x. target_eq x (target.Process pid)) (told_targets p.hints) spoken_on
+        (in_left (λ x. target_eq x (target.Process pid)) (spoken_targets e) (all_named (views_of after) (spoken_numbers e)) (within.process pid is)))))
 
     object-untouched : (t : Target) → passes t ≡ false → view_of t (all_done p.doings w.objects) ≡ view_of t w.objects
     object-untouched t absent = unaltered passes w.objects listed t p.doings absent (within.doings passes all-pass)

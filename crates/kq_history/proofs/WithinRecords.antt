@@ -77,18 +77,18 @@ spoken-passes has number (t ∷ ts) all there =
     (λ _ is _. ap has (sym (file_is number t is)) ∙ All-head (λ x. has x ≡ true) t ts all)
     (λ _ _ later. spoken-passes has number ts (All-tail (λ x. has x ≡ true) t ts all) later) refl there
 
-module _ (numbers : List (ℕ × ℕ)) (targets : List Target) (w : World counted) where
+module _ (opens numbers : List (ℕ × ℕ)) (targets : List Target) (w : World counted) where
   abbrev Stays : Planned → Type 0
-  Stays q = StaysWithin numbers targets w q
+  Stays q = StaysWithin opens numbers targets w q
 
   refused : (why : Why) → Stays (Impossible why)
   refused why = tt
 
   -- a record that opens nothing, makes nothing and notes nothing
-  quiet : (p : Plan) → p.opened ≡ [] → p.born ≡ None → p.doings ≡ [] → p.started ≡ None → p.ended ≡ None → IsWithin numbers targets w p
+  quiet : (p : Plan) → p.opened ≡ [] → p.born ≡ None → p.doings ≡ [] → p.started ≡ None → p.ended ≡ None → IsWithin opens numbers targets w p
   unfolding starts ends
   quiet p no_opened no_born no_doings no_started no_ended = record {
-    opened = subst (λ (ds : List Descriptor). All (λ (d : Descriptor). (has_number d.pid d.number numbers || starts d.pid p.started) ≡ true) ds) (sym no_opened) (All-nil _);
+    opened = subst (λ (ds : List Descriptor). All (λ (d : Descriptor). (has_number d.pid d.number opens || starts d.pid p.started) ≡ true) ds) (sym no_opened) (All-nil _);
     born = λ x is. absurd (no_number x (sym no_born ∙ is));
     process = λ pid is. absurd (true≢false (sym is ∙ ap₂ (λ s e. starts pid s || ends pid e) no_started no_ended));
     doings = λ has passes. subst (λ (ds : List Doing). All (Accounts has w.objects) ds) (sym no_doings) (All-nil _);
@@ -97,21 +97,21 @@ module _ (numbers : List (ℕ × ℕ)) (targets : List Target) (w : World counte
   -- ---- records about objects
 
   abbrev Names : List Descriptor → List Target → Type 0
-  Names ds ts = (has : Target → Bool) (p : Plan) → p.opened ≡ ds → PassesAll numbers targets w has p → All (λ t. has t ≡ true) ts
+  Names ds ts = (has : Target → Bool) (p : Plan) → p.opened ≡ ds → PassesAll opens numbers targets w has p → All (λ t. has t ≡ true) ts
 
   objects-within : (ds : List Descriptor) (place : ℕ) (a : Act) (q : object.Planned) → object_planning.plan place a w.objects ≡ q
-      → All (λ (d : Descriptor). has_number d.pid d.number numbers ≡ true) ds → Names ds (act_targets place a) → Stays (with_objects ds q)
+      → All (λ (d : Descriptor). has_number d.pid d.number opens ≡ true) ds → Names ds (act_targets place a) → Stays (with_objects ds q)
   unfolding with_objects starts ends
   objects-within ds place a (Err why) is there names = tt
   objects-within ds place a (Ok p) is there names = record {
-    opened = All-weaker (λ (d : Descriptor). has_number d.pid d.number numbers ≡ true) (λ (d : Descriptor). (has_number d.pid d.number numbers || false) ≡ true)
+    opened = All-weaker (λ (d : Descriptor). has_number d.pid d.number opens ≡ true) (λ (d : Descriptor). (has_number d.pid d.number opens || false) ≡ true)
         (λ d has. ap (λ b. b || false) has) ds there;
     born = λ x none. absurd (no_number x none);
     process = λ pid never. absurd (true≢false (sym never));
     doings = λ has passes. subst (AreAccounted has w.objects) is (accounted has w.objects place a (names has _ refl passes)) passes.told;
   }
 
-  act-within : (ds : List Descriptor) (place : ℕ) (a : Act) → All (λ (d : Descriptor). has_number d.pid d.number numbers ≡ true) ds
+  act-within : (ds : List Descriptor) (place : ℕ) (a : Act) → All (λ (d : Descriptor). has_number d.pid d.number opens ≡ true) ds
       → Names ds (act_targets place a) → Stays (plan_act place ds a w)
   unfolding plan_act
   act-within ds place a there names = objects-within ds place a (object_planning.plan place a w.objects) refl there names
@@ -125,17 +125,17 @@ module _ (numbers : List (ℕ × ℕ)) (targets : List Target) (w : World counte
       (λ n live found. act-within [] place (at n) (All-nil _)
       (λ has p _ passes. subst (λ ts. All (λ t. has t ≡ true) ts) (ap targets_named found ∙ sym (names n)) (passes.numbered pid fd there)))
 
-  one-there : (pid fd : ℕ) (n : Named) → has_number pid fd numbers ≡ true → All (λ (d : Descriptor). has_number d.pid d.number numbers ≡ true) (descriptor pid fd n ∷ [])
-  one-there pid fd n there = All-cons (λ (d : Descriptor). has_number d.pid d.number numbers ≡ true) (descriptor pid fd n) [] there (All-nil _)
+  one-there : (pid fd : ℕ) (n : Named) → has_number pid fd opens ≡ true → All (λ (d : Descriptor). has_number d.pid d.number opens ≡ true) (descriptor pid fd n ∷ [])
+  one-there pid fd n there = All-cons (λ (d : Descriptor). has_number d.pid d.number opens ≡ true) (descriptor pid fd n) [] there (All-nil _)
 
   -- what the first of the opened numbers names
-  opened-names : (d : Descriptor) (ds : List Descriptor) (has : Target → Bool) (p : Plan) → p.opened ≡ d ∷ ds → PassesAll numbers targets w has p
+  opened-names : (d : Descriptor) (ds : List Descriptor) (has : Target → Bool) (p : Plan) → p.opened ≡ d ∷ ds → PassesAll opens numbers targets w has p
       → All (λ t. has t ≡ true) (targets_named (Some d.named))
   opened-names d ds has p is passes =
       All-head (λ (x : Descriptor). All (λ t. has t ≡ true) (targets_named (Some x.named))) d ds
       (subst (λ xs. All (λ (x : Descriptor). All (λ t. has t ≡ true) (targets_named (Some x.named))) xs) is passes.opened)
 
-  pub socket-within : (place pid fd receive send : ℕ) → has_number pid fd numbers ≡ true → Stays (plan_socket place pid fd receive send w)
+  pub socket-within : (place pid fd receive send : ℕ) → has_number pid fd opens ≡ true → Stays (plan_socket place pid fd receive send w)
   unfolding plan_socket
   socket-within place pid fd receive send there =
       let n : Named = named.Socket place in
@@ -145,7 +145,7 @@ module _ (numbers : List (ℕ × ℕ)) (targets : List Target) (w : World counte
       (λ _. unless_open-holds Stays refused w pid (fd ∷ []) made
       (λ _. act-within ds place (act.Socket receive send) (one-there pid fd n there) (opened-names (descriptor pid fd n) [])))
 
-  pub accept-within : (place pid fd to receive send : ℕ) → has_number pid fd numbers ≡ true → has_number pid to numbers ≡ true → Stays (plan_accept place pid fd to receive send w)
+  pub accept-within : (place pid fd to receive send : ℕ) → has_number pid fd numbers ≡ true → has_number pid to opens ≡ true → Stays (plan_accept place pid fd to receive send w)
   unfolding plan_accept
   accept-within place pid fd to receive send there new =
       let made_by : Named → Planned = λ n. plan_act place (descriptor pid to (named.Socket place) ∷ []) (act.Accept n receive send) w in
@@ -156,7 +156,7 @@ module _ (numbers : List (ℕ × ℕ)) (targets : List Target) (w : World counte
       (opened-names (descriptor pid to (named.Socket place)) [] has p is passes)
       (subst (λ x. All (λ t. has t ≡ true) (targets_named x)) found (passes.numbered pid fd there)))))
 
-  pub open-within : (place pid fd number : ℕ) (mode : Mode) → has_number pid fd numbers ≡ true → Stays (plan_open place pid fd number mode w)
+  pub open-within : (place pid fd number : ℕ) (mode : Mode) → has_number pid fd opens ≡ true → Stays (plan_open place pid fd number mode w)
   unfolding plan_open
   open-within place pid fd number mode there =
       let n : Named = named.Open place number in
@@ -166,7 +166,7 @@ module _ (numbers : List (ℕ × ℕ)) (targets : List Target) (w : World counte
       (λ _. unless_open-holds Stays refused w pid (fd ∷ []) made
       (λ _. act-within ds place (act.Open number mode) (one-there pid fd n there) (opened-names (descriptor pid fd n) [])))
 
-  pub pipe-within : (place pid rfd wfd cap : ℕ) → has_number pid rfd numbers ≡ true → has_number pid wfd numbers ≡ true → Stays (plan_pipe place pid rfd wfd cap w)
+  pub pipe-within : (place pid rfd wfd cap : ℕ) → has_number pid rfd opens ≡ true → has_number pid wfd opens ≡ true → Stays (plan_pipe place pid rfd wfd cap w)
   unfolding plan_pipe
   pipe-within place pid rfd wfd cap reads writes =
       let reader : Descriptor = descriptor pid rfd (named.PipeRead place) in
@@ -177,7 +177,7 @@ module _ (numbers : List (ℕ × ℕ)) (targets : List Target) (w : World counte
       (λ _. unless Stays refused w (rfd == wfd) UsedDescriptor unless_used
       (λ _. unless_open-holds Stays refused w pid (rfd ∷ wfd ∷ []) made
       (λ _. act-within (reader ∷ writer ∷ []) place (act.Pipe cap)
-      (All-cons (λ (d : Descriptor). has_number d.pid d.number numbers ≡ true) reader (writer ∷ []) reads (one-there pid wfd (named.PipeWrite place) writes))
+      (All-cons (λ (d : Descriptor). has_number d.pid d.number opens ≡ true) reader (writer ∷ []) reads (one-there pid wfd (named.PipeWrite place) writes))
       (opened-names reader (writer ∷ [])))))
 
   -- ---- descriptors
@@ -205,14 +205,14 @@ module _ (numbers : List (ℕ × ℕ)) (targets : List Target) (w : World counte
   before pid to None has is names told = All-nil _
   before pid to (Some n) has is names told = released pid to n has is names told
 
-  shared : (pid fd to : ℕ) (n : Named) → has_number pid to numbers ≡ true → Stays (if fd == to then Possible idle else Possible (record idle {
+  shared : (pid fd to : ℕ) (n : Named) → has_number pid to opens ≡ true → has_number pid to numbers ≡ true → Stays (if fd == to then Possible idle else Possible (record idle {
     closed = closes pid to (named_by pid to w);
     opened = record { pid = pid; number = to; named = n } ∷ [];
     doings = close_doings (named_by pid to w) w.objects ++ hold_doings n;
     hints = close_hints (named_by pid to w) w.objects;
   }))
   unfolding starts ends named_by
-  shared pid fd to n there =
+  shared pid fd to n opens_it there =
       by_test (λ b. Stays (if b then Possible idle else Possible (record idle {
         closed = closes pid to (named_among pid to w.table);
         opened = record { pid = pid; number = to; named = n } ∷ [];
@@ -221,8 +221,8 @@ module _ (numbers : List (ℕ × ℕ)) (targets : List Target) (w : World counte
       }))) (fd == to)
       (λ _. quiet idle refl refl refl refl refl)
       (λ _. record {
-        opened = All-cons (λ (d : Descriptor). (has_number d.pid d.number numbers || false) ≡ true) (record { pid = pid; number = to; named = n }) []
-            (ap (λ b. b || false) there) (All-nil _);
+        opened = All-cons (λ (d : Descriptor). (has_number d.pid d.number opens || false) ≡ true) (record { pid = pid; number = to; named = n }) []
+            (ap (λ b. b || false) opens_it) (All-nil _);
         born = λ x none. absurd (no_number x none);
         process = λ other never. absurd (true≢false (sym never));
         doings = λ has passes. All-append (Accounts has w.objects) (close_doings (named_among pid to w.table) w.objects) (hold_doings n)
@@ -230,19 +230,19 @@ module _ (numbers : List (ℕ × ℕ)) (targets : List Target) (w : World counte
             (held-accounted has w.objects n (opened-names (record { pid = pid; number = to; named = n }) [] has _ refl passes));
       })
 
-  duplicated-within : (pid fd to : ℕ) (n : Named) → has_number pid to numbers ≡ true → Stays (duplicated pid fd to w n)
+  duplicated-within : (pid fd to : ℕ) (n : Named) → has_number pid to opens ≡ true → has_number pid to numbers ≡ true → Stays (duplicated pid fd to w n)
   unfolding duplicated
-  duplicated-within pid fd to (named.Kqueue place) there = tt
-  duplicated-within pid fd to (named.Socket place) there = shared pid fd to (named.Socket place) there
-  duplicated-within pid fd to (named.PipeRead place) there = shared pid fd to (named.PipeRead place) there
-  duplicated-within pid fd to (named.PipeWrite place) there = shared pid fd to (named.PipeWrite place) there
-  duplicated-within pid fd to (named.Open place number) there = shared pid fd to (named.Open place number) there
+  duplicated-within pid fd to (named.Kqueue place) opens_it there = tt
+  duplicated-within pid fd to (named.Socket place) opens_it there = shared pid fd to (named.Socket place) opens_it there
+  duplicated-within pid fd to (named.PipeRead place) opens_it there = shared pid fd to (named.PipeRead place) opens_it there
+  duplicated-within pid fd to (named.PipeWrite place) opens_it there = shared pid fd to (named.PipeWrite place) opens_it there
+  duplicated-within pid fd to (named.Open place number) opens_it there = shared pid fd to (named.Open place number) opens_it there
 
-  pub dup-within : (pid fd to : ℕ) → has_number pid to numbers ≡ true → Stays (plan_dup pid fd to w)
+  pub dup-within : (pid fd to : ℕ) → has_number pid to opens ≡ true → has_number pid to numbers ≡ true → Stays (plan_dup pid fd to w)
   unfolding plan_dup
-  dup-within pid fd to there = on_descriptor-holds Stays refused w pid fd (duplicated pid fd to w) (λ n _ _. duplicated-within pid fd to n there)
+  dup-within pid fd to opens_it there = on_descriptor-holds Stays refused w pid fd (duplicated pid fd to w) (λ n _ _. duplicated-within pid fd to n opens_it there)
 
-  pub kqueue-within : (pid fd : ℕ) → has_number pid fd numbers ≡ true → Stays (plan_kqueue pid fd w)
+  pub kqueue-within : (pid fd : ℕ) → has_number pid fd opens ≡ true → Stays (plan_kqueue pid fd w)
   unfolding plan_kqueue starts ends
   kqueue-within pid fd there =
       let makes : Planned = Possible (record idle { born = Some (record { pid = pid; number = fd }) }) in
@@ -250,7 +250,7 @@ module _ (numbers : List (ℕ × ℕ)) (targets : List Target) (w : World counte
       (λ _. unless Stays refused w (is_some (named_by pid fd w)) UsedDescriptor makes
       (λ _. record {
         opened = All-nil _;
-        born = λ x is. (let same : record { pid = pid; number = fd } ≡ x = cc in ap (λ (p : Pair). has_number p.pid p.number numbers) (sym same) ∙ there);
+        born = λ x is. (let same : record { pid = pid; number = fd } ≡ x = cc in ap (λ (p : Pair). has_number p.pid p.number opens) (sym same) ∙ there);
         process = λ other never. absurd (true≢false (sym never));
         doings = λ has passes. All-nil _;
       }))
@@ -291,9 +291,9 @@ module _ (numbers : List (ℕ × ℕ)) (targets : List Target) (w : World counte
       unless_gone Stays refused w pid (if was_used child w.processes then Impossible UsedPid else forks)
       (λ _. unless Stays refused w (was_used child w.processes) UsedPid forks
       (λ _. record {
-        opened = All-map (λ (d : Descriptor). (has_number d.pid d.number numbers || (child == d.pid)) ≡ true) (λ (d : Descriptor). record d { pid = child }) (inheritable (descriptors_of pid w.table))
-            (every (λ (d : Descriptor). (has_number child d.number numbers || (child == child)) ≡ true)
-            (λ d. ap (λ b. has_number child d.number numbers || b) (eq-eqb child child refl) ∙ or_true (has_number child d.number numbers)) (inheritable (descriptors_of pid w.table)));
+        opened = All-map (λ (d : Descriptor). (has_number d.pid d.number opens || (child == d.pid)) ≡ true) (λ (d : Descriptor). record d { pid = child }) (inheritable (descriptors_of pid w.table))
+            (every (λ (d : Descriptor). (has_number child d.number opens || (child == child)) ≡ true)
+            (λ d. ap (λ b. has_number child d.number opens || b) (eq-eqb child child refl) ∙ or_true (has_number child d.number opens)) (inheritable (descriptors_of pid w.table)));
         born = λ x none. absurd (no_number x none);
         process = λ other is. started-there child other there is;
         doings = λ has passes. all_held-accounted has w.objects (names_of ds)

@@ -32,6 +32,20 @@ second_number (event.Accept pid fd to rcv snd) = Some (pid, to)
 second_number (event.Pipe pid rfd wfd cap) = Some (pid, wfd)
 second_number _ = None
 
+-- a number that the record opens where it is possible: its only one, or the first of two
+unfoldable pub first_opened : Event → Option (ℕ × ℕ)
+first_opened (event.Kqueue pid fd) = Some (pid, fd)
+first_opened (event.Dup pid fd to) = Some (pid, to)
+first_opened (event.Socket pid fd rcv snd) = Some (pid, fd)
+first_opened (event.Accept pid fd to rcv snd) = Some (pid, to)
+first_opened (event.Pipe pid rfd wfd cap) = Some (pid, rfd)
+first_opened (event.Open pid fd file mode) = Some (pid, fd)
+first_opened _ = None
+
+unfoldable pub second_opened : Event → Option (ℕ × ℕ)
+second_opened (event.Pipe pid rfd wfd cap) = Some (pid, wfd)
+second_opened _ = None
+
 -- a process that starts or exits
 unfoldable pub spoken_process : Event → Option ℕ
 spoken_process (event.Proc pid) = Some pid
@@ -51,6 +65,9 @@ option_list (Some x) = x ∷ []
 
 abbrev pub spoken_numbers : Event → List (ℕ × ℕ)
 spoken_numbers e = option_list (first_number e) ++ option_list (second_number e)
+
+abbrev pub opened_numbers : Event → List (ℕ × ℕ)
+opened_numbers e = option_list (first_opened e) ++ option_list (second_opened e)
 
 abbrev pub process_targets : Option ℕ → List Target
 process_targets None = []

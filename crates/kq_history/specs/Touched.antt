@@ -1,5 +1,6 @@
--- What may be another one after a record: the numbers that it closed or speaks of, and those of a process that it
--- started; what these name before it and after it, whom it told, and what it speaks of.
+-- What may be another one after a record: the numbers that it closed or opens, and those of a process that it
+-- started; what these name before it and after it, whom it told, what it speaks of, and what the numbers that it
+-- speaks of name after it.
 use Rattle.std.specs.Prelude.{◌≡◌, ℕ, ◌==◌, Bool, true, ◌&&◌, List, [], ◌∷◌, ◌++◌, map, Option, Some, None}
 use Rattle.std.specs.List.{flat_map, list_any}
 use Rattle.kq_model.specs.declared.event.Event.{Event}
@@ -13,7 +14,7 @@ use Rattle.kq_model.specs.ProcessPlans.{descriptors_of}
 use Rattle.kq_model.specs.Targets.{Posted, target_eq}
 use Rattle.kq_model.specs.Views.{Views}
 use Rattle.kq_model.specs.World.{World}
-use Rattle.kq_history.specs.Spoken.{spoken_numbers, spoken_process, spoken_targets}
+use Rattle.kq_history.specs.Spoken.{opened_numbers, spoken_numbers, spoken_process, spoken_targets}
 
 abbrev pub has_number : ℕ → ℕ → List (ℕ × ℕ) → Bool
 has_number pid number pairs = list_any (λ (p : ℕ × ℕ). (p.0 == pid) && (p.1 == number)) pairs
@@ -37,7 +38,7 @@ open_numbers (Some pid) w = keys_of (descriptors_of pid w.table)
 
 -- `w` is the world after the record
 abbrev pub touched_numbers : Event → List (ℕ × ℕ) → World counted → List (ℕ × ℕ)
-touched_numbers e closed w = closed ++ (spoken_numbers e ++ open_numbers (spoken_process e) w)
+touched_numbers e closed w = closed ++ (opened_numbers e ++ open_numbers (spoken_process e) w)
 
 -- ---- targets
 
@@ -56,10 +57,15 @@ targets_of before after p = targets_named (before.descriptor p.0 p.1) ++ targets
 abbrev pub told_targets : List Posted → List Target
 told_targets hints = map (λ (p : Posted). p.0) hints
 
--- besides those that its numbers name
-abbrev pub other_targets : Event → List Posted → List Target
-other_targets e hints = told_targets hints ++ spoken_targets e
+-- by these numbers, in one world
+abbrev pub all_named : Views → List (ℕ × ℕ) → List Target
+all_named views numbers = flat_map (λ (p : ℕ × ℕ). targets_named (views.descriptor p.0 p.1)) numbers
+
+-- besides those that the numbers name which it touches; a number that it speaks of and does not touch names the same
+-- before it and after it
+abbrev pub other_targets : Event → List Posted → Views → List Target
+other_targets e hints after = told_targets hints ++ (spoken_targets e ++ all_named after (spoken_numbers e))
 
 abbrev pub touched_targets : Event → List Posted → Views → Views → List (ℕ × ℕ) → List Target
 touched_targets e hints before after numbers =
-    flat_map (targets_of before after) numbers ++ other_targets e hints
+    flat_map (targets_of before after) numbers ++ other_targets e hints after

@@ -1,4 +1,4 @@
--- What a record does stays within what it touches: it opens no numbers but those that it speaks of and those of a
+-- What a record does stays within what it touches: it opens no numbers but those that it says it opens and those of a
 -- process that it starts, and what it alters is accounted for by whom it tells, by what it speaks of, and by what its
 -- numbers name before it and after it.
 use Rattle.std.specs.Prelude.{◌≡◌, ℕ, Bool, true, ◌||◌, List, Some, All}
@@ -11,10 +11,10 @@ use Rattle.kq_model.specs.Objects.{counted}
 use Rattle.kq_model.specs.TouchedTargets.{starts, ends}
 use Rattle.kq_model.specs.World.{World, Plan, Planned, Impossible, Possible}
 use Rattle.kq_history.specs.Accounts.{Accounts}
-use Rattle.kq_history.specs.Spoken.{spoken_numbers, spoken_targets}
+use Rattle.kq_history.specs.Spoken.{opened_numbers, spoken_numbers, spoken_targets}
 use Rattle.kq_history.specs.Touched.{has_number, has_target, targets_named, told_targets}
 
-module _ (numbers : List (ℕ × ℕ)) (targets : List Target) (w : World counted) where
+module _ (opens numbers : List (ℕ × ℕ)) (targets : List Target) (w : World counted) where
   abbrev pub HasEach : (Target → Bool) → List Target → Type 0
   HasEach has ts = All (λ t. has t ≡ true) ts
 
@@ -29,8 +29,8 @@ module _ (numbers : List (ℕ × ℕ)) (targets : List Target) (w : World counte
         → HasEach has (targets_named (named_among pid number w.table))
 
   pub record IsWithin (p : Plan) : Type 0 where
-    pub opened : All (λ (d : Descriptor). (has_number d.pid d.number numbers || starts d.pid p.started) ≡ true) p.opened
-    pub born : (x : Pair) → p.born ≡ Some x → has_number x.pid x.number numbers ≡ true
+    pub opened : All (λ (d : Descriptor). (has_number d.pid d.number opens || starts d.pid p.started) ≡ true) p.opened
+    pub born : (x : Pair) → p.born ≡ Some x → has_number x.pid x.number opens ≡ true
     pub process : (pid : ℕ) → (starts pid p.started || ends pid p.ended) ≡ true
         → has_target (Process pid) targets ≡ true
     pub doings : (has : Target → Bool) → PassesAll has p → All (Accounts has w.objects) p.doings
@@ -41,4 +41,4 @@ module _ (numbers : List (ℕ × ℕ)) (targets : List Target) (w : World counte
 
 -- the record keeps within what it speaks of
 abbrev pub IsWithinRecord : Event → World counted → Planned → Type 0
-IsWithinRecord e w q = StaysWithin (spoken_numbers e) (spoken_targets e) w q
+IsWithinRecord e w q = StaysWithin (opened_numbers e) (spoken_numbers e) (spoken_targets e) w q

@@ -1,7 +1,7 @@
 // What a record speaks of by itself: numbers of the process that acts, a process that starts or
 // exits, and a file.
 ghost use Rattle.std.specs.Prelude.{◌≡◌};
-ghost use Rattle.kq_history.specs.Spoken.{first_number, second_number, spoken_file, spoken_process};
+ghost use Rattle.kq_history.specs.Spoken.{first_number, first_opened, second_number, second_opened, spoken_file, spoken_process};
 
 use kq_model::Event;
 
@@ -40,6 +40,33 @@ pub fn second_number(event: &Event) -> Option<(u32, u32)>
     match event {
         Event::Dup { pid, to, .. } => Some((*pid, *to)),
         Event::Accept { pid, to, .. } => Some((*pid, *to)),
+        Event::Pipe { pid, wfd, .. } => Some((*pid, *wfd)),
+        _ => None,
+    }
+}
+
+/// The only number that a record opens where it is possible, or the first of two, with its process.
+#[tactic(auto, unfolding(crate::specs::Spoken::first_opened))]
+pub fn first_opened(event: &Event) -> Option<(u32, u32)>
+    ensures { result ≡ first_opened event.now }
+{
+    match event {
+        Event::Kqueue { pid, fd } => Some((*pid, *fd)),
+        Event::Dup { pid, to, .. } => Some((*pid, *to)),
+        Event::Socket { pid, fd, .. } => Some((*pid, *fd)),
+        Event::Accept { pid, to, .. } => Some((*pid, *to)),
+        Event::Pipe { pid, rfd, .. } => Some((*pid, *rfd)),
+        Event::Open { pid, fd, .. } => Some((*pid, *fd)),
+        _ => None,
+    }
+}
+
+/// The second number that a record opens where it is possible, with its process.
+#[tactic(auto, unfolding(crate::specs::Spoken::second_opened))]
+pub fn second_opened(event: &Event) -> Option<(u32, u32)>
+    ensures { result ≡ second_opened event.now }
+{
+    match event {
         Event::Pipe { pid, wfd, .. } => Some((*pid, *wfd)),
         _ => None,
     }

@@ -1,13 +1,17 @@
 // What may be another one after a record. To name too much does no harm: what did not change is
 // noted as it was.
 ghost use Rattle.std.specs.Prelude.{◌≡◌, ◌++◌, ◌∷◌, [], OnOk};
+ghost use Rattle.kq_model.specs.World.{views_of};
 ghost use Rattle.kq_history.specs.Spoken.{file_targets, option_list, process_targets};
-ghost use Rattle.kq_history.specs.Touched.{keys_of, open_numbers, touched_numbers};
+ghost use Rattle.kq_history.specs.Spoken.{spoken_numbers, spoken_targets};
+ghost use Rattle.kq_history.specs.Touched.{all_named, keys_of, open_numbers, touched_numbers};
 ghost use Rattle.kq_history.specs.Touched.{other_targets, targets_named, told_targets, AreAmong};
 ghost use Rattle.kq_process.specs.Processes.{descriptors_in};
 ghost use Rattle.kq_process.specs.World.{world_of};
 
-use crate::spoken::{first_number, second_number, spoken_file, spoken_process};
+use crate::spoken::{
+    first_number, first_opened, second_number, second_opened, spoken_file, spoken_process,
+};
 use kq_model::{Event, Hint, Memory, Named, Target};
 use kq_process::{Effect, World};
 use std::alloc::Global;
@@ -31,19 +35,20 @@ impl Touched {
         }
     }
 
-    /// The numbers that this record touched, and the targets but those that its numbers name, in
+    /// The numbers that this record touched, and the targets but those that these numbers name, in
     /// place of what another one did. The world is that after the record.
     pub fn fill(&mut self, event: &Event, effect: &Effect, world: &World) -> Result<(), Memory>
         ensures numbers { OnOk result (self.new.numbers.items
             ≡ touched_numbers event.now effect.now.closed (world_of world.now)) }
-        ensures targets { OnOk result (self.new.targets.items ≡ other_targets event.now effect.now.hints) }
+        ensures targets { OnOk result (AreAmong
+            (other_targets event.now effect.now.hints (views_of (world_of world.now))) self.new.targets.items) }
     {
         put_numbers(&mut self.numbers, event, effect.closed.as_slice(), world)?;
-        put_targets(&mut self.targets, event, effect.hints.as_slice())
+        put_targets(&mut self.targets, event, effect.hints.as_slice(), world)
     }
 }
 
-/// The numbers that may name something else after a record: those that it closed or speaks of, and
+/// The numbers that may name something else after a record: those that it closed or opened, and
 /// those of a process that it started. The world is that after the record.
 fn put_numbers(
     numbers: &mut Vec<(u32, u32)>,
@@ -55,8 +60,8 @@ fn put_numbers(
 {
     numbers.clear();
     numbers.extend_from_slice(closed).map_err(|_| Memory)?;
-    push_number(numbers, first_number(event))?;
-    push_number(numbers, second_number(event))?;
+    push_number(numbers, first_opened(event))?;
+    push_number(numbers, second_opened(event))?;
     push_open(numbers, spoken_process(event), world)
 }
 
@@ -96,19 +101,44 @@ fn push_numbers(
     Ok(())
 }
 
-/// The targets of which something else may be seen after a record, besides those that its numbers
-/// name: whom it told, and what it speaks of.
+/// The targets of which something else may be seen after a record, besides those that the numbers
+/// name which it touched: whom it told, what it speaks of, and what its numbers name.
 fn put_targets(
     targets: &mut Vec<Target>,
     event: &Event,
     hints: &[(Target, Hint)],
+    world: &World,
 ) -> Result<(), Memory>
-    ensures { OnOk result (targets.new.items ≡ other_targets event.now hints.now) }
+    ensures { OnOk result (AreAmong (other_targets event.now hints.now (views_of (world_of world.now)))
+        targets.new.items) }
 {
     targets.clear();
     push_told(targets, hints)?;
+    put_spoken(targets, event)?;
+    add_by_number(targets, first_number(event), world)?;
+    add_by_number(targets, second_number(event), world)
+}
+
+fn put_spoken(targets: &mut Vec<Target>, event: &Event) -> Result<(), Memory>
+    ensures { OnOk result (targets.new.items ≡ targets.old.items ++ spoken_targets event.now) }
+{
     push_process(targets, spoken_process(event))?;
     push_file(targets, spoken_file(event))
+}
+
+/// Adds what filters may watch by a number.
+fn add_by_number(
+    targets: &mut Vec<Target>,
+    number: Option<(u32, u32)>,
+    world: &World,
+) -> Result<(), Memory>
+    ensures { OnOk result (AreAmong (all_named (views_of (world_of world.now)) (option_list number)
+        ++ targets.old.items) targets.new.items) }
+{
+    match number {
+        None => Ok(()),
+        Some((pid, number)) => add_named(targets, world.descriptor(pid, number)),
+    }
 }
 
 /// Adds what filters may watch by a number that named one thing and names another.
@@ -126,7 +156,7 @@ pub fn add_both(
     add_named(targets, named)
 }
 
-/// Adds what filters may watch by a number.
+/// Adds what filters may watch by what a number names.
 fn add_named(targets: &mut Vec<Target>, named: Option<Named>) -> Result<(), Memory>
     ensures { OnOk result (AreAmong (targets_named named ++ targets.old.items) targets.new.items) }
 {

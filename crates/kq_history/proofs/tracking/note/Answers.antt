@@ -1,0 +1,34 @@
+use Rattle.std.proofs.Common.{◌∙◌, ◌++◌, ℕ, List, OnOk, Result, Ok, Err, subst}
+use Rattle.std.specs.List.{flat_map}
+use Rattle.kq_model.specs.declared.object.Target.{Target}
+use Rattle.kq_model.specs.Views.{Views}
+use Rattle.kq_model.specs.World.{views_of}
+use Rattle.kq_process.specs.World.{world_of}
+use Rattle.kq_history.specs.Noted.{IsNextWorld}
+use Rattle.kq_history.specs.Seen.{seen_by, Shows}
+use Rattle.kq_history.specs.Touched.{other_targets, targets_of, touched_numbers}
+use Rattle.kq_history.proofs.NamedTargets.{among-behind, next-among}
+use Rattle.kq_history.proofs.tracking.note.Goals as goal
+
+on_ok : {T E : Type 0} {P Q : Type 0} (r : Result T E) → (P → Q) → OnOk r P → OnOk r Q
+on_ok (Ok x) then p = then p
+on_ok (Err e) then p = tt
+
+pub returns-clause-noted : goal.returns-clause-noted
+returns-clause-noted c =
+    let place = c.args.place in
+    let e = c.args.event.now in
+    let after : Views = views_of (world_of c.args.world.now) in
+    let numbers : List (ℕ × ℕ) = touched_numbers e c.args.effect.now.closed (world_of c.args.world.now) in
+    let old = c.args.seen.now in
+    let new = c.note.new.self in
+    let others : List Target = other_targets e c.args.effect.now.hints after in
+    let named : List Target = flat_map (targets_of (seen_by old place) after) numbers in
+    on_ok c.note.result
+    (λ (shows : (worlds next : ℕ → Views) → IsNextWorld place after numbers (named ++ c.fill.new.self.targets.items) worlds next → Shows worlds old → Shows next new).
+    λ (worlds next : ℕ → Views) (is : IsNextWorld place after numbers (named ++ others) worlds next).
+    shows worlds next (next-among place after numbers (named ++ others) (named ++ c.fill.new.self.targets.items) worlds next
+    (among-behind named others c.fill.new.self.targets.items c.in_ok-fill.ensures.targets) is))
+    (subst (λ (ns : List (ℕ × ℕ)). OnOk c.note.result ((worlds next : ℕ → Views) → IsNextWorld place after ns
+    (flat_map (targets_of (seen_by old place) after) ns ++ c.fill.new.self.targets.items) worlds next → Shows worlds old → Shows next new))
+    (c.as_slice.ensures.value ∙ c.in_ok-fill.ensures.numbers) c.note.ensures.shows)
