@@ -3,6 +3,10 @@ use Rattle.std.specs.Prelude.{◌≡◌, ℕ, List, Result, IfErr}
 use Rattle.std.proofs.lemmas.Result.{IfErr-weaker}
 use Rattle.kq_model.specs.declared.event.Event.{Event}
 use Rattle.kq_model.specs.Reading.{Good, reading}
+use Rattle.kq_trace.specs.Faults.{IsFault}
+use Rattle.kq_trace.specs.declared.fault.TraceError.{TraceError}
+use Rattle.kq_trace.specs.declared.fault.TraceError.TheVariants as error
+use Rattle.kqsim.specs.Fault.{fault_of}
 use Rattle.kqsim.specs.Living.{IsLiveFault, IsRunFault}
 use Rattle.kqsim.specs.declared.fault.Fault.{Fault}
 use Rattle.kqsim.specs.declared.fault.Fault.TheVariants.{Usage, Read, Trace, Memory, Spawn, Write}
@@ -20,3 +24,8 @@ pub run_fault : {B : Type 0} (bytes : List ℕ) (threads version : ℕ) (events 
     → reading bytes ≡ Good version events → IfErr r (IsRunFault threads) → IfErr r (IsLiveFault bytes threads)
 run_fault bytes threads version events r good =
     IfErr-weaker r (IsRunFault threads) (IsLiveFault bytes threads) (fault_of_run bytes threads version events good)
+
+-- a text that is no trace
+pub read_fault : (bytes : List ℕ) (threads : ℕ) (error : TraceError) → IsFault bytes error → IsLiveFault bytes threads (fault_of error)
+read_fault bytes threads error.Memory is = tt
+read_fault bytes threads (error.Bad line fault) is = is

@@ -16,6 +16,10 @@ use Rattle.kq_history.specs.Traced.{Traced, births_of, places_of, plain_rows_of}
 use Rattle.kq_merge.specs.ByPlace.{IsOnlyOrder, NeverFall, rows_in}
 use Rattle.kq_merge.proofs.Places.{never_fall}
 use Rattle.kq_replay.specs.Replayed.{AreReplayed}
+use Rattle.kq_trace.specs.Faults.{IsFault as IsTraceFault}
+use Rattle.kq_trace.specs.declared.fault.TraceError.{TraceError}
+use Rattle.kq_trace.specs.declared.fault.TraceError.TheVariants as error
+use Rattle.kqsim.specs.Fault.{fault_of}
 use Rattle.kqsim.specs.Replay.{IsFault, IsReplayFault}
 use Rattle.kqsim.specs.Workers.{IsWorkerCount}
 use Rattle.kqsim.specs.declared.fault.Fault.{Fault}
@@ -65,6 +69,11 @@ fault_of_replay bytes workers version events good (Trace line fault) h = absurd 
 fault_of_replay bytes workers version events good Memory h = tt
 fault_of_replay bytes workers version events good Spawn h = (h.0, (version, events, good, h.1))
 fault_of_replay bytes workers version events good Write h = h
+
+-- a text that is no trace
+pub read_fault : (bytes : List ℕ) (workers : ℕ) (error : TraceError) → IsTraceFault bytes error → IsFault bytes workers (fault_of error)
+read_fault bytes workers error.Memory is = tt
+read_fault bytes workers (error.Bad line fault) is = is
 
 -- what was read has no fault of the command line
 pub no_usage : {B : Type 0} (version workers : ℕ) (events : List Event) (r : Result B Fault)

@@ -1,5 +1,7 @@
--- The exit statuses of the program (this project's choice).
+-- The exit statuses of the program (this project's choice), and the fault of a text that is no trace.
 use Rattle.std.specs.Prelude.{ℕ}
+use Rattle.kq_trace.specs.declared.fault.TraceError.{TraceError}
+use Rattle.kq_trace.specs.declared.fault.TraceError.TheVariants as error
 use Rattle.kqsim.specs.declared.fault.Fault.{Fault}
 use Rattle.kqsim.specs.declared.fault.Fault.TheVariants.{Usage, Read, Trace, Memory, Spawn, Write}
 
@@ -10,3 +12,7 @@ status_of (Trace line fault) = 4
 status_of Memory = 5
 status_of Spawn = 6
 status_of Write = 7
+
+abbrev pub fault_of : TraceError → Fault
+fault_of error.Memory = Memory
+fault_of (error.Bad line fault) = Trace line fault

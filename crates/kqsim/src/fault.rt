@@ -1,6 +1,7 @@
 ghost use Rattle.std.specs.Prelude.{◌≡◌};
 
-use kq_model::LineFault;
+use kq_model::{LineFault, Memory};
+use kq_trace::TraceError;
 use thiserror::Error;
 
 /// Why there is no report, or not the whole of it. Its text is the line that the program prints on
@@ -41,6 +42,29 @@ impl Fault {
             Fault::Memory => 5,
             Fault::Spawn => 6,
             Fault::Write => 7,
+        }
+    }
+}
+
+impl From<Memory> for Fault {
+    ghost use Rattle.kqsim.specs.declared.fault.Fault.TheVariants.{Memory};
+
+    ghost from_gives = { λ _ fault. fault ≡ Memory };
+
+    fn from(_memory: Memory) -> Fault {
+        Fault::Memory
+    }
+}
+
+impl From<TraceError> for Fault {
+    ghost use Rattle.kqsim.specs.Fault.{fault_of};
+
+    ghost from_gives = { λ error fault. fault ≡ fault_of error };
+
+    fn from(error: TraceError) -> Fault {
+        match error {
+            TraceError::Memory => Fault::Memory,
+            TraceError::Bad { line, fault } => Fault::Trace { line, fault },
         }
     }
 }

@@ -10,7 +10,7 @@ use kq_live::Book;
 use kq_merge::report_text_with;
 use kq_model::Trace;
 use kq_serve::{Always, Gate, Open, ServeError, Starts};
-use kq_trace::{TraceError, read_trace_with, write_trace};
+use kq_trace::{read_trace_with, write_trace};
 use std::sync::Wait;
 use std::thread::Threads;
 
@@ -50,7 +50,7 @@ pub fn live_run<R: AllocGlobal + Threads + Wait + Sync>(
     live_run_with(rt, trace, threads, &Open, &Always)
 }
 
-#[tactic(auto, using(crate::proofs::LiveFaults::run_fault))]
+#[tactic(auto, using(crate::proofs::LiveFaults::run_fault, crate::proofs::LiveFaults::read_fault))]
 fn book_of<R: AllocGlobal + Threads + Wait + Sync>(
     rt: &R,
     bytes: &[u8],
@@ -63,11 +63,8 @@ fn book_of<R: AllocGlobal + Threads + Wait + Sync>(
     if !is_thread_count(threads) {
         return Err(Fault::Usage);
     }
-    match read_trace_with(rt, bytes, threads) {
-        Ok(trace) => live_run(rt, &trace, threads),
-        Err(TraceError::Memory) => Err(Fault::Memory),
-        Err(TraceError::Bad { line, fault }) => Err(Fault::Trace { line, fault }),
-    }
+    let trace = read_trace_with(rt, bytes, threads)?;
+    live_run(rt, &trace, threads)
 }
 
 /// The report of a book of the trace that the bytes are, run by so many threads, 1 to 64; any other
@@ -83,7 +80,7 @@ pub fn live_report<R: AllocGlobal + Threads + Wait + Sync>(
     ensures fault { IfErr result (IsLiveFault bytes.now threads) }
 {
     let book = book_of(rt, bytes, threads)?;
-    let rows = book.rows().map_err(|_| Fault::Memory)?;
+    let rows = book.rows()?;
     let records = book.len() as u64;
     report_text_with(rt, rows.as_slice(), records, threads).map_err(|_| Fault::Memory)
 }
@@ -99,6 +96,6 @@ pub fn book_text<R: AllocGlobal + Threads + Wait + Sync>(
     ensures fault { IfErr result (IsLiveFault bytes.now threads) }
 {
     let book = book_of(rt, bytes, threads)?;
-    let trace = book.trace().map_err(|_| Fault::Memory)?;
+    let trace = book.trace()?;
     write_trace(rt.alloc(), &trace).map_err(|_| Fault::Memory)
 }

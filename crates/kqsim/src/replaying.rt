@@ -11,7 +11,7 @@ use kq_history::Split;
 use kq_merge::{merge_with, report_text_with};
 use kq_model::{Memory, Row};
 use kq_replay::{Always, Gate, Open, RunFault, Starts, replay_all_with};
-use kq_trace::{TraceError, read_trace_told};
+use kq_trace::read_trace_told;
 use std::sync::Wait;
 use std::thread::{Threads, join};
 
@@ -61,7 +61,7 @@ pub fn replay_with<R: AllocGlobal + Threads + Wait + Sync, G: Gate + Sync, S: St
 }
 
 /// The report, where one thread splits the trace while others read it; by one worker it is split once it is read.
-#[tactic(auto, using(crate::proofs::ReplayedTraces::replay_fault, crate::proofs::ReplayedTraces::no_usage))]
+#[tactic(auto, using(crate::proofs::ReplayedTraces::replay_fault, crate::proofs::ReplayedTraces::no_usage, crate::proofs::ReplayedTraces::read_fault))]
 fn by_one_pass<R: AllocGlobal + Threads + Wait + Sync, G: Gate + Sync, S: Starts>(
     rt: &R,
     bytes: &[u8],
@@ -74,16 +74,13 @@ fn by_one_pass<R: AllocGlobal + Threads + Wait + Sync, G: Gate + Sync, S: Starts
     ensures report { IfOk result (λ text. IsReport bytes.now text.items) }
     ensures fault { IfErr result (IsFault bytes.now workers) }
 {
-    let mut splitter = Splitter::new(rt.alloc()).map_err(|_| Fault::Memory)?;
-    match read_trace_told(rt, bytes, workers, &mut splitter) {
-        Ok(trace) => trace_report(rt, splitter.end(&trace), workers, gate, starts),
-        Err(TraceError::Memory) => Err(Fault::Memory),
-        Err(TraceError::Bad { line, fault }) => Err(Fault::Trace { line, fault }),
-    }
+    let mut splitter = Splitter::new(rt.alloc())?;
+    let trace = read_trace_told(rt, bytes, workers, &mut splitter)?;
+    trace_report(rt, splitter.end(&trace), workers, gate, starts)
 }
 
 /// The same, where two threads split it, so that there is one more than workers until the trace is read.
-#[tactic(auto, using(crate::proofs::ReplayedTraces::replay_fault, crate::proofs::ReplayedTraces::no_usage))]
+#[tactic(auto, using(crate::proofs::ReplayedTraces::replay_fault, crate::proofs::ReplayedTraces::no_usage, crate::proofs::ReplayedTraces::read_fault))]
 fn by_halves<R: AllocGlobal + Threads + Wait + Sync, G: Gate + Sync, S: Starts>(
     rt: &R,
     bytes: &[u8],
@@ -96,12 +93,9 @@ fn by_halves<R: AllocGlobal + Threads + Wait + Sync, G: Gate + Sync, S: Starts>(
     ensures report { IfOk result (λ text. IsReport bytes.now text.items) }
     ensures fault { IfErr result (IsFault bytes.now workers) }
 {
-    let mut splitter = HalvesSplitter::new(rt).map_err(|_| Fault::Memory)?;
-    match read_trace_told(rt, bytes, workers, &mut splitter) {
-        Ok(trace) => trace_report(rt, splitter.end(&trace), workers, gate, starts),
-        Err(TraceError::Memory) => Err(Fault::Memory),
-        Err(TraceError::Bad { line, fault }) => Err(Fault::Trace { line, fault }),
-    }
+    let mut splitter = HalvesSplitter::new(rt)?;
+    let trace = read_trace_told(rt, bytes, workers, &mut splitter)?;
+    trace_report(rt, splitter.end(&trace), workers, gate, starts)
 }
 
 /// The report of a trace that was split: each of its kqueues is replayed alone, and their rows are put together
@@ -123,7 +117,7 @@ fn trace_report<R: AllocGlobal + Threads + Wait + Sync, G: Gate + Sync, S: Start
         Err(RunFault::Memory) => return Err(Fault::Memory),
         Err(RunFault::Spawn) => return Err(Fault::Spawn),
     };
-    let rows = merge_with(rt, kqueues, split.plain_rows(), workers).map_err(|_| Fault::Memory)?;
+    let rows = merge_with(rt, kqueues, split.plain_rows(), workers)?;
     let records = split.record_count();
     written_beside(rt, split, rows.as_slice(), records, workers).map_err(|_| Fault::Memory)
 }

@@ -1,9 +1,6 @@
 -- Nothing is split before the trace is read.
-use Rattle.std.proofs.Common.{rules, [], refl}
-use Rattle.kqsim.specs.Splitter.{HaveSplit}
-use Rattle.kqsim.proofs.ReplayedTraces.{given}
+use Rattle.std.proofs.Common.{rules}
 use Rattle.kqsim.proofs.replaying.by_halves.Goals as goal
 
 pub read_trace_told-requires-after_bounds : goal.read_trace_told-requires-after_bounds
-read_trace_told-requires-after_bounds g c = λ lifetimes alive.
-    (search rules, given (λ s. HaveSplit s.halves []) c.new.result _ c.in_ok-splitter.splitter c.in_ok-splitter.ensures.cases refl c.new.ensures)
+read_trace_told-requires-after_bounds g c = λ lifetimes alive. (search rules, c.in_ok-splitter.ensures)

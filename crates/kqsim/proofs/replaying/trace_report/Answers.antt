@@ -1,10 +1,10 @@
 -- Each kqueue's rows and the plain ones stand by place, and what they are merged to is the rows of the trace.
-use Rattle.std.proofs.Common.{rules, ◌≡◌, IfOk, List, length, refl, sym, subst}
+use Rattle.std.proofs.Common.{rules, ◌≡◌, IfOk, List, length, sym, subst}
 use Rattle.std.proofs.lemmas.Result.{IfOk-weaker}
 use Rattle.kq_model.specs.declared.row.Row.{Row}
 use Rattle.kq_model.specs.Report.{report}
 use Rattle.kq_merge.specs.ByPlace.{IsOnlyOrder, NeverFall, rows_in}
-use Rattle.kqsim.proofs.ReplayedTraces.{given, kqueues_never_fall, plain_never_falls, report_again}
+use Rattle.kqsim.proofs.ReplayedTraces.{kqueues_never_fall, plain_never_falls, report_again}
 use Rattle.kqsim.proofs.replaying.trace_report.Goals as goal
 
 pub merge_with-requires-clause-kqueues : goal.merge_with-requires-clause-kqueues
@@ -20,10 +20,8 @@ returns-clause-report g c =
     let kqueues = c.in-Ok.kqueues.items in
     let rows = c.in_ok-rows.rows.items in
     let records = c.record_count-records.result in
-    let order = given (λ merged. IsOnlyOrder (rows_in kqueues c.plain_rows.result.now) merged.items) c.merge_with.result _ c.in_ok-rows.rows
-    c.in_ok-rows.ensures.cases refl c.merge_with.ensures.only in
-    let only = subst (λ (plain : List Row). IsOnlyOrder (rows_in kqueues plain) rows) c.plain_rows.ensures order in
+    let only = subst (λ (plain : List Row). IsOnlyOrder (rows_in kqueues plain) rows) c.plain_rows.ensures c.in_ok-rows.ensures.only in
     let counts : records ≡ length split.events = c.record_count-records.ensures in
-    let written : IfOk c.map_err-2.result (λ text. text.items ≡ report rows records) = search rules in
-    IfOk-weaker c.map_err-2.result _ _
+    let written : IfOk c.map_err.result (λ text. text.items ≡ report rows records) = search rules in
+    IfOk-weaker c.map_err.result _ _
     (λ text is. report_again split kqueues rows records text.items c.in-Ok.ensures.ok only counts is) written
