@@ -55,32 +55,15 @@ pub record IsPutTogether (rows : List Row) (text : Written) (ahead : List (Resul
   pub done : text ≡ written before
   pub rest : AreWritten behind ahead
 
-pub nothing_yet : (rows : List Row) (ahead : List (Result Written Memory)) → AreWritten rows ahead → IsPutTogether rows nothing_written ahead
-unfolding row_lines call_count event_count
-nothing_yet rows ahead all = record {
-  before = [];
-  behind = rows;
+pub nothing_yet : (rows later : List Row) (text : Written) (ahead : List (Result Written Memory)) → text ≡ written rows → AreWritten later ahead
+    → IsPutTogether (rows ++ later) text ahead
+nothing_yet rows later text ahead done all = record {
+  before = rows;
+  behind = later;
   cut = refl;
-  done = refl;
+  done = done;
   rest = all;
 }
-
-first_part : (rows : List Row) (text : Written) (ahead : List (Result Written Memory)) (parts : List (List Row))
-    → flat_map (λ p. p) parts ≡ rows → AllZip IsWritten parts (Ok text ∷ ahead) → IsPutTogether rows text ahead
-first_part rows text ahead [] whole each = absurd each
-first_part rows text ahead (here ∷ parts) whole each =
-    let later = flat_map (λ p. p) parts in
-    record {
-      before = here;
-      behind = later;
-      cut = sym whole;
-      done = each.0;
-      rest = (parts, refl, each.1);
-    }
-
--- the first part begins the text
-pub put_first : (rows : List Row) (text : Written) (ahead : List (Result Written Memory)) → AreWritten rows (Ok text ∷ ahead) → IsPutTogether rows text ahead
-put_first rows text ahead all = first_part rows text ahead all.0 all.1 all.2
 
 part_behind : (rows : List Row) (text : Written) (before behind : List Row) (part : Written) (ahead : List (Result Written Memory)) (parts : List (List Row))
     → rows ≡ before ++ behind → text ≡ written before → flat_map (λ p. p) parts ≡ behind → AllZip IsWritten parts (Ok part ∷ ahead)
@@ -112,3 +95,41 @@ all_put rows text ahead so_far none =
     let each : AllZip IsWritten so_far.rest.0 [] = subst (AllZip IsWritten so_far.rest.0) none so_far.rest.2 in
     let empty : so_far.behind ≡ [] = sym so_far.rest.1 ∙ no_part so_far.rest.0 each in
     so_far.done ∙ ap written (sym (so_far.cut ∙ ap (λ l. so_far.before ++ l) empty ∙ append-nil so_far.before))
+
+-- ---- round after round
+
+-- What stands in the text was written of the first rows, the parts behind it of the rows that follow, and the rest is not written.
+pub record AreWrittenSoFar (rows : List Row) (text : Written) (parts : List (Result Written Memory)) (rest : List Row) : Type 0 where
+  pub before : List Row
+  pub behind : List Row
+  pub cut : rows ≡ before ++ (behind ++ rest)
+  pub done : text ≡ written before
+  pub next : AreWritten behind parts
+
+pub at_first : (rows : List Row) → AreWrittenSoFar rows nothing_written [] rows
+unfolding row_lines call_count event_count
+at_first rows = record {
+  before = [];
+  behind = [];
+  cut = refl;
+  done = refl;
+  next = ([], refl, tt);
+}
+
+-- the parts were put behind the text, and the next rows were written
+pub after_round : (rows round later : List Row) (text longer : Written) (parts next : List (Result Written Memory)) (rest : List Row)
+    → (so_far : AreWrittenSoFar rows text parts rest) → rest ≡ round ++ later → longer ≡ written (so_far.before ++ so_far.behind) → AreWritten round next
+    → AreWrittenSoFar rows longer next later
+after_round rows round later text longer parts next rest so_far cut put wrote = record {
+  before = so_far.before ++ so_far.behind;
+  behind = round;
+  cut = so_far.cut ∙ ap (λ r. so_far.before ++ (so_far.behind ++ r)) cut ∙ sym (append_assoc so_far.before so_far.behind (round ++ later));
+  done = put;
+  next = wrote;
+}
+
+-- with no row left, what was written is written of all
+pub at_last : (rows : List Row) (text : Written) (parts : List (Result Written Memory)) (rest : List Row) (so_far : AreWrittenSoFar rows text parts rest) → rest ≡ []
+    → so_far.before ++ so_far.behind ≡ rows
+at_last rows text parts rest so_far none =
+    sym (so_far.cut ∙ ap (λ r. so_far.before ++ (so_far.behind ++ r)) none ∙ ap (λ r. so_far.before ++ r) (append-nil so_far.behind))

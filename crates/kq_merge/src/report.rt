@@ -21,8 +21,9 @@ pub fn report_text(alloc: Global, rows: &[Row], records: u64) -> Result<Vec<u8>,
     text_of(alloc, rows)?.end(records)
 }
 
-/// The same, written by at most so many threads, of which the calling one is the first; 0 and 1
-/// start none. `rt` gives the memory and the threads; a thread that does not start is no error.
+/// The same, written by at most so many threads, of which the calling one is the first, and put together by one
+/// more while they write on; 0 and 1 start none. `rt` gives the memory and the threads; a thread that does not start
+/// is no error.
 pub fn report_text_with<R: AllocGlobal + Threads + Sync>(
     rt: &R,
     rows: &[Row],

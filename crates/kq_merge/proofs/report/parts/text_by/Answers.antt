@@ -1,36 +1,34 @@
--- The first part begins the text, and each of the others is put behind those so far.
-use Rattle.std.proofs.Common.{◌≡◌, ◌∷◌, [], Ok, ap, subst, sym, ◌∙◌, rules}
+-- Round after round: the parts of the last one go behind the text, and those of this one are written.
+use Rattle.std.proofs.Common.{◌≡◌, ◌++◌, IfOk, List, subst, sym, ap₂, ◌∙◌, rules}
+use Rattle.std.proofs.lemmas.List.{nil_from_length, take-append-drop}
+use Rattle.std.proofs.lemmas.Result.{IfOk-at_ok}
+use Rattle.kq_model.specs.declared.row.Row.{Row}
 use Rattle.kq_merge.specs.Parts.{AreWritten}
-use Rattle.kq_merge.specs.Written.{Written, nothing_written}
-use Rattle.kq_merge.proofs.WrittenParts.{IsPutTogether, all_put, nothing_yet, put_behind, put_first}
+use Rattle.kq_merge.specs.Written.{Written, written}
+use Rattle.kq_merge.proofs.WrittenParts.{after_round, at_first, at_last}
 use Rattle.kq_merge.proofs.report.parts.text_by.Goals as goal
 
-pub returns-in_default : goal.returns-in_default
-returns-in_default g c =
-    let rows = c.args.rows.now in
-    let all : AreWritten rows c.in_ok-parts.parts.items = search rules in
-    let ahead = c.from-ahead.result.items in
-    let none : ahead ≡ [] = search rules in
-    c.new.ensures ∙ all_put rows nothing_written ahead (nothing_yet rows ahead (subst (AreWritten rows) (sym c.from-ahead.ensures.0) all)) none
+pub rounds-init : goal.rounds-init
+rounds-init g c = rw (c.new-text.ensures, c.new-parts.ensures.items) (at_first c.args.rows.now)
 
-pub parts-init : goal.parts-init
-parts-init g c =
-    let rows = c.args.rows.now in
-    let all : AreWritten rows c.in_ok-parts.parts.items = search rules in
-    let text = c.in_ok-text.text in
-    let later = c.pop_front.new.self.items in
-    let ahead : c.from-ahead.result.items ≡ Ok text ∷ later = c.in-Some.ensures.items ∙ ap (λ p. p ∷ later) (search rules) in
-    put_first rows text later (subst (AreWritten rows) ahead (subst (AreWritten rows) (sym c.from-ahead.ensures.0) all))
-
-pub parts-preserved : goal.parts-preserved
-parts-preserved g c =
-    let rows = c.args.rows.now in
-    let later = c.pop_front-in-parts.new.self.items in
-    let ahead : c.parts.ahead.items ≡ Ok c.in_ok-part.field-0 ∷ later = c.in-Some-pop_front.ensures.items ∙ ap (λ p. p ∷ later) (search rules) in
-    let next = put_behind rows c.parts.text c.in_ok-part.field-0 later (subst (IsPutTogether rows c.parts.text) ahead c.parts.invariant) in
-    subst (λ (text : Written). IsPutTogether rows text later) (sym c.in_ok-text-2.ensures) next
+pub rounds-preserved : goal.rounds-preserved
+rounds-preserved g c =
+    let so_far = c.rounds.invariant in
+    let rest = c.rounds.rest.now in
+    let n = c.min.result in
+    let round = c.split_at.result.0.now in
+    let later = c.split_at.result.1.now in
+    let cut : rest ≡ round ++ later =
+    sym (ap₂ (λ (near far : List Row). near ++ far) c.split_at.ensures.front c.split_at.ensures.back ∙ take-append-drop n rest) in
+    let put = c.put_and_write-longer.ensures.put so_far.before so_far.behind so_far.done so_far.next in
+    let longer : c.in_ok-text.text ≡ written (so_far.before ++ so_far.behind) =
+    IfOk-at_ok (λ (t : Written). t ≡ written (so_far.before ++ so_far.behind)) {r = c.put_and_write-longer.result.0} c.in_ok-text.was put in
+    let next : AreWritten round c.in_ok-parts.parts.items = search rules in
+    after_round c.args.rows.now round later c.rounds.text c.in_ok-text.text c.rounds.parts.items c.in_ok-parts.parts.items rest so_far cut longer next
 
 pub returns : goal.returns
 returns g c =
-    let none : c.parts.ahead.items ≡ [] = search rules in
-    all_put c.args.rows.now c.parts.text c.parts.ahead.items c.parts.invariant none
+    let so_far = c.rounds.invariant in
+    let put = c.put_behind.ensures so_far.before so_far.behind so_far.done so_far.next in
+    let all = at_last c.args.rows.now c.rounds.text c.rounds.parts.items c.rounds.rest.now so_far (nil_from_length c.rounds.rest.now (search rules)) in
+    subst (λ (rows : List Row). IfOk c.put_behind.result (λ text. text ≡ written rows)) all put
