@@ -4,7 +4,7 @@ ghost use Rattle.std.specs.Prelude.{◌≡◌, ◌<◌, ◌+◌, ◌^◌, ◌++�
 ghost use Rattle.kq_model.specs.declared.event.Event.{Event};
 ghost use Rattle.kq_model.specs.Reading.{Good, reading};
 ghost use Rattle.kq_trace.specs.Faults.{IsFault, IsLeastFault};
-ghost use Rattle.kq_trace.specs.Told.{HasHeard};
+ghost use Rattle.kq_trace.specs.Told.{HasHeard, told_events};
 ghost use Rattle.kq_trace.specs.Unread.{IsFaultAhead, IsPart};
 ghost use Rattle.std.specs.Thread.{IsSync};
 
@@ -12,6 +12,7 @@ use crate::TraceError;
 use crate::part_reader::PartReader;
 use crate::read::read_trace_with;
 use kq_model::{Event, Memory, Series, Trace};
+use std::alloc::Global;
 use std::thread::{Threads, join_mut};
 
 /// Is told of the records of a trace, one part after the other.
@@ -28,9 +29,10 @@ pub trait Listener {
 }
 
 /// Reads the text of a trace as [`read_trace_with`](crate::read_trace_with) does, and tells the listener of its
-/// records, a part while the next one is read. So many threads are used at most, of which the calling one is the
-/// first: with 0 and 1 none is started, and the listener hears of all records at once. `Memory` also comes where the
-/// listener answered it; a thread that does not start is no error. After an error nothing is known of the listener.
+/// records, a part while the next one is read. So many threads are used at most beside those that the listener
+/// starts, and the calling one is the first: with 0 and 1 none is started, and the listener hears of all records at
+/// once. `Memory` also comes where the listener answered it; a thread that does not start is no error. After an error
+/// nothing is known of the listener.
 pub fn read_trace_told<R: AllocGlobal + Threads + Sync, L: Listener>(
     rt: &R,
     bytes: &[u8],
@@ -48,25 +50,24 @@ pub fn read_trace_told<R: AllocGlobal + Threads + Sync, L: Listener>(
     }
     let mut reader = PartReader::new(rt.alloc(), bytes)?;
     let mut part = reader.next_part(rt, threads)?;
-    let mut events = Vec::new(rt.alloc());
+    let mut told = Told::new(rt.alloc());
     'parts: while !part.is_empty() {
-        let before = events.len() as u64;
-        let (told, next) = tell_and_read(
+        let (heard, next) = tell_and_read(
             rt,
             listener,
-            before,
+            &mut told,
             part.as_slice(),
             &mut reader,
             threads - 1,
         );
         let next = next?;
-        told?;
-        events.append(&mut part).map_err(|_| Memory)?;
+        heard?;
+        told.add(part)?;
         part = next;
     }
     Ok(Trace {
         version: reader.version(),
-        events: Series::from_vec(events),
+        events: Series::from_vec(told.end()?),
     })
 }
 
@@ -87,34 +88,105 @@ fn read_and_tell<R: AllocGlobal + Threads + Sync, L: Listener>(
     Ok(trace)
 }
 
-/// Tells the listener of a part, and meanwhile reads the next one on a thread of its own.
+/// The records that the listener was told of.
+#[derive(Drop)]
+struct Told {
+    events: Vec<Event>,
+    /// Those of the last part, which stand behind the others once the next part is read.
+    last: Vec<Event>,
+}
+
+impl Told {
+    fn new(alloc: Global) -> Self
+        ensures { told_events result ≡ [] }
+    {
+        Told {
+            events: Vec::new(alloc),
+            last: Vec::new(alloc),
+        }
+    }
+
+    /// How many they are.
+    fn count(&self) -> u64
+        requires { length (told_events self.now) < 2 ^ 31 }
+        ensures { result ≡ length (told_events self.now) }
+    {
+        self.events.len() as u64 + self.last.len() as u64
+    }
+
+    /// Puts the last part behind the others.
+    fn settle(&mut self) -> Result<(), Memory>
+        ensures same { told_events self.new ≡ told_events self.old }
+        ensures settled { OnOk result (self.new.last.items ≡ []) }
+    {
+        self.events.append(&mut self.last).map_err(|_| Memory)
+    }
+
+    /// A part of which the listener was told.
+    fn add(&mut self, part: Vec<Event>) -> Result<(), Memory>
+        ensures { OnOk result (told_events self.new ≡ told_events self.old ++ part.items) }
+    {
+        self.settle()?;
+        self.last = part;
+        Ok(())
+    }
+
+    fn end(mut self) -> Result<Vec<Event>, Memory>
+        ensures { IfOk result (λ events. events.items ≡ told_events self) }
+    {
+        self.settle()?;
+        let Told { events, .. } = self;
+        Ok(events)
+    }
+}
+
+/// Tells the listener of a part, and meanwhile reads the next one on a thread of its own, which before that puts the
+/// part before behind the others.
 fn tell_and_read<'a, R: Threads + Sync, L: Listener>(
     rt: &R,
     listener: &mut L,
-    before: u64,
+    told: &mut Told,
     events: &[Event],
     reader: &mut PartReader<'a>,
     threads: u32,
 ) -> (Result<(), Memory>, Result<Vec<Event>, TraceError>)
-    requires before { HasHeard L.heard before listener.old }
-    requires few { before + length events.now < 2 ^ 31 }
-    ensures heard { OnOk result.0 ((so_far : List Event) → length so_far ≡ before → L.heard listener.old so_far
-        → L.heard listener.new (so_far ++ events.now)) }
+    requires told { L.heard listener.old (told_events told.old) }
+    requires few { length (told_events told.old) + length events.now < 2 ^ 31 }
+    ensures heard { OnOk result.0 (L.heard listener.new (told_events told.old ++ events.now)) }
+    ensures same { told_events told.new ≡ told_events told.old }
     ensures part { IfOk result.1 (λ next. IsPart next.items reader.old reader.new) }
     ensures version { reader.new.version ≡ reader.old.version }
     ensures bad { IfErr result.1 (IsFaultAhead reader.old.meaning) }
 {
+    let before = told.count();
     let mut read = ||
         requires { IsSync R.row }
-        ensures { IfOk result (λ next. IsPart next.items reader.entry.now reader.exit.now)
+        ensures { (told_events told.exit.now ≡ told_events told.entry.now)
+            × IfOk result (λ next. IsPart next.items reader.entry.now reader.exit.now)
             × (reader.exit.now.version ≡ reader.entry.now.version)
             × IfErr result (IsFaultAhead reader.entry.now.meaning) }
-    { reader.next_part(rt, threads) };
+    { settle_and_read(rt, told, reader, threads) };
     let mut tell = ||
         requires { HasHeard L.heard before listener.now × (before + length events.now < 2 ^ 31) }
         ensures { OnOk result ((so_far : List Event) → length so_far ≡ before → L.heard listener.entry.now so_far
             → L.heard listener.exit.now (so_far ++ events.entry.now)) }
     { listener.hear(before, events) };
-    let (next, told) = join_mut(rt, &mut read, &mut tell);
-    (told, next)
+    let (next, heard) = join_mut(rt, &mut read, &mut tell);
+    (heard, next)
+}
+
+/// Puts the last part behind the others, and reads the next one.
+fn settle_and_read<'a, R: Threads + Sync>(
+    rt: &R,
+    told: &mut Told,
+    reader: &mut PartReader<'a>,
+    threads: u32,
+) -> Result<Vec<Event>, TraceError>
+    ensures same { told_events told.new ≡ told_events told.old }
+    ensures part { IfOk result (λ next. IsPart next.items reader.old reader.new) }
+    ensures version { reader.new.version ≡ reader.old.version }
+    ensures bad { IfErr result (IsFaultAhead reader.old.meaning) }
+{
+    told.settle()?;
+    reader.next_part(rt, threads)
 }
