@@ -90,12 +90,15 @@ line_bad lines place other fault events lt means count so_far = (
       ∙ ap (λ n. Bad (first + n) fault) (sym count),
 )
 
-pub lines_read : (lines : List (Bor (List ℕ))) (place : ℕ) (events : Vec Event Global) → length lines ≤ place
-    → AreReadTo lines place events.items → IsReadAs (texts lines) (batch.Records events)
+pub lines_read : (lines : List (Bor (List ℕ))) (place : ℕ) (events : Vec Event Global) → length lines ≤ place → place ≤ length lines
+    → length events.items ≡ place → AreReadTo lines place events.items → IsReadAs (texts lines) (batch.Records events)
 unfolding read_records
-lines_read lines place events end so_far version first fits =
-    all_read _ _ events.items version (so_far version first fits)
-    (ap (λ ls. read_records version (first + place) (texts ls)) (drop_all place lines end))
+lines_read lines place events end within count so_far = (
+  omega (arith, end, within, count, length-map lines (λ (line : Bor (List ℕ)). line.now)),
+  λ version first fits.
+      all_read _ _ events.items version (so_far version first fits)
+      (ap (λ ls. read_records version (first + place) (texts ls)) (drop_all place lines end)),
+)
 
 -- ---- the batches of all lines
 

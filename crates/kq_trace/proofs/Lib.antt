@@ -16,3 +16,6 @@ pub mod PutTogether
 pub mod BatchLines
 pub mod WholeTrace
 pub mod PartRead
+pub mod LinesCut
+pub mod PieceLines
+pub mod ToldParts

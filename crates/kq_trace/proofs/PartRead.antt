@@ -1,11 +1,12 @@
 -- A part of the lines ahead, read on its own.
-use Rattle.std.proofs.Common.{Bor, ◌≡◌, ℕ, ◌+◌, ◌<◌, List, [], ◌∷◌, ◌++◌, length, Err, refl, sym, ap, ◌∙◌, append_assoc, arith}
+use Rattle.std.proofs.Common.{Bor, ◌≡◌, ℕ, ◌+◌, ◌<◌, ◌≤◌, List, [], ◌∷◌, ◌++◌, length, Err, refl, sym, ap, ◌∙◌, append_assoc, arith}
 use Rattle.kq_model.specs.declared.event.Event.{Event}
 use Rattle.kq_model.specs.declared.line_fault.LineFault.{LineFault}
 use Rattle.kq_model.specs.Limits.{most_records}
 use Rattle.kq_model.specs.Reading.{Outcome, Good, Bad, read_records, record_on}
 use Rattle.kq_trace.specs.declared.fault.TraceError.{TraceError}
 use Rattle.kq_trace.specs.declared.fault.TraceError.TheVariants.{Memory as NoMemory, Bad as BadTrace}
+use Rattle.kq_trace.specs.Batches.{AreRecordsAnywhere}
 use Rattle.kq_trace.specs.Rest.{lines_behind, texts}
 use Rattle.kq_trace.specs.Unread.{behind_events, IsFaultAhead}
 use Rattle.kq_trace.proofs.PutTogether.{counted, followed_by, lines_followed}
@@ -49,6 +50,19 @@ nothing_left behind version number none = no_line behind version number (empty_l
 
 -- ---- one part after the other
 
-with_part : (before more : List Event) (rest : Outcome) → behind_events before (behind_events more rest) ≡ behind_events (before ++ more) rest
+pub with_part : (before more : List Event) (rest : Outcome) → behind_events before (behind_events more rest) ≡ behind_events (before ++ more) rest
 with_part before more (Good version events) = ap (Good version) (sym (append_assoc before more events))
 with_part before more (Bad line fault) = refl
+
+-- ---- a part in pieces
+
+pub text_read : (rest text behind : List ℕ) (version number next : ℕ) (events : List Event)
+    → lines_behind rest ≡ lines_behind text ++ lines_behind behind → AreRecordsAnywhere (lines_behind text) events
+    → number + length events ≤ 2 + most_records → next ≡ number + length events
+    → read_records version number (lines_behind rest) ≡ behind_events events (read_records version next (lines_behind behind))
+text_read rest text behind version number next events cut good few is =
+    let fits : number + length (lines_behind text) ≤ 2 + most_records = omega (arith, few, good.0) in
+    let same : number + length (lines_behind text) ≡ next = omega (arith, is, good.0) in
+    ap (read_records version number) cut ∙ lines_followed version number (lines_behind text) (lines_behind behind)
+    ∙ ap (λ o. followed_by o (read_records version (number + length (lines_behind text)) (lines_behind behind))) (good.1 version number fits)
+    ∙ ap (λ n. behind_events events (read_records version n (lines_behind behind))) same

@@ -87,14 +87,14 @@ nothing_yet first lines events ahead none read = record {
 }
 
 -- the next batch is that of the next lines
-record IsNextBatch (behind : List (List ℕ)) (b : Batch) (ahead : List Batch) : Type 0 where
+pub record IsNextBatch (behind : List (List ℕ)) (b : Batch) (ahead : List Batch) : Type 0 where
   pub part : List (List ℕ)
   pub later : List (List ℕ)
   pub cut : behind ≡ part ++ later
   pub here : IsReadAs part b
   pub read : AreReadAs later ahead
 
-next_of : (behind : List (List ℕ)) (parts : List (List (List ℕ))) (b : Batch) (ahead : List Batch)
+pub next_of : (behind : List (List ℕ)) (parts : List (List (List ℕ))) (b : Batch) (ahead : List Batch)
     → flat_map (λ part. part) parts ≡ behind → AllZip IsReadAs parts (b ∷ ahead) → IsNextBatch behind b ahead
 next_of behind [] b ahead cut each = absurd each
 next_of behind (part ∷ parts) b ahead cut each = record {
@@ -137,7 +137,7 @@ put_behind first lines events more after ahead few together added =
       behind = n.later;
       cut = whole first lines events (batch.Records more) ahead together;
       good = λ version. before_and_part first lines events (batch.Records more) ahead together version
-          ∙ ap (behind_events events) (n.here version (first + length together.before) fits) ∙ ap (Good version) (sym added);
+          ∙ ap (behind_events events) (n.here.1 version (first + length together.before) fits) ∙ ap (Good version) (sym added);
       read = n.read;
     }
 
@@ -162,7 +162,7 @@ bad_next first lines events place fault ahead few together =
     )
 
 -- with no batch ahead, all lines are read
-no_part : (parts : List (List (List ℕ))) → AllZip IsReadAs parts [] → flat_map (λ part. part) parts ≡ []
+pub no_part : (parts : List (List (List ℕ))) → AllZip IsReadAs parts [] → flat_map (λ part. part) parts ≡ []
 no_part [] each = refl
 no_part (part ∷ parts) each = absurd each
 

@@ -9,11 +9,16 @@ use Rattle.kq_trace.specs.declared.batches.Batch.TheVariants.{Records, Bad, Memo
 use Rattle.kq_trace.specs.declared.fault.TraceError.{TraceError}
 use Rattle.kq_trace.specs.Unread.{IsFaultAhead}
 
+-- Wherever these lines stand among those that may be records, they are these.
+abbrev pub AreRecordsAnywhere : List (List ℕ) → List Event → Type 0
+AreRecordsAnywhere lines events =
+    (length events ≡ length lines)
+    × ((version first : ℕ) → first + length lines ≤ 2 + most_records → read_records version first lines ≡ Good version events)
+
 -- These lines are read so wherever they stand among those that may be records: a record off each, or the first bad one.
 -- That memory is short says nothing of them.
 abbrev pub IsReadAs : List (List ℕ) → Batch → Type 0
-IsReadAs lines (Records events) =
-    (version first : ℕ) → first + length lines ≤ 2 + most_records → read_records version first lines ≡ Good version events.items
+IsReadAs lines (Records events) = AreRecordsAnywhere lines events.items
 IsReadAs lines (Bad place fault) =
     (place < length lines)
     × ((version first : ℕ) → first + length lines ≤ 2 + most_records → read_records version first lines ≡ BadLine (first + place) fault)

@@ -8,4 +8,4 @@ HasHeard heard count it = (events : List Event) × (length events ≡ count) × 
 
 -- all records of which it was told
 abbrev pub told_events : Told → List Event
-told_events t = t.events.items ++ t.last.items
+told_events t = t.events.items ++ t.last

@@ -29,7 +29,7 @@ pub enum Batch {
 }
 
 /// Decodes the lines of a batch up to the first bad one.
-fn batch_of(alloc: Global, lines: &[&[u8]]) -> Batch
+pub fn batch_of(alloc: Global, lines: &[&[u8]]) -> Batch
     ensures { IsReadAs (texts lines.now) result }
 {
     let mut reader = LineReader::new(alloc);
@@ -114,7 +114,7 @@ fn joined(
 
 /// The records on these lines, decoded on the calling thread as one batch, which is not copied, or the first bad one of
 /// them, where they are numbered from `first`.
-fn events_alone(alloc: Global, first: u64, lines: &[&[u8]]) -> Result<Vec<Event>, TraceError>
+pub fn events_alone(alloc: Global, first: u64, lines: &[&[u8]]) -> Result<Vec<Event>, TraceError>
     requires { first + length lines.now ≤ 2 + most_records }
     ensures good { IfOk result (λ events. AreRecords first (texts lines.now) events.items) }
     ensures bad { IfErr result (IsFaultAmong first (texts lines.now)) }

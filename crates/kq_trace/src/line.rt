@@ -40,3 +40,17 @@ pub fn lines_up_to<'a>(
     }
     Ok((lines, rest))
 }
+
+/// A text up to its first line feed at or behind so many bytes, and what stands behind that.
+pub fn cut_behind(text: &[u8], least: usize) -> (&[u8], &[u8])
+    ensures cut { lines_behind text.now ≡ lines_behind result.0.now ++ lines_behind result.1.now }
+    ensures shorter { 0 < length text.now → length result.1.now < length text.now }
+{
+    if text.len() <= least {
+        return (text, &text[text.len()..]);
+    }
+    match memchr(b'\n', &text[least..]) {
+        Some(end) => (&text[..least + end + 1], &text[least + end + 1..]),
+        None => (text, &text[text.len()..]),
+    }
+}

@@ -1,25 +1,31 @@
 //! The records of a trace, many lines at a time.
 
-ghost use Rattle.std.specs.Prelude.{◌≡◌, IfErr, IfOk};
+ghost use Rattle.std.specs.Prelude.{◌≡◌, IfErr, IfNone, IfOk, IfSome, OnErr};
 ghost use Rattle.kq_model.specs.Reading.{reading};
 ghost use Rattle.kq_trace.specs.Faults.{IsFault};
 ghost use Rattle.kq_trace.specs.Unread.{IsFaultAhead, IsPart};
 
 use crate::TraceError;
-use crate::batches::events_on;
+use crate::batches::events_alone;
 use crate::decoding::late_fault;
 use crate::header::{FIRST_RECORD_LINE, opened};
-use crate::line::{first_line, lines_up_to};
-use kq_model::Event;
+use crate::line::{cut_behind, first_line, lines_up_to};
+use crate::part::Part;
+use crate::pieces::records_in;
+use kq_model::Memory;
 use kq_model::limits::MOST_RECORDS;
 use std::alloc::Global;
 use std::marker::Model;
 use std::thread::Threads;
 
-/// How many lines are read together: enough that it is worth threads.
+/// How many bytes are read together, and the line that they end in: enough that it is worth threads.
+const PART_BYTES: usize = 4_194_304;
+
+/// How many lines are read together where one after the other is read.
 const PART_LINES: u64 = 32_768;
 
-/// Reads the records of a text part by part, each part on several threads. A trace of which a later line is
+/// Reads the records of a text part by part, each part on several threads. Pieces of its text are decoded beside each
+/// other; where that finds a fault, they are read once more, line by line, which finds the first. A trace of which a later line is
 /// bad gives the parts before it first.
 #[derive(Drop)]
 pub struct PartReader<'a> {
@@ -75,12 +81,45 @@ impl<'a> PartReader<'a> {
     /// The records on the next lines, by at most so many threads, of which the calling one is the first; none
     /// behind the last line. On `Bad` that line is the first of those ahead that has a fault; a thread that does
     /// not start is no error.
-    pub fn next_part<R: Threads + Sync>(
+    pub fn next_part<R: Threads + Sync>(&mut self, rt: &R, threads: u32) -> Result<Part, TraceError>
+        ensures part { IfOk result (λ part. IsPart part self.old self.new) }
+        ensures version { self.new.version ≡ self.old.version }
+        ensures bad { IfErr result (IsFaultAhead self.old.meaning) }
+    {
+        match self.next_pieces(rt, threads)? {
+            Some(part) => Ok(part),
+            None => self.next_lines(),
+        }
+    }
+
+    /// The records on the next lines, in pieces; none where there is no line, where one of them has a fault, or where
+    /// there are more than there may be.
+    fn next_pieces<R: Threads + Sync>(
         &mut self,
         rt: &R,
         threads: u32,
-    ) -> Result<Vec<Event>, TraceError>
-        ensures part { IfOk result (λ events. IsPart events.items self.old self.new) }
+    ) -> Result<Option<Part>, Memory>
+        ensures part { IfOk result (λ some. IfSome some (λ part. IsPart part self.old self.new)) }
+        ensures version { self.new.version ≡ self.old.version }
+        ensures none { IfOk result (λ some. IfNone some (self.new ≡ self.old)) }
+        ensures err { OnErr result (self.new ≡ self.old) }
+    {
+        let (text, rest) = cut_behind(self.rest, PART_BYTES);
+        let most = FIRST_RECORD_LINE + MOST_RECORDS - self.number;
+        let Some(part) = records_in(rt, self.alloc, text, most, threads)? else {
+            return Ok(None);
+        };
+        if part.is_empty() {
+            return Ok(None);
+        }
+        self.number += part.len();
+        self.rest = rest;
+        Ok(Some(part))
+    }
+
+    /// The records on the next lines, one after the other, in one piece.
+    fn next_lines(&mut self) -> Result<Part, TraceError>
+        ensures part { IfOk result (λ part. IsPart part self.old self.new) }
         ensures version { self.new.version ≡ self.old.version }
         ensures bad { IfErr result (IsFaultAhead self.old.meaning) }
     {
@@ -94,9 +133,11 @@ impl<'a> PartReader<'a> {
                 fault: late_fault(line),
             });
         }
-        let events = events_on(rt, self.alloc, number, lines.as_slice(), threads)?;
+        let events = events_alone(self.alloc, number, lines.as_slice())?;
         self.number = number + events.len() as u64;
         self.rest = rest;
-        Ok(events)
+        let mut part = Part::new(self.alloc);
+        part.push(events)?;
+        Ok(part)
     }
 }

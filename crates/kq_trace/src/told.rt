@@ -9,10 +9,12 @@ ghost use Rattle.kq_trace.specs.Unread.{IsFaultAhead, IsPart};
 ghost use Rattle.std.specs.Thread.{IsSync};
 
 use crate::TraceError;
+use crate::part::Part;
 use crate::part_reader::PartReader;
 use crate::read::read_trace_with;
 use kq_model::{Event, Memory, Series, Trace};
 use std::alloc::Global;
+use std::mem::replace;
 use std::thread::{Threads, join_mut};
 
 /// Is told of the records of a trace, one part after the other.
@@ -52,14 +54,7 @@ pub fn read_trace_told<R: AllocGlobal + Threads + Sync, L: Listener>(
     let mut part = reader.next_part(rt, threads)?;
     let mut told = Told::new(rt.alloc());
     'parts: while !part.is_empty() {
-        let (heard, next) = tell_and_read(
-            rt,
-            listener,
-            &mut told,
-            part.as_slice(),
-            &mut reader,
-            threads - 1,
-        );
+        let (heard, next) = tell_and_read(rt, listener, &mut told, &part, &mut reader, threads - 1);
         let next = next?;
         heard?;
         told.add(part)?;
@@ -91,9 +86,10 @@ fn read_and_tell<R: AllocGlobal + Threads + Sync, L: Listener>(
 /// The records that the listener was told of.
 #[derive(Drop)]
 struct Told {
+    alloc: Global,
     events: Vec<Event>,
-    /// Those of the last part, which stand behind the others once the next part is read.
-    last: Vec<Event>,
+    /// Those of the last part, which are moved behind the others while the next part is read.
+    last: Part,
 }
 
 impl Told {
@@ -101,8 +97,9 @@ impl Told {
         ensures { told_events result ≡ [] }
     {
         Told {
+            alloc,
             events: Vec::new(alloc),
-            last: Vec::new(alloc),
+            last: Part::new(alloc),
         }
     }
 
@@ -111,20 +108,21 @@ impl Told {
         requires { length (told_events self.now) < 2 ^ 31 }
         ensures { result ≡ length (told_events self.now) }
     {
-        self.events.len() as u64 + self.last.len() as u64
+        self.events.len() as u64 + self.last.len()
     }
 
-    /// Puts the last part behind the others.
+    /// Moves the last part behind the others.
     fn settle(&mut self) -> Result<(), Memory>
-        ensures same { told_events self.new ≡ told_events self.old }
-        ensures settled { OnOk result (self.new.last.items ≡ []) }
+        ensures same { OnOk result (told_events self.new ≡ told_events self.old) }
+        ensures settled { OnOk result (self.new.last ≡ []) }
     {
-        self.events.append(&mut self.last).map_err(|_| Memory)
+        let last = replace(&mut self.last, Part::new(self.alloc));
+        last.move_behind(&mut self.events)
     }
 
     /// A part of which the listener was told.
-    fn add(&mut self, part: Vec<Event>) -> Result<(), Memory>
-        ensures { OnOk result (told_events self.new ≡ told_events self.old ++ part.items) }
+    fn add(&mut self, part: Part) -> Result<(), Memory>
+        ensures { OnOk result (told_events self.new ≡ told_events self.old ++ part) }
     {
         self.settle()?;
         self.last = part;
@@ -140,50 +138,65 @@ impl Told {
     }
 }
 
-/// Tells the listener of a part, and meanwhile reads the next one on a thread of its own, which before that puts the
+/// Tells the listener of a part, piece by piece, where it was told of so many records before.
+fn tell<L: Listener>(listener: &mut L, before: u64, part: &Part) -> Result<(), Memory>
+    requires before { HasHeard L.heard before listener.old }
+    requires few { before + length part.now < 2 ^ 31 }
+    ensures { OnOk result ((so_far : List Event) → length so_far ≡ before → L.heard listener.old so_far
+        → L.heard listener.new (so_far ++ part.now)) }
+{
+    let mut count = before;
+    for piece in part.pieces() {
+        listener.hear(count, piece.as_slice())?;
+        count += piece.len() as u64;
+    }
+    Ok(())
+}
+
+/// Tells the listener of a part, and meanwhile reads the next one on a thread of its own, which before that moves the
 /// part before behind the others.
 fn tell_and_read<'a, R: Threads + Sync, L: Listener>(
     rt: &R,
     listener: &mut L,
     told: &mut Told,
-    events: &[Event],
+    part: &Part,
     reader: &mut PartReader<'a>,
     threads: u32,
-) -> (Result<(), Memory>, Result<Vec<Event>, TraceError>)
+) -> (Result<(), Memory>, Result<Part, TraceError>)
     requires told { L.heard listener.old (told_events told.old) }
-    requires few { length (told_events told.old) + length events.now < 2 ^ 31 }
-    ensures heard { OnOk result.0 (L.heard listener.new (told_events told.old ++ events.now)) }
-    ensures same { told_events told.new ≡ told_events told.old }
-    ensures part { IfOk result.1 (λ next. IsPart next.items reader.old reader.new) }
+    requires few { length (told_events told.old) + length part.now < 2 ^ 31 }
+    ensures heard { OnOk result.0 (L.heard listener.new (told_events told.old ++ part.now)) }
+    ensures same { OnOk result.1 (told_events told.new ≡ told_events told.old) }
+    ensures part { IfOk result.1 (λ next. IsPart next reader.old reader.new) }
     ensures version { reader.new.version ≡ reader.old.version }
     ensures bad { IfErr result.1 (IsFaultAhead reader.old.meaning) }
 {
     let before = told.count();
     let mut read = ||
         requires { IsSync R.row }
-        ensures { (told_events told.exit.now ≡ told_events told.entry.now)
-            × IfOk result (λ next. IsPart next.items reader.entry.now reader.exit.now)
+        ensures { OnOk result (told_events told.exit.now ≡ told_events told.entry.now)
+            × IfOk result (λ next. IsPart next reader.entry.now reader.exit.now)
             × (reader.exit.now.version ≡ reader.entry.now.version)
             × IfErr result (IsFaultAhead reader.entry.now.meaning) }
     { settle_and_read(rt, told, reader, threads) };
-    let mut tell = ||
-        requires { HasHeard L.heard before listener.now × (before + length events.now < 2 ^ 31) }
+    let mut hear = ||
+        requires { HasHeard L.heard before listener.now × (before + length part.now < 2 ^ 31) }
         ensures { OnOk result ((so_far : List Event) → length so_far ≡ before → L.heard listener.entry.now so_far
-            → L.heard listener.exit.now (so_far ++ events.entry.now)) }
-    { listener.hear(before, events) };
-    let (next, heard) = join_mut(rt, &mut read, &mut tell);
+            → L.heard listener.exit.now (so_far ++ part.entry.now)) }
+    { tell(listener, before, part) };
+    let (next, heard) = join_mut(rt, &mut read, &mut hear);
     (heard, next)
 }
 
-/// Puts the last part behind the others, and reads the next one.
+/// Moves the last part behind the others, and reads the next one.
 fn settle_and_read<'a, R: Threads + Sync>(
     rt: &R,
     told: &mut Told,
     reader: &mut PartReader<'a>,
     threads: u32,
-) -> Result<Vec<Event>, TraceError>
-    ensures same { told_events told.new ≡ told_events told.old }
-    ensures part { IfOk result (λ next. IsPart next.items reader.old reader.new) }
+) -> Result<Part, TraceError>
+    ensures same { OnOk result (told_events told.new ≡ told_events told.old) }
+    ensures part { IfOk result (λ next. IsPart next reader.old reader.new) }
     ensures version { reader.new.version ≡ reader.old.version }
     ensures bad { IfErr result (IsFaultAhead reader.old.meaning) }
 {

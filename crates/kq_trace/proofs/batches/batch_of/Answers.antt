@@ -17,10 +17,12 @@ loop-line-preserved c =
     let events = c.loop-line.events.items in
     let added : c.push.new.self.items ≡ events ++ c.in-Ok-Ok.event ∷ [] = search rules in
     record {
+      within = omega (arith, c.loop-line-test.true);
       counted = omega (arith, ap length added ∙ length-append events (c.in-Ok-Ok.event ∷ []), c.loop-line.invariant.counted);
       so_far = line_read c.args.lines.now c.loop-line.line-index _ c.in-Ok-Ok.event events c.push.new.self.items c.loop-line-test.true
           (λ number early. c.in-Ok-Ok.ensures number early ∙ means) added c.loop-line.invariant.so_far;
     }
 
 pub returns : goal.returns
-returns c = lines_read c.args.lines.now c.loop-line.line-index c.loop-line.events c.loop-line-test.false c.loop-line.invariant.so_far
+returns c = lines_read c.args.lines.now c.loop-line.line-index c.loop-line.events c.loop-line-test.false c.loop-line.invariant.within c.loop-line.invariant.counted
+    c.loop-line.invariant.so_far

@@ -7,11 +7,11 @@ use Rattle.kq_trace.proofs.told.read_trace_told.Given as goal
 
 abbrev pub invariant-parts : goal.invariant-parts
 invariant-parts g l = record {
-  so_far : reading l.bytes ≡ behind_events (told_events l.told ++ l.part.items) l.reader.meaning;
-  counted : length (told_events l.told) + length l.part.items + 2 ≡ l.reader.line;
+  so_far : reading l.bytes ≡ behind_events (told_events l.told ++ l.part) l.reader.meaning;
+  counted : length (told_events l.told) + length l.part + 2 ≡ l.reader.line;
   in_limit : l.reader.line ≤ 1000002;
   told : g.L.Listener.heard l.listener (told_events l.told);
-  last : l.part.items ≡ [] → l.reader.meaning ≡ Good l.reader.version [];
+  last : l.part ≡ [] → l.reader.meaning ≡ Good l.reader.version [];
 }
 
 abbrev pub decreases-parts : goal.decreases-parts

@@ -8,11 +8,11 @@ use Rattle.kq_trace.proofs.BatchLines.{few_texts}
 use Rattle.kq_trace.proofs.PartRead.{bad_ahead, late_ahead, nothing_left, part_read}
 use Rattle.kq_trace.proofs.PutTogether.{counted}
 use Rattle.kq_trace.proofs.WholeTrace.{error_passed}
-use Rattle.kq_trace.proofs.part_reader.PartReader.next_part.Goals as goal
-use Rattle.kq_trace.proofs.part_reader.PartReader.next_part.Goals.{else-is_empty-via-then-is_empty+else-not-is_empty, else-is_empty-via-else-is_empty}
+use Rattle.kq_trace.proofs.part_reader.PartReader.next_lines.Goals as goal
+use Rattle.kq_trace.proofs.part_reader.PartReader.next_lines.Goals.{else-is_empty-via-then-is_empty+else-not-is_empty, else-is_empty-via-else-is_empty}
 
 pub returns-then-not-is_empty-clause-bad : goal.returns-then-not-is_empty-clause-bad
-returns-then-not-is_empty-clause-bad g c =
+returns-then-not-is_empty-clause-bad c =
     let r = c.self.inside in
     let behind = c.in_ok-lines.rest.now in
     let none : length c.in_ok-lines.lines.items ≡ 0 = search (rules, tests) in
@@ -24,7 +24,7 @@ returns-then-not-is_empty-clause-bad g c =
     (c.first_line.ensures.later some) c.late_fault.ensures)
 
 pub returns-in_err-events-clause-bad : goal.returns-in_err-events-clause-bad
-returns-in_err-events-clause-bad g c =
+returns-in_err-events-clause-bad c =
     let r = c.self.inside in
     let behind = c.in_ok-lines.rest.now in
     let lines = c.as_slice.result.now in
@@ -34,7 +34,16 @@ returns-in_err-events-clause-bad g c =
     (rw (← c.self.view_is) (bad_ahead r.rest.now behind r.version r.number lines cut c.in_err-events.field-0.0 (c.in_err-events.ensures.bad r.version)))
 
 pub invariant_of-self : goal.invariant_of-self
-invariant_of-self g c =
+invariant_of-self c =
+    let r = c.self.inside in
+    let lines = c.as_slice.result.now in
+    let all = counted 0 r.number (texts lines) 0 c.in_ok-events.events.items (c.in_ok-events.ensures.good 0) in
+    let many : c.len.result ≡ length c.in_ok-events.events.items = c.len.ensures ∙ c.in_ok-events.events.ok.0 in
+    let few : length lines ≤ c.min-most.result = omega (arith, c.as_slice.ensures.len, c.in_ok-lines.ensures.few) in
+    (c.self.invariant.0, omega (arith, all, many, few_texts lines c.min-most.result few, c.min-most.ensures, c.self.invariant.1))
+
+pub invariant_of-self-2 : goal.invariant_of-self-2
+invariant_of-self-2 c =
     let r = c.self.inside in
     let lines = c.as_slice.result.now in
     let all = counted 0 r.number (texts lines) 0 c.in_ok-events.events.items (c.in_ok-events.ensures.good 0) in
@@ -43,7 +52,7 @@ invariant_of-self g c =
     (c.self.invariant.0, omega (arith, all, many, few_texts lines c.min-most.result few, c.min-most.ensures, c.self.invariant.1))
 
 pub returns-clause-part : goal.returns-clause-part
-returns-clause-part g c =
+returns-clause-part c =
     let r = c.self.inside in
     let behind = c.in_ok-lines.rest.now in
     let lines = c.as_slice.result.now in
@@ -52,10 +61,12 @@ returns-clause-part g c =
     let many : c.len.result ≡ length events = c.len.ensures ∙ c.in_ok-events.events.ok.0 in
     let next : r.number + c.len.result ≡ r.number + length events = ap (λ n. r.number + n) many in
     let all = counted 0 r.number (texts lines) 0 events (c.in_ok-events.ensures.good 0) in
-    rw (← c.self.view_is) (record {
+    let pushed : c.push.new.self ≡ events = search rules in
+    rw pushed
+    (rw (← c.self.view_is) (record {
       meaning = part_read r.rest.now behind r.version r.number lines cut events (r.number + c.len.result) (c.in_ok-events.ensures.good r.version) next;
       line = next;
-      limit = (invariant_of-self g c).1;
+      limit = (invariant_of-self-2 c).1;
       last = λ empty.
           elim c.else-is_empty.branch [
             | else-is_empty-via-then-is_empty+else-not-is_empty w ↦ nothing_left behind r.version (r.number + c.len.result) (search (rules, tests))
@@ -70,4 +81,4 @@ returns-clause-part g c =
                   length-map lines (λ (line : Bor (List ℕ)). line.now),
                 ))
           ];
-    })
+    }))

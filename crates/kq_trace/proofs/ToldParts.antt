@@ -1,0 +1,52 @@
+-- A listener is told of a part, piece by piece.
+use Rattle.std.proofs.Common.{Vec, Global, ◌≡◌, ℕ, ◌+◌, ◌<◌, List, [], ◌∷◌, ◌++◌, length, drop, get_or, Result, refl, sym, ap, subst, ◌∙◌, append_assoc, append-nil, add-one, drop-cons, arith, length-append}
+use Rattle.std.specs.Prelude.{flat_map}
+use Rattle.kq_model.specs.declared.event.Event.{Event}
+use Rattle.kq_trace.specs.Told.{HasHeard}
+
+abbrev pub events_in : List (Vec Event Global) → List Event
+events_in pieces = flat_map (λ piece. piece.items) pieces
+
+-- It was told of all but these pieces.
+pub record IsToldTo {A : Type 0} (heard : A → List Event → Type 0) (before count : ℕ) (old new : A) (all : List Event) (ahead : List (Vec Event Global)) : Type 0 where
+  pub done : List Event
+  pub cut : all ≡ done ++ events_in ahead
+  pub counted : count ≡ before + length done
+  pub there : HasHeard heard count new
+  pub told : (so_far : List Event) → length so_far ≡ before → heard old so_far → heard new (so_far ++ done)
+
+pub none_told : {A : Type 0} (heard : A → List Event → Type 0) (before : ℕ) (it : A) (all : List Event) (pieces : List (Vec Event Global))
+    → events_in pieces ≡ all → HasHeard heard before it → IsToldTo heard before before it it all pieces
+none_told heard before it all pieces same there = record {
+  done = [];
+  cut = sym same;
+  counted = omega arith;
+  there = there;
+  told = λ so_far long has. subst (heard it) (sym (append-nil so_far)) has;
+}
+
+module _ {A : Type 0} (heard : A → List Event → Type 0) (before count len : ℕ) (old mid new : A) (all : List Event)
+    (pieces : List (Vec Event Global)) (i : ℕ) (other : Vec Event Global) (events : List Event)
+    (so_far : IsToldTo heard before count old mid all (drop i pieces)) (lt : i < length pieces)
+    (is : events ≡ (get_or pieces i other).items) (long : len ≡ length events)
+    (more : (es : List Event) → length es ≡ count → heard mid es → heard new (es ++ events)) where
+  ahead : all ≡ so_far.done ++ (events ++ events_in (drop (i + 1) pieces))
+  ahead =
+      so_far.cut ∙ ap (λ ps. so_far.done ++ events_in ps) (drop-cons pieces i other lt)
+      ∙ ap (λ n. so_far.done ++ ((get_or pieces i other).items ++ events_in (drop n pieces))) (sym (add-one i))
+      ∙ ap (λ es. so_far.done ++ (es ++ events_in (drop (i + 1) pieces))) (sym is)
+
+  pub piece_told : IsToldTo heard before (count + len) old new all (drop (i + 1) pieces)
+  piece_told = record {
+    done = so_far.done ++ events;
+    cut = ahead ∙ sym (append_assoc so_far.done events (events_in (drop (i + 1) pieces)));
+    counted = omega (arith, so_far.counted, long, length-append so_far.done events);
+    there = (
+      so_far.there.0 ++ events,
+      length-append so_far.there.0 events ∙ omega (arith, so_far.there.1, long),
+      more so_far.there.0 so_far.there.1 so_far.there.2,
+    );
+    told = λ es long_before has.
+        subst (heard new) (append_assoc es so_far.done events)
+        (more (es ++ so_far.done) (length-append es so_far.done ∙ omega (arith, so_far.counted, long_before)) (so_far.told es long_before has));
+  }
