@@ -1,9 +1,10 @@
 -- The report of a trace whose kqueues were replayed alone, and its faults.
-use Rattle.std.proofs.Common.{◌≡◌, ◌∙◌, ℕ, ◌≤◌, ◌<◌, ◌⊎◌, List, length, Result, Ok, Err, IfErr, IfOk, IsErrOf, MatchResult, ap, subst, arith, ⊎_elim}
+use Rattle.std.proofs.Common.{◌≡◌, ◌∙◌, ℕ, ◌≤◌, ◌<◌, ◌⊎◌, List, length, Result, Ok, Err, IfErr, IfOk, IsErrOf, MatchResult, ap, sym, subst, arith, ⊎_elim}
 use Rattle.std.proofs.lemmas.List.{length-map}
 use Rattle.std.proofs.lemmas.List.Elements.{All-weaker}
 use Rattle.std.proofs.lemmas.Result.{IfErr-at_err, IfErr-weaker}
 use Rattle.std.specs.List.{All}
+use Rattle.std.specs.Result.{IsErrAnd}
 use Rattle.kq_model.specs.declared.event.Event.{Event}
 use Rattle.kq_model.specs.declared.row.Row.{Row}
 use Rattle.kq_model.specs.declared.rows.Rows.{Rows}
@@ -84,3 +85,8 @@ pub replay_fault : {B : Type 0} (bytes : List ℕ) (workers version : ℕ) (even
     → reading bytes ≡ Good version events → IfErr r (IsReplayFault version events workers) → IfErr r (IsFault bytes workers)
 replay_fault bytes workers version events r good =
     IfErr-weaker r (IsReplayFault version events workers) (IsFault bytes workers) (fault_of_replay bytes workers version events good)
+
+-- an error that is passed on
+pub fault_passed : {A : Type 0} (r : Result A Fault) (fault : Fault) (P : Fault → Type 0) → IsErrAnd r (λ f. f ≡ fault) → P fault → IfErr r P
+fault_passed (Ok x) fault P is holds = tt
+fault_passed (Err f) fault P is holds = subst P (sym is) holds

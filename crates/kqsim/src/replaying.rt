@@ -9,7 +9,7 @@ use crate::splitter::Splitter;
 use crate::workers::is_worker_count;
 use kq_history::Split;
 use kq_merge::{merge_with, report_text_with};
-use kq_model::{Memory, Row};
+use kq_model::{Memory, Row, Trace};
 use kq_replay::{Always, Gate, Open, RunFault, Starts, replay_all_with};
 use kq_trace::read_trace_told;
 use std::sync::Wait;
@@ -76,7 +76,10 @@ fn by_one_pass<R: AllocGlobal + Threads + Wait + Sync, G: Gate + Sync, S: Starts
 {
     let mut splitter = Splitter::new(rt.alloc())?;
     let trace = read_trace_told(rt, bytes, workers, &mut splitter)?;
-    trace_report(rt, splitter.end(&trace), workers, gate, starts)
+    let mut rows = Vec::new(rt.alloc());
+    let text = trace_report(rt, splitter.end(&trace), &mut rows, workers, gate, starts);
+    let_go(rt, trace, rows, workers);
+    text
 }
 
 /// The same, where two threads split it, so that there is one more than workers until the trace is read.
@@ -95,14 +98,18 @@ fn by_halves<R: AllocGlobal + Threads + Wait + Sync, G: Gate + Sync, S: Starts>(
 {
     let mut splitter = HalvesSplitter::new(rt)?;
     let trace = read_trace_told(rt, bytes, workers, &mut splitter)?;
-    trace_report(rt, splitter.end(&trace), workers, gate, starts)
+    let mut rows = Vec::new(rt.alloc());
+    let text = trace_report(rt, splitter.end(&trace), &mut rows, workers, gate, starts);
+    let_go(rt, trace, rows, workers);
+    text
 }
 
 /// The report of a trace that was split: each of its kqueues is replayed alone, and their rows are put together
-/// by place with those of impossible records.
+/// by place with those of impossible records. `written` is given the rows that the report is of.
 fn trace_report<R: AllocGlobal + Threads + Wait + Sync, G: Gate + Sync, S: Starts>(
     rt: &R,
     split: Split<'_>,
+    written: &mut Vec<Row>,
     workers: u32,
     gate: &G,
     starts: &S,
@@ -119,7 +126,11 @@ fn trace_report<R: AllocGlobal + Threads + Wait + Sync, G: Gate + Sync, S: Start
     };
     let rows = merge_with(rt, kqueues, split.plain_rows(), workers)?;
     let records = split.record_count();
-    written_beside(rt, split, rows.as_slice(), records, workers).map_err(|_| Fault::Memory)
+    let text = written_beside(rt, split, rows.as_slice(), records, workers).map_err(
+        |_| Fault::Memory,
+    );
+    *written = rows;
+    text
 }
 
 /// The text of a report. By two threads or more it is written while the calling one lets go of the split that its
@@ -142,4 +153,14 @@ fn written_beside<R: AllocGlobal + Threads + Sync>(
     let let_go = || { drop(split) };
     let (text, _) = join(rt, write, let_go);
     text
+}
+
+/// Lets go of a trace and of the rows of its report, beside each other where there are two threads or more.
+fn let_go<R: Threads + Sync>(rt: &R, trace: Trace, rows: Vec<Row>, threads: u32) {
+    if threads < 2 {
+        return;
+    }
+    let let_go_of_trace = move || { drop(trace) };
+    let let_go_of_rows = move || { drop(rows) };
+    join(rt, let_go_of_trace, let_go_of_rows);
 }

@@ -1,6 +1,16 @@
 -- Nothing is split before the trace is read.
 use Rattle.std.proofs.Common.{rules}
+use Rattle.kqsim.specs.Fault.{fault_of}
+use Rattle.kqsim.specs.Replay.{IsFault}
+use Rattle.kqsim.proofs.ReplayedTraces.{fault_passed, read_fault}
 use Rattle.kqsim.proofs.replaying.by_halves.Goals as goal
 
 pub read_trace_told-requires-after_bounds : goal.read_trace_told-requires-after_bounds
 read_trace_told-requires-after_bounds g c = λ lifetimes alive. (search rules, c.in_ok-splitter.ensures)
+
+pub returns-in_err-trace-clause-fault : goal.returns-in_err-trace-clause-fault
+returns-in_err-trace-clause-fault g c =
+    let bytes = c.args.bytes.now in
+    let error = c.in_err-trace.field-0.0 in
+    fault_passed c.from_residual-in_err-trace.result (fault_of error) (IsFault bytes c.args.workers) c.from_residual-in_err-trace.ensures.1
+    (read_fault bytes c.args.workers error c.in_err-trace.ensures.bad)

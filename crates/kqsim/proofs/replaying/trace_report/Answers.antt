@@ -22,6 +22,6 @@ returns-clause-report g c =
     let records = c.record_count-records.result in
     let only = subst (λ (plain : List Row). IsOnlyOrder (rows_in kqueues plain) rows) c.plain_rows.ensures c.in_ok-rows.ensures.only in
     let counts : records ≡ length split.events = c.record_count-records.ensures in
-    let written : IfOk c.map_err.result (λ text. text.items ≡ report rows records) = search rules in
-    IfOk-weaker c.map_err.result _ _
+    let written : IfOk c.map_err-text.result (λ text. text.items ≡ report rows records) = search rules in
+    IfOk-weaker c.map_err-text.result _ _
     (λ text is. report_again split kqueues rows records text.items c.in-Ok.ensures.ok only counts is) written
