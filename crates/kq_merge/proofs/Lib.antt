@@ -3,3 +3,4 @@ pub mod Runs
 pub mod ReportLines
 pub mod WrittenRows
 pub mod WrittenParts
+pub mod RoundsGone

@@ -6,21 +6,16 @@ use Rattle.std.specs.Option.{IfSome, option_to_list}
 use Rattle.std.proofs.lemmas.Bool.Decides.{nat_tests}
 use Rattle.std.proofs.lemmas.List.Elements.{All-append, All-cons, All-weaker}
 use Rattle.std.proofs.lemmas.List.Concat.{flat_map-append}
-use Rattle.std.proofs.lemmas.List.Sorted.{All-permutation, IsPermutation-append, IsPermutation-append_comm, IsPermutation-append_left, IsPermutation-middle, IsPermutation-pop_more, IsPermutation-refl, IsPermutation-trans}
+use Rattle.std.proofs.lemmas.List.Sorted.{All-permutation, IsPermutation-append, IsPermutation-append_comm, IsPermutation-append_left, IsPermutation-append_right, IsPermutation-middle, IsPermutation-pop_more, IsPermutation-refl, IsPermutation-trans}
 use Rattle.kq_model.specs.declared.row.Row.{Row}
 use Rattle.kq_model.specs.declared.rows.Rows.{Rows}
-use Rattle.kq_merge.specs.ByPlace.{NeverFall, rows_in}
+use Rattle.kq_merge.specs.ByPlace.{NeverFall, Precede, rows_in}
 use Rattle.kq_merge.specs.Joined.{goes_first}
 
 -- ---- rows taken one after the other
 
--- these rows stand by place, and before all that are left
-abbrev pub Lead : List Row → List Row → Type 0
-Lead [] left = Unit {0}
-Lead (row ∷ rest) left = All (λ later. row.at ≤ later.at) (rest ++ left) × Lead rest left
-
 pub lead_more : (rows left others : List Row) (row : Row) → IsPermutation left (row ∷ others) → All (λ later. row.at ≤ later.at) others
-    → Lead rows left → Lead (rows ++ row ∷ []) others
+    → Precede rows left → Precede (rows ++ row ∷ []) others
 lead_more [] left others row moved earliest lead = (earliest, tt)
 lead_more (r ∷ rs) left others row moved earliest lead = (
   All-permutation (λ later. r.at ≤ later.at) (rs ++ left) ((rs ++ row ∷ []) ++ others)
@@ -28,10 +23,19 @@ lead_more (r ∷ rs) left others row moved earliest lead = (
   lead_more rs left others row moved earliest lead.1,
 )
 
-pub lead_all : (rows left : List Row) → left ≡ [] → Lead rows left → NeverFall rows
+pub lead_all : (rows left : List Row) → left ≡ [] → Precede rows left → NeverFall rows
 lead_all [] left none lead = tt
 lead_all (row ∷ rest) left none lead =
     (subst (All (λ later. row.at ≤ later.at)) (ap (λ l. rest ++ l) none ∙ append-nil rest) lead.0, lead_all rest left none lead.1)
+
+-- rows that are taken from those left stand behind
+pub lead_on : (rows left more later : List Row) → IsPermutation left (more ++ later) → Precede more later → Precede rows left → Precede (rows ++ more) later
+lead_on [] left more later moved next lead = next
+lead_on (r ∷ rs) left more later moved next lead = (
+  subst (All (λ row. r.at ≤ row.at)) (sym (append_assoc rs more later))
+      (All-permutation (λ row. r.at ≤ row.at) (rs ++ left) (rs ++ (more ++ later)) (IsPermutation-append_right rs left (more ++ later) moved) lead.0),
+  lead_on rs left more later moved next lead.1,
+)
 
 -- ---- the next row of two lists
 

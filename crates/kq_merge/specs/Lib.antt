@@ -3,3 +3,5 @@ pub mod Joined
 pub mod EventsText
 pub mod Written
 pub mod Parts
+pub mod Rounds
+pub mod Merged

@@ -3,7 +3,9 @@
 
 mod merging;
 mod report;
+mod rows_ahead;
 mod run;
 
-pub use merging::{merge, merge_with};
-pub use report::{ReportText, report_text, report_text_with};
+pub use merging::{copied, merge, merge_with};
+pub use report::{ReportText, report_by_place, report_text, report_text_with};
+pub use rows_ahead::Merging;

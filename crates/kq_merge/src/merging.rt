@@ -4,6 +4,7 @@ ghost use Rattle.std.specs.List.Sorted.{IsPermutation};
 ghost use Rattle.std.specs.Thread.{IsSync};
 ghost use Rattle.kq_merge.specs.ByPlace.{IsOnlyOrder, NeverFall, rows_in};
 
+use crate::rows_ahead::Merging;
 use crate::run::{Run, join};
 use kq_model::{Memory, Row, Rows};
 use std::alloc::Global;
@@ -23,49 +24,46 @@ pub fn merge(alloc: Global, kqueues: Vec<Rows>, plain: &[Row]) -> Result<Vec<Row
     ensures by_place { IfOk result (λ rows. NeverFall rows.items) }
     ensures only { IfOk result (λ rows. IsOnlyOrder (rows_in kqueues.items plain.now) rows.items) }
 {
-    let runs = runs_of(alloc, kqueues, plain)?;
+    let runs = runs_of(alloc, kqueues, copied(alloc, plain)?)?;
     Ok(join_all(alloc, runs)?.into_vec())
 }
 
-/// The same, put together by at most so many threads, of which the calling one is the first; 0 and 1
-/// start none. `rt` gives the memory and the threads; a thread that does not start is no error.
-///
-/// Each thread joins as many kqueues as any other. The last two runs are joined by the calling
-/// thread alone, which moves each row once more, as does each join of two threads' runs before.
+/// The same rows, but for a last join: in two runs, each put together by half of at most so many threads, of which the
+/// calling one is the first; 0 and 1 start none, and leave one run. `rt` gives the memory and the threads; a thread that
+/// does not start is no error.
 pub fn merge_with<R: AllocGlobal + Threads + Sync>(
     rt: &R,
     kqueues: Vec<Rows>,
-    plain: &[Row],
+    plain: Vec<Row>,
     threads: u32,
-) -> Result<Vec<Row>, Memory>
+) -> Result<Merging, Memory>
     requires kqueues { All (λ kqueue. NeverFall kqueue.rows) kqueues.items }
-    requires plain { NeverFall plain.now }
-    ensures same { IfOk result (λ rows. IsPermutation (rows_in kqueues.items plain.now) rows.items) }
-    ensures by_place { IfOk result (λ rows. NeverFall rows.items) }
-    ensures only { IfOk result (λ rows. IsOnlyOrder (rows_in kqueues.items plain.now) rows.items) }
+    requires plain { NeverFall plain.items }
+    ensures { IfOk result (λ rows. IsPermutation (rows_in kqueues.items plain.items) rows) }
 {
     let alloc = rt.alloc();
     let runs = runs_of(alloc, kqueues, plain)?;
-    Ok(join_by(rt, alloc, runs, threads)?.into_vec())
+    halves_by(rt, alloc, runs, threads)
 }
 
 /// A run of each kqueue, in their order, and behind them one of the plain rows.
-fn runs_of(alloc: Global, kqueues: Vec<Rows>, plain: &[Row]) -> Result<VecDeque<Run>, Memory>
+fn runs_of(alloc: Global, kqueues: Vec<Rows>, plain: Vec<Row>) -> Result<VecDeque<Run>, Memory>
     requires kqueues { All (λ kqueue. NeverFall kqueue.rows) kqueues.items }
-    requires plain { NeverFall plain.now }
-    ensures { IfOk result (λ runs. flat_map (λ run. run) runs.items ≡ rows_in kqueues.items plain.now) }
+    requires plain { NeverFall plain.items }
+    ensures { IfOk result (λ runs. flat_map (λ run. run) runs.items ≡ rows_in kqueues.items plain.items) }
 {
     let mut runs = VecDeque::new(alloc);
     for kqueue in kqueues {
         let run = Run::from_vec(kqueue.rows.into_vec());
         runs.push_back(run).map_err(|_| Memory)?;
     }
-    let run = Run::from_vec(copied(alloc, plain)?);
+    let run = Run::from_vec(plain);
     runs.push_back(run).map_err(|_| Memory)?;
     Ok(runs)
 }
 
-fn copied(alloc: Global, rows: &[Row]) -> Result<Vec<Row>, Memory>
+/// Copies of these rows.
+pub fn copied(alloc: Global, rows: &[Row]) -> Result<Vec<Row>, Memory>
     ensures { IfOk result (λ copies. copies.items ≡ rows.now) }
 {
     let mut copies = Vec::with_capacity(alloc, rows.len()).map_err(|_| Memory)?;
@@ -75,18 +73,19 @@ fn copied(alloc: Global, rows: &[Row]) -> Result<Vec<Row>, Memory>
     Ok(copies)
 }
 
-/// Joins the runs by at most so many threads: each half by half of them.
+/// Joins the runs to two by at most so many threads: each half of them by half of the threads.
 #[cycle(halves)]
-fn join_by<R: Threads + Sync>(
+fn halves_by<R: Threads + Sync>(
     rt: &R,
     alloc: Global,
     mut front: VecDeque<Run>,
     threads: u32,
-) -> Result<Run, Memory>
-    ensures { IfOk result (λ run. IsPermutation (flat_map (λ r. r) front.items) run) }
+) -> Result<Merging, Memory>
+    ensures { IfOk result (λ rows. IsPermutation (flat_map (λ r. r) front.items) rows) }
 {
     if threads < 2 || front.len() < 2 {
-        return join_all(alloc, front);
+        let run = join_all(alloc, front)?;
+        return Ok(Merging::new(run, Run::empty(alloc)));
     }
     let back = front.split_off(front.len() / 2).map_err(|_| Memory)?;
     let few = threads / 2;
@@ -100,7 +99,20 @@ fn join_by<R: Threads + Sync>(
         ensures { IfOk result (λ run. IsPermutation (flat_map (λ r. r) back.items) run) }
     { join_by(rt, alloc, back, many) };
     let (first, second) = thread::join(rt, near, far);
-    join(alloc, first?, second?)
+    Ok(Merging::new(first?, second?))
+}
+
+/// Joins the runs to one by at most so many threads.
+#[cycle(halves)]
+fn join_by<R: Threads + Sync>(
+    rt: &R,
+    alloc: Global,
+    runs: VecDeque<Run>,
+    threads: u32,
+) -> Result<Run, Memory>
+    ensures { IfOk result (λ run. IsPermutation (flat_map (λ r. r) runs.items) run) }
+{
+    halves_by(rt, alloc, runs, threads)?.into_run(alloc)
 }
 
 /// Joins the two runs at the front and puts the new one at the back, until one is left. So every
@@ -115,5 +127,5 @@ fn join_all(alloc: Global, mut runs: VecDeque<Run>) -> Result<Run, Memory>
         runs.push_back(join(alloc, first, second)?)
             .map_err(|_| Memory)?;
     }
-    Ok(Run::from_vec(Vec::new(alloc)))
+    Ok(Run::empty(alloc))
 }

@@ -1,13 +1,17 @@
 //! The text of the report: a line for each row, and a last line that counts.
 ghost use Rattle.std.specs.Prelude.{◌≡◌, IfOk};
+ghost use Rattle.kq_merge.specs.Merged.{IsReportByPlace};
 ghost use Rattle.kq_model.specs.Report.{report};
 
 mod event;
 mod line;
 mod parts;
+mod rounds;
 mod text;
 
 use crate::report::parts::{text_by, text_of};
+use crate::report::rounds::text_by_place;
+use crate::rows_ahead::Merging;
 use kq_model::{Memory, Row};
 use std::alloc::Global;
 use std::thread::Threads;
@@ -33,4 +37,18 @@ pub fn report_text_with<R: AllocGlobal + Threads + Sync>(
     ensures { IfOk result (λ text. text.items ≡ report rows.now records) }
 {
     text_by(rt, rows, threads)?.end(records)
+}
+
+/// The report of rows by place, of which [`merge_with`](crate::merge_with) left the last join to do. By two threads or
+/// more, half of them write while one joins the rows ahead and one puts together what was written before; by 0 and 1
+/// the calling one does all. `rt` gives the memory and the threads; a thread that does not start is no error.
+pub fn report_by_place<R: AllocGlobal + Threads + Sync>(
+    rt: &R,
+    rows: Merging,
+    records: u64,
+    threads: u32,
+) -> Result<Vec<u8>, Memory>
+    ensures { IfOk result (λ text. IsReportByPlace rows records text.items) }
+{
+    text_by_place(rt, rows, threads)?.end(records)
 }

@@ -1,4 +1,4 @@
-ghost use Rattle.std.specs.Prelude.{◌≡◌, [], ◌∷◌, ◌++◌, ◌≤◌, IfNone, IfOk, IfSome};
+ghost use Rattle.std.specs.Prelude.{◌≡◌, [], ◌∷◌, ◌++◌, ◌≤◌, IfNone, IfOk, IfSome, length};
 ghost use Rattle.std.specs.List.{All};
 ghost use Rattle.std.specs.List.Sorted.{IsPermutation};
 ghost use Rattle.kq_merge.specs.ByPlace.{NeverFall};
@@ -28,6 +28,15 @@ impl Model for Run {
 }
 
 impl Run {
+    /// No row.
+    pub fn empty(alloc: Global) -> Self
+        ensures { result ≡ [] }
+    {
+        Run {
+            rows: VecDeque::new(alloc),
+        }
+    }
+
     pub fn from_vec(rows: Vec<Row>) -> Self
         requires { NeverFall rows.items }
         ensures { result ≡ rows.items }
@@ -43,6 +52,12 @@ impl Run {
     {
         let Run { rows } = self;
         Vec::from(rows)
+    }
+
+    pub fn len(&self) -> usize
+        ensures { result ≡ length self.now }
+    {
+        self.rows.len()
     }
 
     /// Whether the next row is this run's, of two at one place too.
@@ -75,10 +90,10 @@ pub fn join(alloc: Global, mut first: Run, mut second: Run) -> Result<Run, Memor
 }
 
 /// Takes the row of the earliest place out of two runs; of two at one place, that of the first.
-fn take_earliest(first: &mut Run, second: &mut Run) -> Option<Row>
+pub fn take_earliest(first: &mut Run, second: &mut Run) -> Option<Row>
     ensures taken { IfSome result (λ row. IsPermutation (first.old ++ second.old) (row ∷ (first.new ++ second.new))) }
     ensures earliest { IfSome result (λ row. All (λ later. row.at ≤ later.at) (first.new ++ second.new)) }
-    ensures none { IfNone result (first.old ++ second.old ≡ []) }
+    ensures none { IfNone result ((first.old ++ second.old ≡ []) × (first.new ++ second.new ≡ [])) }
 {
     if first.goes_first(second) {
         first.rows.pop_front()

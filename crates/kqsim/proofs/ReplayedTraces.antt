@@ -4,6 +4,8 @@ use Rattle.std.proofs.lemmas.List.{length-map}
 use Rattle.std.proofs.lemmas.List.Elements.{All-weaker}
 use Rattle.std.proofs.lemmas.Result.{IfErr-at_err, IfErr-weaker}
 use Rattle.std.specs.List.{All}
+use Rattle.std.specs.List.Sorted.{IsPermutation}
+use Rattle.std.proofs.lemmas.List.Sorted.{IsPermutation-sym, IsPermutation-trans}
 use Rattle.std.specs.Result.{IsErrAnd}
 use Rattle.kq_model.specs.declared.event.Event.{Event}
 use Rattle.kq_model.specs.declared.row.Row.{Row}
@@ -14,14 +16,15 @@ use Rattle.kq_model.specs.Reading.{Good, reading}
 use Rattle.kq_model.specs.Report.{report, report_of}
 use Rattle.kq_model.specs.System.{rows}
 use Rattle.kq_history.specs.Traced.{Traced, births_of, places_of, plain_rows_of}
-use Rattle.kq_merge.specs.ByPlace.{IsOnlyOrder, NeverFall, rows_in}
-use Rattle.kq_merge.proofs.Places.{never_fall}
+use Rattle.kq_merge.specs.ByPlace.{NeverFall, rows_in}
+use Rattle.kq_merge.specs.Merged.{IsReportByPlace}
+use Rattle.kq_merge.proofs.Places.{never_fall, only_order}
 use Rattle.kq_replay.specs.Replayed.{AreReplayed}
 use Rattle.kq_trace.specs.Faults.{IsFault as IsTraceFault}
 use Rattle.kq_trace.specs.declared.fault.TraceError.{TraceError}
 use Rattle.kq_trace.specs.declared.fault.TraceError.TheVariants as error
 use Rattle.kqsim.specs.Fault.{fault_of}
-use Rattle.kqsim.specs.Replay.{IsFault, IsReplayFault}
+use Rattle.kqsim.specs.Replay.{AreRowsOf, IsFault, IsReplayFault}
 use Rattle.kqsim.specs.Workers.{IsWorkerCount}
 use Rattle.kqsim.specs.declared.fault.Fault.{Fault}
 use Rattle.kqsim.specs.declared.fault.Fault.TheVariants.{Usage, Read, Trace, Memory, Spawn, Write}
@@ -43,13 +46,20 @@ kqueues_never_fall t kqueues are =
 pub plain_never_falls : (t : Traced) (kqueues : List Rows) → AreReplayed t kqueues → NeverFall (plain_rows_of t)
 plain_never_falls t kqueues are = never_fall (plain_rows_of t) are.plain
 
-pub report_again : (t : Traced) (kqueues : List Rows) (found : List Row) (records : ℕ) (text : List ℕ) → AreReplayed t kqueues
-    → IsOnlyOrder (rows_in kqueues (plain_rows_of t)) found → records ≡ length t.events → text ≡ report found records
-    → text ≡ report_of t.version t.events
+-- together they are the rows of the trace
+pub rows_again : (t : Traced) (kqueues : List Rows) (found : List Row) → AreReplayed t kqueues → IsPermutation (rows_in kqueues (plain_rows_of t)) found
+    → AreRowsOf t.version t.events found
+rows_again t kqueues found are same =
+    let all = rows_in kqueues (plain_rows_of t) in
+    (IsPermutation-trans found all (rows t.version t.events) (IsPermutation-sym all found same) are.whole, are.ordered)
+
+-- and their report by place is that of the trace
+pub report_again : (version records : ℕ) (events : List Event) (all : List Row) (text : List ℕ) → AreRowsOf version events all → records ≡ length events
+    → IsReportByPlace all records text → text ≡ report_of version events
 unfolding report_of
-report_again t kqueues found records text are only counts is =
-    is ∙ ap (λ rs. report rs records) (only (rows t.version t.events) are.whole are.ordered)
-    ∙ ap (report (rows t.version t.events)) counts
+report_again version records events all text are counts (found, same, falls, is) =
+    is ∙ ap (λ rs. report rs records) (only_order all found same falls (rows version events) are.0 are.1)
+    ∙ ap (report (rows version events)) counts
 
 -- ---- the faults
 
@@ -62,7 +72,7 @@ pub in_range : (workers : ℕ) → IsWorkerCount workers → (workers ≡ 0) ⊎
 in_range workers is out =
     ⊎_elim (λ none. absurd (omega (arith, is.0, none))) (λ many. absurd (omega (arith, is.1, many))) out
 
-fault_of_replay : (bytes : List ℕ) (workers version : ℕ) (events : List Event) → reading bytes ≡ Good version events
+pub fault_of_replay : (bytes : List ℕ) (workers version : ℕ) (events : List Event) → reading bytes ≡ Good version events
     → (fault : Fault) → IsReplayFault version events workers fault → IsFault bytes workers fault
 fault_of_replay bytes workers version events good Usage h = absurd h
 fault_of_replay bytes workers version events good Read h = h

@@ -1,11 +1,15 @@
 -- What `replay` promises: the report of one fold of the whole system over the trace that the bytes are,
 -- or a fault that was met.
 use Rattle.std.specs.Prelude.{◌≡◌, ◌≤◌, ℕ, List, length}
+use Rattle.std.specs.List.Sorted.{IsPermutation}
 use Rattle.kq_model.specs.declared.event.Event.{Event}
+use Rattle.kq_model.specs.declared.row.Row.{Row}
 use Rattle.kq_model.specs.Objects.{counted}
+use Rattle.kq_model.specs.OwnedRows.{Rise}
 use Rattle.kq_model.specs.Projection.{kqueues}
 use Rattle.kq_model.specs.Reading.{Good, Bad, reading}
 use Rattle.kq_model.specs.Report.{report_of}
+use Rattle.kq_model.specs.System.{rows}
 use Rattle.kqsim.specs.Workers.{IsWorkerCount}
 use Rattle.kqsim.specs.declared.fault.Fault.{Fault}
 use Rattle.kqsim.specs.declared.fault.Fault.TheVariants.{Usage, Read, Trace, Memory, Spawn, Write}
@@ -46,3 +50,7 @@ IsReplayFault version events workers (Trace line fault) = ⊥
 IsReplayFault version events workers Memory = Unit {0}
 IsReplayFault version events workers Spawn = (2 ≤ workers) × HasKqueues version events
 IsReplayFault version events workers Write = ⊥
+
+-- these are the rows of the trace, each once; by rising place they stand as in the fold
+abbrev pub AreRowsOf : ℕ → List Event → List Row → Type 0
+AreRowsOf version events found = IsPermutation found (rows version events) × Rise (rows version events)

@@ -1,6 +1,10 @@
 ghost use Rattle.std.specs.Prelude.{◌≡◌, ◌↔◌, IfErr, IfOk, IsErrOf};
-ghost use Rattle.kq_model.specs.Report.{report, report_of};
-ghost use Rattle.kqsim.specs.Replay.{IsFault, IsReplayFault, IsReport};
+ghost use Rattle.std.specs.List.{All};
+ghost use Rattle.std.specs.List.Sorted.{IsPermutation};
+ghost use Rattle.kq_merge.specs.ByPlace.{NeverFall, rows_in};
+ghost use Rattle.kq_merge.specs.Merged.{IsReportByPlace};
+ghost use Rattle.kq_model.specs.Report.{report_of};
+ghost use Rattle.kqsim.specs.Replay.{AreRowsOf, IsFault, IsReplayFault, IsReport};
 ghost use Rattle.kqsim.specs.Workers.{IsWorkerCount};
 
 use crate::fault::Fault;
@@ -8,8 +12,8 @@ use crate::halves::HalvesSplitter;
 use crate::splitter::Splitter;
 use crate::workers::is_worker_count;
 use kq_history::Split;
-use kq_merge::{merge_with, report_text_with};
-use kq_model::{Memory, Row, Trace};
+use kq_merge::{Merging, copied, merge_with, report_by_place};
+use kq_model::{Memory, Row, Rows, Trace};
 use kq_replay::{Always, Gate, Open, RunFault, Starts, replay_all_with};
 use kq_trace::read_trace_told;
 use std::sync::Wait;
@@ -76,10 +80,8 @@ fn by_one_pass<R: AllocGlobal + Threads + Wait + Sync, G: Gate + Sync, S: Starts
 {
     let mut splitter = Splitter::new(rt.alloc())?;
     let trace = read_trace_told(rt, bytes, workers, &mut splitter)?;
-    let mut rows = Vec::new(rt.alloc());
-    let text = trace_report(rt, splitter.end(&trace), &mut rows, workers, gate, starts);
-    let_go(rt, trace, rows, workers);
-    text
+    let rows = replayed(rt, splitter.end(&trace), workers, gate, starts)?;
+    written(rt, trace, rows, workers)
 }
 
 /// The same, where two threads split it, so that there is one more than workers until the trace is read.
@@ -98,24 +100,21 @@ fn by_halves<R: AllocGlobal + Threads + Wait + Sync, G: Gate + Sync, S: Starts>(
 {
     let mut splitter = HalvesSplitter::new(rt)?;
     let trace = read_trace_told(rt, bytes, workers, &mut splitter)?;
-    let mut rows = Vec::new(rt.alloc());
-    let text = trace_report(rt, splitter.end(&trace), &mut rows, workers, gate, starts);
-    let_go(rt, trace, rows, workers);
-    text
+    let rows = replayed(rt, splitter.end(&trace), workers, gate, starts)?;
+    written(rt, trace, rows, workers)
 }
 
-/// The report of a trace that was split: each of its kqueues is replayed alone, and their rows are put together
-/// by place with those of impossible records. `written` is given the rows that the report is of.
-fn trace_report<R: AllocGlobal + Threads + Wait + Sync, G: Gate + Sync, S: Starts>(
+/// The rows of a trace that was split, in two runs by place: each of its kqueues is replayed alone, and their rows are
+/// put together with those of impossible records.
+fn replayed<R: AllocGlobal + Threads + Wait + Sync, G: Gate + Sync, S: Starts>(
     rt: &R,
     split: Split<'_>,
-    written: &mut Vec<Row>,
     workers: u32,
     gate: &G,
     starts: &S,
-) -> Result<Vec<u8>, Fault>
+) -> Result<Merging, Fault>
     requires { IsWorkerCount workers }
-    ensures report { IfOk result (λ text. text.items ≡ report_of split.entry.version split.entry.events) }
+    ensures rows { IfOk result (AreRowsOf split.entry.version split.entry.events) }
     ensures fault { IfErr result (IsReplayFault split.entry.version split.entry.events workers) }
 {
     let kqueues = match replay_all_with(rt, &split, workers, gate, starts) {
@@ -124,43 +123,66 @@ fn trace_report<R: AllocGlobal + Threads + Wait + Sync, G: Gate + Sync, S: Start
         Err(RunFault::Memory) => return Err(Fault::Memory),
         Err(RunFault::Spawn) => return Err(Fault::Spawn),
     };
-    let rows = merge_with(rt, kqueues, split.plain_rows(), workers)?;
-    let records = split.record_count();
-    let text = written_beside(rt, split, rows.as_slice(), records, workers).map_err(
-        |_| Fault::Memory,
-    );
-    *written = rows;
-    text
+    let plain = copied(rt.alloc(), split.plain_rows())?;
+    merged_beside(rt, split, kqueues, plain, workers).map_err(|_| Fault::Memory)
 }
 
-/// The text of a report. By two threads or more it is written while the calling one lets go of the split that its
-/// rows came from.
-fn written_beside<R: AllocGlobal + Threads + Sync>(
+/// Puts rows together. By two threads or more one of them lets go of the split that they came from meanwhile.
+fn merged_beside<R: AllocGlobal + Threads + Sync>(
     rt: &R,
     split: Split<'_>,
-    rows: &[Row],
+    kqueues: Vec<Rows>,
+    plain: Vec<Row>,
+    threads: u32,
+) -> Result<Merging, Memory>
+    requires kqueues { All (λ kqueue. NeverFall kqueue.rows) kqueues.items }
+    requires plain { NeverFall plain.items }
+    ensures { IfOk result (λ rows. IsPermutation (rows_in kqueues.items plain.items) rows) }
+{
+    if threads < 2 {
+        return merge_with(rt, kqueues, plain, threads);
+    }
+    let merge = move || -> Result<Merging, Memory>
+        requires { All (λ kqueue. NeverFall kqueue.rows) kqueues.items × NeverFall plain.items }
+        ensures { IfOk result (λ rows. IsPermutation (rows_in kqueues.items plain.items) rows) }
+    { merge_with(rt, kqueues, plain, threads) };
+    let let_go = move || { drop(split) };
+    let (rows, _) = join(rt, merge, let_go);
+    rows
+}
+
+/// The report of a trace of which these are the rows.
+fn written<R: AllocGlobal + Threads + Sync>(
+    rt: &R,
+    trace: Trace,
+    rows: Merging,
+    threads: u32,
+) -> Result<Vec<u8>, Fault>
+    requires { AreRowsOf trace.version trace.events rows }
+    ensures report { IfOk result (λ text. text.items ≡ report_of trace.version trace.events) }
+    ensures fault { IfErr result (IsReplayFault trace.version trace.events threads) }
+{
+    let records = trace.events.len() as u64;
+    written_beside(rt, trace, rows, records, threads).map_err(|_| Fault::Memory)
+}
+
+/// Writes a report. By two threads or more one of them lets go of the trace meanwhile.
+fn written_beside<R: AllocGlobal + Threads + Sync>(
+    rt: &R,
+    trace: Trace,
+    rows: Merging,
     records: u64,
     threads: u32,
 ) -> Result<Vec<u8>, Memory>
-    ensures { IfOk result (λ text. text.items ≡ report rows.now records) }
+    ensures { IfOk result (λ text. IsReportByPlace rows records text.items) }
 {
     if threads < 2 {
-        return report_text_with(rt, rows, records, threads);
+        return report_by_place(rt, rows, records, threads);
     }
-    let write = ||
-        ensures { IfOk result (λ text. text.items ≡ report rows.entry.now records) }
-    { report_text_with(rt, rows, records, threads) };
-    let let_go = || { drop(split) };
+    let write = move || -> Result<Vec<u8>, Memory>
+        ensures { IfOk result (λ text. IsReportByPlace rows records text.items) }
+    { report_by_place(rt, rows, records, threads) };
+    let let_go = move || { drop(trace) };
     let (text, _) = join(rt, write, let_go);
     text
-}
-
-/// Lets go of a trace and of the rows of its report, beside each other where there are two threads or more.
-fn let_go<R: Threads + Sync>(rt: &R, trace: Trace, rows: Vec<Row>, threads: u32) {
-    if threads < 2 {
-        return;
-    }
-    let let_go_of_trace = move || { drop(trace) };
-    let let_go_of_rows = move || { drop(rows) };
-    join(rt, let_go_of_trace, let_go_of_rows);
 }

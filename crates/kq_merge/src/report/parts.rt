@@ -20,7 +20,7 @@ const LEAST_ROWS: usize = 1024;
 const ROUND_ROWS: usize = 32_768;
 
 /// What one thread wrote of its rows.
-type Part = Result<ReportText, Memory>;
+pub type Part = Result<ReportText, Memory>;
 
 /// The lines of these rows, and what the last line counts of them.
 pub fn text_of(alloc: Global, rows: &[Row]) -> Result<ReportText, Memory>
@@ -43,7 +43,7 @@ fn rows_each(rows: usize, threads: u32) -> usize
 
 /// Writes the rows in parts, by at most so many threads and by no more than suit the processors. A part whose thread
 /// does not start is written on the thread that would have started it.
-fn parts_of<R: Threads + Sync>(
+pub fn parts_of<R: Threads + Sync>(
     rt: &R,
     alloc: Global,
     rows: &[Row],
@@ -61,7 +61,7 @@ fn parts_of<R: Threads + Sync>(
 }
 
 /// The text with these parts behind it.
-fn put_behind(text: ReportText, parts: Vec<Part>) -> Result<ReportText, Memory>
+pub fn put_behind(text: ReportText, parts: Vec<Part>) -> Result<ReportText, Memory>
     ensures { (rows later : List Row) → text ≡ written rows → AreWritten later parts.items
         → IfOk result (λ longer. longer ≡ written (rows ++ later)) }
 {

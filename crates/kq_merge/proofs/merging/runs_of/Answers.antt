@@ -9,7 +9,7 @@ use Rattle.kq_merge.proofs.merging.runs_of.Goals as goal
 pub returns : goal.returns
 returns c =
     let kqueues = c.args.kqueues.items in
-    let plain = c.args.plain.now in
+    let plain = c.args.plain.items in
     let gives = c.into_iter-kqueue-iterator.ensures.into_iter_gives in
     let seen = YieldsList-end (YieldsList-from_vec {s = c.into_iter-kqueue-iterator.result} kqueues gives.0 (gives.1 ∙ c.args.kqueues.ok.0))
     c.loop-kqueue.yielded c.loop-kqueue.kqueue-iterator c.loop-kqueue.yielded_by c.next.result c.next.new.self c.in-None.is c.next.ensures.steps in

@@ -1,0 +1,120 @@
+//! Rows written while they are merged, round after round.
+
+ghost use Rattle.std.specs.Prelude.{◌≡◌, ◌+◌, ◌++◌, [], IfOk, List, length, nat_eq};
+ghost use Rattle.std.specs.Thread.{IsSync};
+ghost use Rattle.kq_model.specs.declared.row.Row.{Row};
+ghost use Rattle.kq_merge.specs.Merged.{AreWrittenByPlace, IsRound};
+ghost use Rattle.kq_merge.specs.Parts.{AreWritten};
+ghost use Rattle.kq_merge.specs.Rounds.{IsUnderWay};
+ghost use Rattle.kq_merge.specs.Written.{written};
+
+use super::parts::{Part, parts_of, put_behind, text_of};
+use super::text::ReportText;
+use crate::rows_ahead::{Merging, Round};
+use kq_model::{Memory, Row};
+use std::alloc::Global;
+use std::thread::{Threads, join};
+
+/// A report that is being written.
+#[derive(Drop)]
+pub struct Writing {
+    /// What was put together.
+    text: ReportText,
+    /// What was written of the rows behind that.
+    parts: Vec<Part>,
+    /// The rows of these parts, which are no longer used.
+    spent: Vec<Row>,
+    /// The rows that are written next.
+    round: Round,
+}
+
+impl Writing {
+    fn start(alloc: Global, rows: Merging) -> Result<Self, Memory>
+        ensures { IfOk result (IsUnderWay rows) }
+    {
+        let round = rows.next_round(alloc)?;
+        Ok(Writing {
+            text: ReportText::new(alloc),
+            parts: Vec::new(alloc),
+            spent: Vec::new(alloc),
+            round,
+        })
+    }
+
+    /// Puts the parts behind the text, and meanwhile writes the round and takes the next one.
+    fn next<R: AllocGlobal + Threads + Sync>(self, rt: &R, threads: u32) -> Result<Self, Memory>
+        ensures under_way { (all : List Row) → IsUnderWay all self → IfOk result (IsUnderWay all) }
+        ensures fewer { IfOk result (λ next. length next.round.rows.items + length next.round.left ≡ length self.round.left) }
+    {
+        let Writing {
+            text,
+            parts,
+            spent,
+            round: Round { rows, left },
+        } = self;
+        let put = move || -> Result<ReportText, Memory>
+            ensures { (before later : List Row) → text ≡ written before → AreWritten later parts.items
+                → IfOk result (λ longer. longer ≡ written (before ++ later)) }
+        { put_behind(text, parts) };
+        let now = rows.as_slice();
+        let write_and_take = move || -> (Result<Vec<Part>, Memory>, Result<Round, Memory>)
+            requires { IsSync R.row }
+            ensures { IfOk result.0 (λ parts. AreWritten now.entry.now parts.items)
+                × IfOk result.1 (λ round. IsRound left round.rows.items round.left) }
+        { write_and_take(rt, now, spent, left, threads) };
+        let (text, (parts, round)) = join(rt, put, write_and_take);
+        Ok(Writing {
+            text: text?,
+            parts: parts?,
+            spent: rows,
+            round: round?,
+        })
+    }
+}
+
+/// Writes the rows of a round by at most so many threads, and meanwhile lets go of those that are spent and takes the
+/// next ones.
+fn write_and_take<R: AllocGlobal + Threads + Sync>(
+    rt: &R,
+    rows: &[Row],
+    spent: Vec<Row>,
+    left: Merging,
+    threads: u32,
+) -> (Result<Vec<Part>, Memory>, Result<Round, Memory>)
+    ensures written { IfOk result.0 (λ parts. AreWritten rows.now parts.items) }
+    ensures taken { IfOk result.1 (λ round. IsRound left round.rows.items round.left) }
+{
+    let alloc = rt.alloc();
+    let write = || -> Result<Vec<Part>, Memory>
+        requires { IsSync R.row }
+        ensures { IfOk result (λ parts. AreWritten rows.entry.now parts.items) }
+    { parts_of(rt, alloc, rows, threads).map_err(|_| Memory) };
+    let take = move || -> Result<Round, Memory>
+        ensures { IfOk result (λ round. IsRound left round.rows.items round.left) }
+    {
+        drop(spent);
+        left.next_round(alloc)
+    };
+    join(rt, write, take)
+}
+
+/// The lines of all rows by place, and what the last line counts of them. By two threads or more, half of them write
+/// while one joins the rows ahead and one puts together what was written before.
+pub fn text_by_place<R: AllocGlobal + Threads + Sync>(
+    rt: &R,
+    rows: Merging,
+    threads: u32,
+) -> Result<ReportText, Memory>
+    ensures { IfOk result (AreWrittenByPlace rows) }
+{
+    let alloc = rt.alloc();
+    if threads < 2 {
+        let rows = rows.into_run(alloc)?.into_vec();
+        return text_of(alloc, rows.as_slice());
+    }
+    let mut writing = Writing::start(alloc, rows)?;
+    'rounds: while !writing.round.rows.is_empty() {
+        writing = writing.next(rt, threads / 2)?;
+    }
+    put_behind(writing.text, writing.parts)
+}
