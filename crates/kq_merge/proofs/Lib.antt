@@ -4,3 +4,4 @@ pub mod ReportLines
 pub mod WrittenRows
 pub mod WrittenParts
 pub mod RoundsGone
+pub mod PlacedRows

@@ -7,7 +7,7 @@ use Rattle.kq_model.specs.Report.{call_count, event_count, row_lines}
 use Rattle.kq_merge.specs.ByPlace.{Precede}
 use Rattle.kq_merge.specs.Merged.{AreWrittenByPlace, IsRound}
 use Rattle.kq_merge.specs.Parts.{AreWritten}
-use Rattle.kq_merge.specs.Rounds.{IsUnderWay}
+use Rattle.kq_merge.specs.Rounds.{IsRoundBehind, IsUnderWay}
 use Rattle.kq_merge.specs.Written.{Written, nothing_written, written}
 use Rattle.kq_merge.specs.declared.report.rounds.Writing.{Writing}
 use Rattle.kq_merge.proofs.Runs.{lead_all, lead_on}
@@ -16,6 +16,35 @@ use Rattle.kq_merge.proofs.Runs.{lead_all, lead_on}
 pub so_many : (all rows left : List Row) → IsRound all rows left → length rows + length left ≡ length all
 so_many all rows left round = omega (arith, length_permutation all (rows ++ left) round.0, length-append rows left)
 
+-- the first round
+pub first_round : (all rows left : List Row) → IsRound all rows left → IsRoundBehind all [] rows left
+first_round all rows left round = record { same = round.0; first = round.1; end = round.2 }
+
+-- a round more, of the rows that were left
+pub round_more : (all before rows left later end : List Row) → IsRoundBehind all before rows left → IsRound left later end
+    → IsRoundBehind all (before ++ rows) later end
+round_more all before rows left later end so_far round = record {
+  same = IsPermutation-trans all ((before ++ rows) ++ left) ((before ++ rows) ++ (later ++ end))
+      (subst (IsPermutation all) (sym (append_assoc before rows left)) so_far.same)
+      (IsPermutation-append_right (before ++ rows) left (later ++ end) round.0);
+  first = lead_on (before ++ rows) left later end round.0 round.1 so_far.first;
+  end = round.2;
+}
+
+-- with no row in a round, those that were taken are all
+pub last_round : (all before rows left : List Row) (text : Written) → IsRoundBehind all before rows left → rows ≡ [] → text ≡ written before
+    → AreWrittenByPlace all text
+last_round all before rows left text so_far none is =
+    let no_more : left ≡ [] = so_far.end none in
+    let empty : rows ++ left ≡ [] = ap (λ r. r ++ left) none ∙ no_more in
+    let whole : before ++ (rows ++ left) ≡ before = ap (λ r. before ++ r) empty ∙ append-nil before in
+    let same : before ++ rows ≡ before = ap (λ r. before ++ r) none ∙ append-nil before in (
+      before,
+      subst (IsPermutation all) whole so_far.same,
+      lead_all before left no_more (subst (λ r. Precede r left) same so_far.first),
+      is,
+    )
+
 -- nothing is written yet
 pub started : (rows : List Row) (w : Writing) → IsRound rows w.round.rows.items w.round.left → w.text ≡ nothing_written → w.parts.items ≡ []
     → IsUnderWay rows w
@@ -23,9 +52,7 @@ unfolding row_lines call_count event_count
 started rows w round text parts = record {
   put = [];
   behind = [];
-  same = round.0;
-  first = round.1;
-  end = round.2;
+  round = first_round rows w.round.rows.items w.round.left round;
   done = text;
   next = subst (AreWritten []) (sym parts) ([], refl, tt);
 }
@@ -33,34 +60,16 @@ started rows w round text parts = record {
 -- the parts were put behind the text, a round was written, and the next one was taken of the rows that were left
 pub gone_on : (all : List Row) (w next : Writing) (so_far : IsUnderWay all w) → next.text ≡ written (so_far.put ++ so_far.behind)
     → AreWritten w.round.rows.items next.parts.items → IsRound w.round.left next.round.rows.items next.round.left → IsUnderWay all next
-gone_on all w next so_far text parts round =
-    let done = so_far.put ++ so_far.behind in
-    let rows = w.round.rows.items in
-    let later = next.round.rows.items in
-    record {
-      put = done;
-      behind = rows;
-      same = IsPermutation-trans all ((done ++ rows) ++ w.round.left) ((done ++ rows) ++ (later ++ next.round.left))
-          (subst (IsPermutation all) (sym (append_assoc done rows w.round.left)) so_far.same)
-          (IsPermutation-append_right (done ++ rows) w.round.left (later ++ next.round.left) round.0);
-      first = lead_on (done ++ rows) w.round.left later next.round.left round.0 round.1 so_far.first;
-      end = round.2;
-      done = text;
-      next = parts;
-    }
+gone_on all w next so_far text parts round = record {
+  put = so_far.put ++ so_far.behind;
+  behind = w.round.rows.items;
+  round = round_more all (so_far.put ++ so_far.behind) w.round.rows.items w.round.left next.round.rows.items next.round.left so_far.round round;
+  done = text;
+  next = parts;
+}
 
 -- with no row left, those that were taken are all of them
 pub all_gone : (all : List Row) (w : Writing) (so_far : IsUnderWay all w) (text : Written) → w.round.rows.items ≡ [] → text ≡ written (so_far.put ++ so_far.behind)
     → AreWrittenByPlace all text
 all_gone all w so_far text none is =
-    let done = so_far.put ++ so_far.behind in
-    let left = w.round.left in
-    let no_more : left ≡ [] = so_far.end none in
-    let empty : w.round.rows.items ++ left ≡ [] = ap (λ r. r ++ left) none ∙ no_more in
-    let whole : done ++ (w.round.rows.items ++ left) ≡ done = ap (λ r. done ++ r) empty ∙ append-nil done in
-    let before : done ++ w.round.rows.items ≡ done = ap (λ r. done ++ r) none ∙ append-nil done in (
-      done,
-      subst (IsPermutation all) whole so_far.same,
-      lead_all done left no_more (subst (λ r. Precede r left) before so_far.first),
-      is,
-    )
+    last_round all (so_far.put ++ so_far.behind) w.round.rows.items w.round.left text so_far.round none is

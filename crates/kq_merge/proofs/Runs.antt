@@ -100,16 +100,3 @@ queued [] plain runs before is last = rw (last, is) (append-nil plain)
 queued (k ∷ ks) plain runs before is last =
     rw (last, is) (ap (λ l. k.rows ++ l) (queued ks plain (map (λ (r : Rows). r.rows) ks ++ plain ∷ []) (map (λ (r : Rows). r.rows) ks) refl refl)
     ∙ sym (append_assoc k.rows (flat_map (λ (r : Rows). r.rows) ks) plain))
-
--- ---- runs cut in two, each half joined to one run, and these two joined
-
-pub halves_joined : (runs near far : List (List Row)) (first second run : List Row) → near ++ far ≡ runs
-    → IsPermutation (flat_map (λ r. r) near) first → IsPermutation (flat_map (λ r. r) far) second → IsPermutation (first ++ second) run
-    → IsPermutation (flat_map (λ r. r) runs) run
-halves_joined runs near far first second run cut one other whole =
-    let before = flat_map (λ (r : List Row). r) near in
-    let behind = flat_map (λ (r : List Row). r) far in
-    let all : before ++ behind ≡ flat_map (λ (r : List Row). r) runs = sym (flat_map-append (λ (r : List Row). r) near far) ∙ ap (flat_map (λ (r : List Row). r)) cut in
-    subst (λ l. IsPermutation l run) all (
-    IsPermutation-trans (before ++ behind) (first ++ second) run (IsPermutation-append before first behind second one other) whole
-    )

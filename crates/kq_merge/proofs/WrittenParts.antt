@@ -9,6 +9,7 @@ use Rattle.kq_model.specs.declared.row.Row.{Row}
 use Rattle.kq_model.specs.Report.{call_count, event_count, reply_line, row_lines}
 use Rattle.kq_merge.specs.Parts.{AreWritten, IsWritten}
 use Rattle.kq_merge.specs.Written.{Written, nothing_written, with_part, written}
+use Rattle.kq_merge.proofs.WrittenRows.{all-written, with_rows}
 
 -- ---- rows one behind the other
 
@@ -33,6 +34,15 @@ written-behind : (rows later : List Row) → written (rows ++ later) ≡ with_pa
 written-behind rows later =
     ap (λ (l : List ℕ). record { lines = l; calls = call_count (rows ++ later); events = event_count (rows ++ later) }) (lines-behind rows later)
     ∙ ap₂ (λ (c e : ℕ). record { lines = row_lines rows ++ row_lines later; calls = c; events = e }) (calls-behind rows later) (events-behind rows later)
+
+pub nothing_is : nothing_written ≡ written []
+unfolding row_lines call_count event_count
+nothing_is = refl
+
+-- rows are written behind those before
+pub rows_behind : (before rows : List Row) (text longer : Written) → text ≡ written before → longer ≡ with_rows rows text → longer ≡ written (before ++ rows)
+rows_behind before rows text longer done more =
+    more ∙ ap (with_rows rows) done ∙ all-written rows (written before) ∙ sym (written-behind before rows)
 
 -- ---- the parts that all rows are cut into
 

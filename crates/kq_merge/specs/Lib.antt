@@ -5,3 +5,4 @@ pub mod Written
 pub mod Parts
 pub mod Rounds
 pub mod Merged
+pub mod AtPlaces

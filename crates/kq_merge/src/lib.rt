@@ -2,10 +2,11 @@
 #![tactic(auto)]
 
 mod merging;
+mod placing;
 mod report;
 mod rows_ahead;
 mod run;
 
-pub use merging::{copied, merge, merge_with};
+pub use merging::{copied, merge};
 pub use report::{ReportText, report_by_place, report_text, report_text_with};
 pub use rows_ahead::Merging;

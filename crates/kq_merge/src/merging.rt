@@ -1,16 +1,12 @@
 ghost use Rattle.std.specs.Prelude.{◌≡◌, ◌++◌, IfOk};
 ghost use Rattle.std.specs.List.{All, flat_map};
 ghost use Rattle.std.specs.List.Sorted.{IsPermutation};
-ghost use Rattle.std.specs.Thread.{IsSync};
 ghost use Rattle.kq_merge.specs.ByPlace.{IsOnlyOrder, NeverFall, rows_in};
 
-use crate::rows_ahead::Merging;
 use crate::run::{Run, join};
 use kq_model::{Memory, Row, Rows};
 use std::alloc::Global;
 use std::collections::VecDeque;
-use std::thread;
-use std::thread::Threads;
 
 /// All rows of these kqueues and the plain rows, each once, by place. The rows of each kqueue, and
 /// the plain ones, stand by place already. Rows of kqueues move; the plain ones are copied.
@@ -28,26 +24,8 @@ pub fn merge(alloc: Global, kqueues: Vec<Rows>, plain: &[Row]) -> Result<Vec<Row
     Ok(join_all(alloc, runs)?.into_vec())
 }
 
-/// The same rows, but for a last join: in two runs, each put together by half of at most so many threads, of which the
-/// calling one is the first; 0 and 1 start none, and leave one run. `rt` gives the memory and the threads; a thread that
-/// does not start is no error.
-pub fn merge_with<R: AllocGlobal + Threads + Sync>(
-    rt: &R,
-    kqueues: Vec<Rows>,
-    plain: Vec<Row>,
-    threads: u32,
-) -> Result<Merging, Memory>
-    requires kqueues { All (λ kqueue. NeverFall kqueue.rows) kqueues.items }
-    requires plain { NeverFall plain.items }
-    ensures { IfOk result (λ rows. IsPermutation (rows_in kqueues.items plain.items) rows) }
-{
-    let alloc = rt.alloc();
-    let runs = runs_of(alloc, kqueues, plain)?;
-    halves_by(rt, alloc, runs, threads)
-}
-
 /// A run of each kqueue, in their order, and behind them one of the plain rows.
-fn runs_of(alloc: Global, kqueues: Vec<Rows>, plain: Vec<Row>) -> Result<VecDeque<Run>, Memory>
+pub fn runs_of(alloc: Global, kqueues: Vec<Rows>, plain: Vec<Row>) -> Result<VecDeque<Run>, Memory>
     requires kqueues { All (λ kqueue. NeverFall kqueue.rows) kqueues.items }
     requires plain { NeverFall plain.items }
     ensures { IfOk result (λ runs. flat_map (λ run. run) runs.items ≡ rows_in kqueues.items plain.items) }
@@ -71,48 +49,6 @@ pub fn copied(alloc: Global, rows: &[Row]) -> Result<Vec<Row>, Memory>
         copies.push(row.copy()?).map_err(|_| Memory)?;
     }
     Ok(copies)
-}
-
-/// Joins the runs to two by at most so many threads: each half of them by half of the threads.
-#[cycle(halves)]
-fn halves_by<R: Threads + Sync>(
-    rt: &R,
-    alloc: Global,
-    mut front: VecDeque<Run>,
-    threads: u32,
-) -> Result<Merging, Memory>
-    ensures { IfOk result (λ rows. IsPermutation (flat_map (λ r. r) front.items) rows) }
-{
-    if threads < 2 || front.len() < 2 {
-        let run = join_all(alloc, front)?;
-        return Ok(Merging::new(run, Run::empty(alloc)));
-    }
-    let back = front.split_off(front.len() / 2).map_err(|_| Memory)?;
-    let few = threads / 2;
-    let many = threads - few;
-    let near = move || -> Result<Run, Memory>
-        requires { IsSync R.row }
-        ensures { IfOk result (λ run. IsPermutation (flat_map (λ r. r) front.items) run) }
-    { join_by(rt, alloc, front, few) };
-    let far = move || -> Result<Run, Memory>
-        requires { IsSync R.row }
-        ensures { IfOk result (λ run. IsPermutation (flat_map (λ r. r) back.items) run) }
-    { join_by(rt, alloc, back, many) };
-    let (first, second) = thread::join(rt, near, far);
-    Ok(Merging::new(first?, second?))
-}
-
-/// Joins the runs to one by at most so many threads.
-#[cycle(halves)]
-fn join_by<R: Threads + Sync>(
-    rt: &R,
-    alloc: Global,
-    runs: VecDeque<Run>,
-    threads: u32,
-) -> Result<Run, Memory>
-    ensures { IfOk result (λ run. IsPermutation (flat_map (λ r. r) runs.items) run) }
-{
-    halves_by(rt, alloc, runs, threads)?.into_run(alloc)
 }
 
 /// Joins the two runs at the front and puts the new one at the back, until one is left. So every

@@ -1,31 +1,35 @@
 //! Rows that are merged as they are taken.
 
-ghost use Rattle.std.specs.Prelude.{◌≡◌, ◌++◌, IfOk};
+ghost use Rattle.std.specs.Prelude.{◌≡◌, ◌≤◌, ◌++◌, IfOk, List};
+ghost use Rattle.std.specs.List.{All, flat_map};
 ghost use Rattle.std.specs.List.Sorted.{IsPermutation};
+ghost use Rattle.kq_merge.specs.AtPlaces.{AreTaken, IsFirstPlace};
+ghost use Rattle.kq_merge.specs.ByPlace.{NeverFall, rows_in};
 ghost use Rattle.kq_merge.specs.Merged.{IsRound};
+ghost use Rattle.kq_model.specs.declared.row.Row.{Row};
 
-use crate::run::{Run, join, take_earliest};
-use kq_model::{Memory, Row};
+use crate::merging::runs_of;
+use crate::placing::Places;
+use crate::run::Run;
+use kq_model::{Memory, Row, Rows};
 use std::alloc::Global;
+use std::collections::VecDeque;
 use std::marker::Model;
 
-/// So many rows are taken together.
-const ROUND_ROWS: usize = 65_536;
-
-/// Rows in two runs, which are joined as rows are taken from them.
+/// Rows in runs, which are put in order as they are taken.
 #[derive(Drop)]
 pub struct Merging {
-    first: Run,
-    second: Run,
+    runs: Vec<Run>,
 }
 
 impl Model for Merging {
-    ghost use Rattle.std.specs.Prelude.{List, ◌++◌};
+    ghost use Rattle.std.specs.List.{flat_map};
+    ghost use Rattle.std.specs.Prelude.{List};
     ghost use Rattle.kq_model.specs.declared.row.Row.{Row};
 
     ghost Value = { List Row };
 
-    ghost view = { λ m. m.first ++ m.second };
+    ghost view = { λ m. flat_map (λ run. run) m.runs.items };
 }
 
 /// The rows that stand first by place, and those that are left.
@@ -36,42 +40,82 @@ pub struct Round {
 }
 
 impl Merging {
-    pub(crate) fn new(first: Run, second: Run) -> Self
-        ensures { result ≡ first ++ second }
+    /// All rows of these kqueues and the plain rows, each once. The rows of each kqueue, and the plain ones, stand by
+    /// place already. No row is copied.
+    pub fn of(alloc: Global, kqueues: Vec<Rows>, plain: Vec<Row>) -> Result<Self, Memory>
+        requires kqueues { All (λ kqueue. NeverFall kqueue.rows) kqueues.items }
+        requires plain { NeverFall plain.items }
+        ensures { IfOk result (λ rows. rows ≡ rows_in kqueues.items plain.items) }
     {
-        Merging { first, second }
+        let runs = runs_of(alloc, kqueues, plain)?;
+        Ok(Merging {
+            runs: Vec::from(runs),
+        })
     }
 
-    /// Joins the two runs.
-    pub(crate) fn into_run(self, alloc: Global) -> Result<Run, Memory>
-        ensures { IfOk result (λ run. IsPermutation self run) }
-    {
-        let Merging { first, second } = self;
-        join(alloc, first, second)
-    }
-
-    /// Takes the rows that stand first by place, up to so many as are taken together; none only where none is left.
+    /// Takes the rows of the places that come first, as many places as are taken together; none only where none is left.
     pub(crate) fn next_round(self, alloc: Global) -> Result<Round, Memory>
         ensures { IfOk result (λ round. IsRound self round.rows.items round.left) }
     {
-        let Merging {
-            mut first,
-            mut second,
-        } = self;
-        let room = first.len().saturating_add(second.len()).min(ROUND_ROWS);
-        let mut rows = Vec::with_capacity(alloc, room).map_err(|_| Memory)?;
-        'rows: while rows.len() < ROUND_ROWS {
-            let Some(row) = take_earliest(&mut first, &mut second) else {
-                return Ok(Round {
-                    rows,
-                    left: Merging { first, second },
-                });
-            };
-            rows.push(row).map_err(|_| Memory)?;
-        }
+        let Merging { runs } = self;
+        let Some(first) = first_place(runs.as_slice()) else {
+            return Ok(Round {
+                rows: Vec::new(alloc),
+                left: Merging { runs },
+            });
+        };
+        let mut places = Places::new(alloc, first, last_place(runs.as_slice()))?;
+        let runs = taken(alloc, runs, &mut places)?;
         Ok(Round {
-            rows,
-            left: Merging { first, second },
+            rows: places.into_rows()?,
+            left: Merging { runs },
         })
     }
+}
+
+/// The first place of all rows.
+fn first_place(runs: &[Run]) -> Option<u64>
+    ensures { IsFirstPlace (flat_map (λ run. run) runs.now) result }
+{
+    let mut first = None;
+    for run in runs {
+        first = earlier(first, run.first_place());
+    }
+    first
+}
+
+/// The earlier of two places.
+fn earlier(place: Option<u64>, other: Option<u64>) -> Option<u64>
+    ensures { (rows others : List Row) → IsFirstPlace rows place → IsFirstPlace others other
+        → IsFirstPlace (rows ++ others) result }
+{
+    match (place, other) {
+        (Some(place), Some(other)) if other < place => Some(other),
+        (None, other) => other,
+        (place, _) => place,
+    }
+}
+
+/// The last place of all rows, or 0.
+fn last_place(runs: &[Run]) -> u64 {
+    let mut last = 0;
+    for run in runs {
+        last = run.last_place().unwrap_or(0).max(last);
+    }
+    last
+}
+
+/// Takes the rows of these places out of the runs, and gives those that are left.
+fn taken(alloc: Global, runs: Vec<Run>, places: &mut Places) -> Result<Vec<Run>, Memory>
+    requires { All (λ row. places.old.from ≤ row.at) (flat_map (λ run. run) runs.items) }
+    ensures { IfOk result (λ left.
+        AreTaken places.old places.new (flat_map (λ run. run) runs.items) (flat_map (λ run. run) left.items)) }
+{
+    let mut left = Vec::with_capacity(alloc, runs.len()).map_err(|_| Memory)?;
+    let mut ahead = VecDeque::from(runs);
+    'runs: while let Some(mut run) = ahead.pop_front() {
+        run.give(places)?;
+        left.push(run).map_err(|_| Memory)?;
+    }
+    Ok(left)
 }

@@ -1,9 +1,11 @@
-ghost use Rattle.std.specs.Prelude.{◌≡◌, [], ◌∷◌, ◌++◌, ◌≤◌, IfNone, IfOk, IfSome, length};
+ghost use Rattle.std.specs.Prelude.{◌≡◌, [], ◌∷◌, ◌++◌, ◌≤◌, ◌<◌, IfNone, IfOk, IfSome, OnOk};
 ghost use Rattle.std.specs.List.{All};
 ghost use Rattle.std.specs.List.Sorted.{IsPermutation};
+ghost use Rattle.kq_merge.specs.AtPlaces.{AreTaken, IsFirstPlace};
 ghost use Rattle.kq_merge.specs.ByPlace.{NeverFall};
 ghost use Rattle.kq_merge.specs.Joined.{goes_first};
 
+use crate::placing::Places;
 use kq_model::{Memory, Row};
 use std::alloc::Global;
 use std::collections::VecDeque;
@@ -18,6 +20,7 @@ pub struct Run {
 impl Model for Run {
     ghost use Rattle.std.specs.Prelude.{List};
     ghost use Rattle.kq_model.specs.declared.row.Row.{Row};
+    ghost use Rattle.kq_merge.specs.AtPlaces.{AreTaken, IsFirstPlace};
     ghost use Rattle.kq_merge.specs.ByPlace.{NeverFall};
 
     ghost Value = { List Row };
@@ -54,10 +57,39 @@ impl Run {
         Vec::from(rows)
     }
 
-    pub fn len(&self) -> usize
-        ensures { result ≡ length self.now }
+    /// The place of its first row.
+    pub fn first_place(&self) -> Option<u64>
+        ensures { IsFirstPlace self.now result }
     {
-        self.rows.len()
+        Some(self.rows.front()?.at)
+    }
+
+    /// The place of its last row.
+    pub fn last_place(&self) -> Option<u64> {
+        Some(self.rows.back()?.at)
+    }
+
+    /// Takes its first row, if the place of that is one of these.
+    fn take_for(&mut self, places: &Places) -> Option<Row>
+        requires { All (λ row. places.now.from ≤ row.at) self.old }
+        ensures taken { IfSome result (λ row. (self.old ≡ row ∷ self.new) × (row.at < places.now.until)) }
+        ensures none { IfNone result ((self.old ≡ self.new) × All (λ row. places.now.until ≤ row.at) self.new) }
+    {
+        if !places.have(self.rows.front()?.at) {
+            return None;
+        }
+        self.rows.pop_front()
+    }
+
+    /// Moves its rows to their places, as far as these reach.
+    pub fn give(&mut self, places: &mut Places) -> Result<(), Memory>
+        requires { All (λ row. places.old.from ≤ row.at) self.old }
+        ensures { OnOk result (AreTaken places.old places.new self.old self.new) }
+    {
+        while let Some(row) = self.take_for(places) {
+            places.put(row)?;
+        }
+        Ok(())
     }
 
     /// Whether the next row is this run's, of two at one place too.

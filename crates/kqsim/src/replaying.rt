@@ -12,7 +12,7 @@ use crate::halves::HalvesSplitter;
 use crate::splitter::Splitter;
 use crate::workers::is_worker_count;
 use kq_history::Split;
-use kq_merge::{Merging, copied, merge_with, report_by_place};
+use kq_merge::{Merging, copied, report_by_place};
 use kq_model::{Memory, Row, Rows, Trace};
 use kq_replay::{Always, Gate, Open, RunFault, Starts, replay_all_with};
 use kq_trace::read_trace_told;
@@ -104,8 +104,8 @@ fn by_halves<R: AllocGlobal + Threads + Wait + Sync, G: Gate + Sync, S: Starts>(
     written(rt, trace, rows, workers)
 }
 
-/// The rows of a trace that was split, in two runs by place: each of its kqueues is replayed alone, and their rows are
-/// put together with those of impossible records.
+/// The rows of a trace that was split: each of its kqueues is replayed alone, and those of impossible records are put
+/// beside their rows.
 fn replayed<R: AllocGlobal + Threads + Wait + Sync, G: Gate + Sync, S: Starts>(
     rt: &R,
     split: Split<'_>,
@@ -124,31 +124,7 @@ fn replayed<R: AllocGlobal + Threads + Wait + Sync, G: Gate + Sync, S: Starts>(
         Err(RunFault::Spawn) => return Err(Fault::Spawn),
     };
     let plain = copied(rt.alloc(), split.plain_rows())?;
-    merged_beside(rt, split, kqueues, plain, workers).map_err(|_| Fault::Memory)
-}
-
-/// Puts rows together. By two threads or more one of them lets go of the split that they came from meanwhile.
-fn merged_beside<R: AllocGlobal + Threads + Sync>(
-    rt: &R,
-    split: Split<'_>,
-    kqueues: Vec<Rows>,
-    plain: Vec<Row>,
-    threads: u32,
-) -> Result<Merging, Memory>
-    requires kqueues { All (λ kqueue. NeverFall kqueue.rows) kqueues.items }
-    requires plain { NeverFall plain.items }
-    ensures { IfOk result (λ rows. IsPermutation (rows_in kqueues.items plain.items) rows) }
-{
-    if threads < 2 {
-        return merge_with(rt, kqueues, plain, threads);
-    }
-    let merge = move || -> Result<Merging, Memory>
-        requires { All (λ kqueue. NeverFall kqueue.rows) kqueues.items × NeverFall plain.items }
-        ensures { IfOk result (λ rows. IsPermutation (rows_in kqueues.items plain.items) rows) }
-    { merge_with(rt, kqueues, plain, threads) };
-    let let_go = move || { drop(split) };
-    let (rows, _) = join(rt, merge, let_go);
-    rows
+    Ok(Merging::of(rt.alloc(), kqueues, plain)?)
 }
 
 /// The report of a trace of which these are the rows.

@@ -3,7 +3,7 @@
 use crate::watch::Watch;
 use anyhow::Context;
 use kq_history::Split;
-use kq_merge::{copied, merge_with, report_by_place};
+use kq_merge::{Merging, copied, report_by_place};
 use kq_replay::{Open, replay_all};
 use kq_trace::read_trace_with;
 use std::alloc::AllocError;
@@ -28,7 +28,7 @@ pub fn parts<R: AllocGlobal + Clock + CpuClock + Threads + Wait + Sync, O: Write
     let kqueues = replay_all(rt, &split, workers, &Open)?;
     watch.lap(rt, "replay", times)?;
     let plain = copied(rt.alloc(), split.plain_rows()).map_err(|_| AllocError)?;
-    let rows = merge_with(rt, kqueues, plain, workers).map_err(|_| AllocError)?;
+    let rows = Merging::of(rt.alloc(), kqueues, plain).map_err(|_| AllocError)?;
     watch.lap(rt, "merge", times)?;
     let records = trace.events.len() as u64;
     let report = report_by_place(rt, rows, records, workers).map_err(|_| AllocError)?;

@@ -26,11 +26,18 @@ pub type Part = Result<ReportText, Memory>;
 pub fn text_of(alloc: Global, rows: &[Row]) -> Result<ReportText, Memory>
     ensures { IfOk result (λ text. text ≡ written rows.now) }
 {
-    let mut text = ReportText::new(alloc);
+    with_rows(ReportText::new(alloc), rows)
+}
+
+/// The text with the lines of these rows behind it.
+pub fn with_rows(text: ReportText, rows: &[Row]) -> Result<ReportText, Memory>
+    ensures { (before : List Row) → text ≡ written before → IfOk result (λ longer. longer ≡ written (before ++ rows.now)) }
+{
+    let mut longer = text;
     for row in rows {
-        text = text.with_row(row.at, &row.reply)?;
+        longer = longer.with_row(row.at, &row.reply)?;
     }
-    Ok(text)
+    Ok(longer)
 }
 
 /// How many rows each of so many threads writes. The few that are left over are a part of their own, which the

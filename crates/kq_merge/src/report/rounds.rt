@@ -8,7 +8,7 @@ ghost use Rattle.kq_merge.specs.Parts.{AreWritten};
 ghost use Rattle.kq_merge.specs.Rounds.{IsUnderWay};
 ghost use Rattle.kq_merge.specs.Written.{written};
 
-use super::parts::{Part, parts_of, put_behind, text_of};
+use super::parts::{Part, parts_of, put_behind, with_rows};
 use super::text::ReportText;
 use crate::rows_ahead::{Merging, Round};
 use kq_model::{Memory, Row};
@@ -98,8 +98,21 @@ fn write_and_take<R: AllocGlobal + Threads + Sync>(
     join(rt, write, take)
 }
 
-/// The lines of all rows by place, and what the last line counts of them. By two threads or more, half of them write
-/// while one joins the rows ahead and one puts together what was written before.
+/// The lines of all rows by place, and what the last line counts of them, by the calling thread.
+fn text_alone(alloc: Global, rows: Merging) -> Result<ReportText, Memory>
+    ensures { IfOk result (AreWrittenByPlace rows) }
+{
+    let mut text = ReportText::new(alloc);
+    let mut round = rows.next_round(alloc)?;
+    'rounds: while !round.rows.is_empty() {
+        text = with_rows(text, round.rows.as_slice())?;
+        round = round.left.next_round(alloc)?;
+    }
+    Ok(text)
+}
+
+/// The lines of all rows by place, and what the last line counts of them. By two threads or more, all but one of them
+/// write, while one puts the rows ahead in order and one puts together what was written before.
 pub fn text_by_place<R: AllocGlobal + Threads + Sync>(
     rt: &R,
     rows: Merging,
@@ -109,12 +122,11 @@ pub fn text_by_place<R: AllocGlobal + Threads + Sync>(
 {
     let alloc = rt.alloc();
     if threads < 2 {
-        let rows = rows.into_run(alloc)?.into_vec();
-        return text_of(alloc, rows.as_slice());
+        return text_alone(alloc, rows);
     }
     let mut writing = Writing::start(alloc, rows)?;
     'rounds: while !writing.round.rows.is_empty() {
-        writing = writing.next(rt, threads / 2)?;
+        writing = writing.next(rt, threads - 1)?;
     }
     put_behind(writing.text, writing.parts)
 }

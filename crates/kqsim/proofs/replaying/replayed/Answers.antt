@@ -1,17 +1,17 @@
 -- Each kqueue's rows and the plain ones stand by place, and together they are the rows of the trace.
-use Rattle.std.proofs.Common.{rules, ◌≡◌, IfOk, sym, subst}
+use Rattle.std.proofs.Common.{rules, ◌≡◌, sym, subst}
 use Rattle.std.specs.List.Sorted.{IsPermutation}
-use Rattle.std.proofs.lemmas.Result.{IfOk-weaker}
+use Rattle.std.proofs.lemmas.List.Sorted.{IsPermutation-refl}
 use Rattle.kq_history.specs.Traced.{plain_rows_of}
 use Rattle.kq_merge.specs.ByPlace.{NeverFall, rows_in}
 use Rattle.kqsim.proofs.ReplayedTraces.{kqueues_never_fall, plain_never_falls, rows_again}
 use Rattle.kqsim.proofs.replaying.replayed.Goals as goal
 
-pub merged_beside-requires-clause-kqueues : goal.merged_beside-requires-clause-kqueues
-merged_beside-requires-clause-kqueues g c = λ lifetimes lives. kqueues_never_fall c.args.split c.in-Ok.kqueues.items c.in-Ok.ensures.ok
+pub of-requires-clause-kqueues : goal.of-requires-clause-kqueues
+of-requires-clause-kqueues g c = kqueues_never_fall c.args.split c.in-Ok.kqueues.items c.in-Ok.ensures.ok
 
-pub merged_beside-requires-clause-plain : goal.merged_beside-requires-clause-plain
-merged_beside-requires-clause-plain g c = λ lifetimes lives.
+pub of-requires-clause-plain : goal.of-requires-clause-plain
+of-requires-clause-plain g c =
     let are : c.in_ok-plain.plain.items ≡ plain_rows_of c.args.split = search rules in
     subst NeverFall (sym are) (plain_never_falls c.args.split c.in-Ok.kqueues.items c.in-Ok.ensures.ok)
 
@@ -21,6 +21,7 @@ returns-clause-rows g c =
     let kqueues = c.in-Ok.kqueues.items in
     let plain = c.in_ok-plain.plain.items in
     let are : plain ≡ plain_rows_of split = search rules in
-    let merged : IfOk c.map_err.result (λ found. IsPermutation (rows_in kqueues plain) found) = search rules in
-    IfOk-weaker c.map_err.result _ _
-    (λ found same. rows_again split kqueues found c.in-Ok.ensures.ok (subst (λ rows. IsPermutation (rows_in kqueues rows) found) are same)) merged
+    let found = c.in_ok-of.field-0 in
+    let all : found ≡ rows_in kqueues plain = search rules in
+    let same : IsPermutation (rows_in kqueues plain) found = subst (IsPermutation (rows_in kqueues plain)) (sym all) (IsPermutation-refl (rows_in kqueues plain)) in
+    rows_again split kqueues found c.in-Ok.ensures.ok (subst (λ rows. IsPermutation (rows_in kqueues rows) found) are same)

@@ -1,17 +1,6 @@
-use Rattle.std.proofs.Common.{◌∙◌, ◌+◌, drop, ap, sym}
-use Rattle.kq_merge.proofs.WrittenRows.{with_rows, with_rows-step, with_rows-end, written-is}
+use Rattle.std.proofs.Common.{[], ◌∙◌}
+use Rattle.kq_merge.proofs.WrittenParts.{nothing_is}
 use Rattle.kq_merge.proofs.report.parts.text_of.Goals as goal
 
-pub loop-row-preserved : goal.loop-row-preserved
-loop-row-preserved c =
-    let rows = c.args.rows.now in
-    let i = c.loop-row.row-index in
-    ap (with_rows (drop (i + 1) rows)) c.in_ok-text.ensures
-    ∙ with_rows-step rows i c.row-item.result c.loop-row.text c.loop-row-test.true c.row-item.is
-    ∙ c.loop-row.invariant
-
 pub returns : goal.returns
-returns c =
-    let rows = c.args.rows.now in
-    written-is rows c.loop-row.text
-    (sym (with_rows-end rows c.loop-row.row-index c.loop-row.text c.loop-row-test.false) ∙ c.loop-row.invariant)
+returns c = c.with_rows.ensures [] (c.new.ensures ∙ nothing_is)

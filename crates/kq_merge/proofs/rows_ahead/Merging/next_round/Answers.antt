@@ -1,26 +1,21 @@
--- A row more, or none that is left.
-use Rattle.std.proofs.Common.{◌≡◌, ◌∷◌, ◌++◌, [], rules, arith, sym, subst}
-use Rattle.std.specs.List.Sorted.{IsPermutation}
-use Rattle.std.proofs.lemmas.List.Sorted.{IsPermutation-pop_more, length_permutation}
-use Rattle.kq_merge.specs.ByPlace.{Precede}
-use Rattle.kq_merge.proofs.Runs.{lead_more}
+-- The rows of the first places, by place.
+use Rattle.std.proofs.Common.{◌∙◌, List, ap, subst}
+use Rattle.std.specs.List.{flat_map}
+use Rattle.kq_model.specs.declared.row.Row.{Row}
+use Rattle.kq_merge.specs.AtPlaces.{AreTaken, IsFirstPlace}
+use Rattle.kq_merge.proofs.PlacedRows.{round_taken}
 use Rattle.kq_merge.proofs.rows_ahead.Merging.next_round.Goals as goal
 
-pub rows-smaller : goal.rows-smaller
-rows-smaller c =
-    let left = c.take_earliest.new.first ++ c.take_earliest.new.second in
-    omega (arith, length_permutation (c.rows.first ++ c.rows.second) (c.in-Some.row ∷ left) c.in-Some.ensures.taken)
+abbrev flat : List (List Row) → List Row
+flat runs = flat_map (λ run. run) runs
 
-pub rows-preserved : goal.rows-preserved
-rows-preserved c =
-    let rows = c.rows.rows.items in
-    let row = c.in-Some.row in
-    let left = c.rows.first ++ c.rows.second in
-    let others = c.take_earliest.new.first ++ c.take_earliest.new.second in
-    let grown : c.push.new.self.items ≡ rows ++ row ∷ [] = search rules in
-    record {
-      same = subst (λ l. IsPermutation c.args.self (l ++ others)) (sym grown)
-          (IsPermutation-pop_more c.args.self rows left others row c.rows.invariant.same c.in-Some.ensures.taken);
-      lead = subst (λ l. Precede l others) (sym grown)
-          (lead_more rows left others row c.in-Some.ensures.taken c.in-Some.ensures.earliest c.rows.invariant.lead);
-    }
+pub returns : goal.returns
+returns c =
+    let all = c.args.self in
+    let places = c.in_ok-places.places in
+    let left = flat c.in_ok-runs.runs.items in
+    let is = subst (IsFirstPlace all) c.in-Some.is
+    (subst (λ l. IsFirstPlace l c.first_place.result) (ap flat c.as_slice.ensures.value ∙ c.self.view_is) c.first_place.ensures) in
+    let taken = subst (λ l. AreTaken places c.taken.new.places l left) c.self.view_is c.in_ok-runs.ensures in
+    round_taken places c.taken.new.places all c.in_ok-into_rows.field-0.items left c.in-Some.first c.in_ok-places.ensures.none c.in_ok-places.ensures.until
+    is taken c.in_ok-into_rows.ensures.same c.in_ok-into_rows.ensures.by_place
