@@ -1,5 +1,6 @@
--- A listener is told of a part, piece by piece.
-use Rattle.std.proofs.Common.{Vec, Global, ◌≡◌, ℕ, ◌+◌, ◌<◌, List, [], ◌∷◌, ◌++◌, length, drop, get_or, Result, refl, sym, ap, subst, ◌∙◌, append_assoc, append-nil, add-one, drop-cons, arith, length-append}
+-- A listener that takes pieces one after the other.
+use Rattle.std.proofs.Common.{Vec, Global, ◌≡◌, ℕ, ◌+◌, ◌<◌, ◌≤◌, List, [], ◌++◌, length, drop, get_or, sym, ap, subst, ◌∙◌, append_assoc, append-nil, add-one, drop-cons, arith, length-append}
+use Rattle.std.proofs.lemmas.List.{drop_all}
 use Rattle.std.specs.Prelude.{flat_map}
 use Rattle.kq_model.specs.declared.event.Event.{Event}
 use Rattle.kq_trace.specs.Told.{HasHeard}
@@ -50,3 +51,11 @@ module _ {A : Type 0} (heard : A → List Event → Type 0) (before count len : 
         subst (heard new) (append_assoc es so_far.done events)
         (more (es ++ so_far.done) (length-append es so_far.done ∙ omega (arith, so_far.counted, long_before)) (so_far.told es long_before has));
   }
+
+pub all_told : {A : Type 0} (heard : A → List Event → Type 0) (before count : ℕ) (old new : A) (pieces : List (Vec Event Global)) (i : ℕ)
+    → length pieces ≤ i → IsToldTo heard before count old new (events_in pieces) (drop i pieces)
+    → (so_far : List Event) → length so_far ≡ before → heard old so_far → heard new (so_far ++ events_in pieces)
+all_told heard before count old new pieces i end it so_far long has =
+    let all : it.done ≡ events_in pieces =
+    sym (it.cut ∙ ap (λ ps. it.done ++ events_in ps) (drop_all i pieces end) ∙ append-nil it.done) in
+    subst (λ es. heard new (so_far ++ es)) all (it.told so_far long has)

@@ -16,6 +16,7 @@ use kq_model::Memory;
 use kq_model::limits::MOST_RECORDS;
 use std::alloc::Global;
 use std::marker::Model;
+use std::sync::Wait;
 use std::thread::Threads;
 
 /// How many bytes are read together, and the line that they end in: enough that it is worth threads.
@@ -25,8 +26,8 @@ const PART_BYTES: usize = 4_194_304;
 const PART_LINES: u64 = 32_768;
 
 /// Reads the records of a text part by part, each part on several threads. Pieces of its text are decoded beside each
-/// other; where that finds a fault, they are read once more, line by line, which finds the first. A trace of which a later line is
-/// bad gives the parts before it first.
+/// other; where that finds a fault, or a thread does not start, they are read once more, line by line, which finds the
+/// first. A trace of which a later line is bad gives the parts before it first.
 #[derive(Drop)]
 pub struct PartReader<'a> {
     alloc: Global,
@@ -81,7 +82,11 @@ impl<'a> PartReader<'a> {
     /// The records on the next lines, by at most so many threads, of which the calling one is the first; none
     /// behind the last line. On `Bad` that line is the first of those ahead that has a fault; a thread that does
     /// not start is no error.
-    pub fn next_part<R: Threads + Sync>(&mut self, rt: &R, threads: u32) -> Result<Part, TraceError>
+    pub fn next_part<R: Threads + Wait + Sync>(
+        &mut self,
+        rt: &R,
+        threads: u32,
+    ) -> Result<Part, TraceError>
         ensures part { IfOk result (λ part. IsPart part self.old self.new) }
         ensures version { self.new.version ≡ self.old.version }
         ensures bad { IfErr result (IsFaultAhead self.old.meaning) }
@@ -92,9 +97,9 @@ impl<'a> PartReader<'a> {
         }
     }
 
-    /// The records on the next lines, in pieces; none where there is no line, where one of them has a fault, or where
-    /// there are more than there may be.
-    fn next_pieces<R: Threads + Sync>(
+    /// The records on the next lines, in pieces; none where there is no line, where one of them has a fault, where there
+    /// are more than there may be, or where a thread does not start.
+    fn next_pieces<R: Threads + Wait + Sync>(
         &mut self,
         rt: &R,
         threads: u32,

@@ -1,6 +1,6 @@
 //! Reading a trace while another thread is told of what was read.
 
-ghost use Rattle.std.specs.Prelude.{◌≡◌, ◌<◌, ◌+◌, ◌^◌, ◌++◌, IfErr, IfOk, List, OnOk, length, []};
+ghost use Rattle.std.specs.Prelude.{◌≡◌, ◌<◌, ◌+◌, ◌^◌, ◌++◌, IfErr, IfOk, List, OnOk, flat_map, length, []};
 ghost use Rattle.kq_model.specs.declared.event.Event.{Event};
 ghost use Rattle.kq_model.specs.Reading.{Good, reading};
 ghost use Rattle.kq_trace.specs.Faults.{IsFault, IsLeastFault};
@@ -15,6 +15,7 @@ use crate::read::read_trace_with;
 use kq_model::{Event, Memory, Series, Trace};
 use std::alloc::Global;
 use std::mem::replace;
+use std::sync::Wait;
 use std::thread::{Threads, join_mut};
 
 /// Is told of the records of a trace, one part after the other.
@@ -28,6 +29,14 @@ pub trait Listener {
         requires few { before + length events.now < 2 ^ 31 }
         ensures { OnOk result ((so_far : List Event) → length so_far ≡ before → heard self.old so_far
             → heard self.new (so_far ++ events.now)) };
+
+    /// The events of the records that follow so many, in pieces that are told together, so that a listener that starts
+    /// threads starts them once for all of them. After Memory nothing is known.
+    fn hear_pieces(&mut self, before: u64, pieces: &[Vec<Event>]) -> Result<(), Memory>
+        requires before { HasHeard heard before self.old }
+        requires few { before + length (flat_map (λ piece. piece.items) pieces.now) < 2 ^ 31 }
+        ensures { OnOk result ((so_far : List Event) → length so_far ≡ before → heard self.old so_far
+            → heard self.new (so_far ++ flat_map (λ piece. piece.items) pieces.now)) };
 }
 
 /// Reads the text of a trace as [`read_trace_with`](crate::read_trace_with) does, and tells the listener of its
@@ -35,7 +44,7 @@ pub trait Listener {
 /// starts, and the calling one is the first: with 0 and 1 none is started, and the listener hears of all records at
 /// once. `Memory` also comes where the listener answered it; a thread that does not start is no error. After an error
 /// nothing is known of the listener.
-pub fn read_trace_told<R: AllocGlobal + Threads + Sync, L: Listener>(
+pub fn read_trace_told<R: AllocGlobal + Threads + Wait + Sync, L: Listener>(
     rt: &R,
     bytes: &[u8],
     threads: u32,
@@ -138,24 +147,19 @@ impl Told {
     }
 }
 
-/// Tells the listener of a part, piece by piece, where it was told of so many records before.
+/// Tells the listener of a part, where it was told of so many records before.
 fn tell<L: Listener>(listener: &mut L, before: u64, part: &Part) -> Result<(), Memory>
     requires before { HasHeard L.heard before listener.old }
     requires few { before + length part.now < 2 ^ 31 }
     ensures { OnOk result ((so_far : List Event) → length so_far ≡ before → L.heard listener.old so_far
         → L.heard listener.new (so_far ++ part.now)) }
 {
-    let mut count = before;
-    for piece in part.pieces() {
-        listener.hear(count, piece.as_slice())?;
-        count += piece.len() as u64;
-    }
-    Ok(())
+    listener.hear_pieces(before, part.pieces())
 }
 
 /// Tells the listener of a part, and meanwhile reads the next one on a thread of its own, which before that moves the
 /// part before behind the others.
-fn tell_and_read<'a, R: Threads + Sync, L: Listener>(
+fn tell_and_read<'a, R: Threads + Wait + Sync, L: Listener>(
     rt: &R,
     listener: &mut L,
     told: &mut Told,
@@ -189,7 +193,7 @@ fn tell_and_read<'a, R: Threads + Sync, L: Listener>(
 }
 
 /// Moves the last part behind the others, and reads the next one.
-fn settle_and_read<'a, R: Threads + Sync>(
+fn settle_and_read<'a, R: Threads + Wait + Sync>(
     rt: &R,
     told: &mut Told,
     reader: &mut PartReader<'a>,

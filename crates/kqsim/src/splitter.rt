@@ -41,4 +41,13 @@ impl Listener for Splitter {
     fn hear(&mut self, before: u64, events: &[Event]) -> Result<(), Memory> {
         self.splitting.take(before, events)
     }
+
+    fn hear_pieces(&mut self, before: u64, pieces: &[Vec<Event>]) -> Result<(), Memory> {
+        let mut count = before;
+        for piece in pieces {
+            self.splitting.take(count, piece.as_slice())?;
+            count += piece.len() as u64;
+        }
+        Ok(())
+    }
 }

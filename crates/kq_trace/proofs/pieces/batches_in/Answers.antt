@@ -1,13 +1,8 @@
 -- The pieces, and what each was decoded to.
-use Rattle.std.proofs.Common.{ap, ◌∙◌}
-use Rattle.rayon.proofs.ListFacts.{IfOk-then}
+use Rattle.kq_trace.specs.Rest.{lines_in}
 use Rattle.kq_trace.proofs.PieceLines.{pieces_read}
 use Rattle.kq_trace.proofs.pieces.batches_in.Goals as goal
 
-pub returns : goal.returns
-returns g c =
-    let slice =
-    ap (λ it. it.base.slice.now) c.map.ensures.base ∙ ap (λ it. it.slice.now) c.with_min_len.ensures.base ∙ c.par_iter.ensures in
-    IfOk-then c.collect.result _ _ c.collect.ensures (λ v h.
-    let chain = h.1 in
-    rw h.2 (pieces_read chain.0 c.args.pieces.now h.0 (chain.1 ∙ slice) chain.2))
+pub returns-in-Ok : goal.returns-in-Ok
+returns-in-Ok g c =
+    pieces_read (lines_in c.args.pieces.now) c.in-Some.jobs c.in-Ok.batches.items c.in-Some.ensures c.in-Ok.ensures.ok
