@@ -5,6 +5,7 @@ pub mod Bits
 pub mod Views
 pub mod Caller
 pub mod Ticks
+pub mod Hashed
 pub mod Hearing
 pub mod Knote
 pub mod Kqueue

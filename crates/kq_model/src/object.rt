@@ -1,6 +1,13 @@
+ghost use Rattle.std.specs.Prelude.{◌≡◌};
+ghost use Rattle.std.specs.Cmp.Rules.{hashing};
+ghost use Rattle.std.proofs.Common.{rules};
+ghost use Rattle.kq_model.specs.Hashed.{hashed_target};
+
+use std::hash::{Hash, Hasher};
+
 /// What a knote watches. A socket, a pipe and an open file description are named by the place of
 /// the record that made them.
-#[derive(Debug, Drop, Clone, Copy, PartialEq, Eq, Hash)]
+#[derive(Debug, Drop, Clone, Copy, PartialEq, Eq)]
 pub enum Target {
     Socket(u64),
     Pipe(u64),
@@ -12,6 +19,30 @@ pub enum Target {
     Signal { pid: u32, signal: u32 },
     /// The knote itself: a timer or a user event.
     Own,
+}
+
+// Almost each record has tables asked for a target, and most are told apart by one number: so the
+// kind is not hashed.
+impl Hash for Target {
+    ghost hash_input = { hashed_target };
+
+    ghost respects_eq = { Prim.search (hashing, rules) };
+
+    #[tactic(auto, unfolding(crate::specs::Hashed::hashed_target))]
+    fn hash<H: Hasher>(&self, state: &mut H) {
+        match self {
+            Target::Socket(place) | Target::Pipe(place) | Target::Open(place) => {
+                state.write_u64(*place)
+            }
+            Target::File(number) => state.write_u32(*number),
+            Target::Process(pid) => state.write_u32(*pid),
+            Target::Signal { pid, signal } => {
+                state.write_u32(*pid);
+                state.write_u32(*signal);
+            }
+            Target::Own => {}
+        }
+    }
 }
 
 /// What a record tells the knotes of a target.
