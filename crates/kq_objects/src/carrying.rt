@@ -6,7 +6,7 @@ ghost use Rattle.kq_objects.specs.Objects.{objects_of, Fits, IsReady, IsRoomFor}
 
 use crate::Plan;
 use crate::objects::Objects;
-use kq_model::Doing;
+use kq_model::{Doing, Hint, Target};
 
 impl Objects {
     /// Carries out a plan that was made for the objects as they are. Takes no memory.
@@ -17,7 +17,17 @@ impl Objects {
         ensures model { (m : Kept listed) → objects_of self.old ≡ quantities m
             → objects_of self.new ≡ quantities (all_done plan.doings m) }
     {
+        let _ = self.commit_and_tell(plan);
+    }
+
+    /// The same, and gives whom the plan tells. Takes no memory.
+    pub fn commit_and_tell(&mut self, plan: Plan) -> Vec<(Target, Hint)>
+        requires { IsReady plan.doings self.old }
+        ensures done { objects_of self.new ≡ all_done plan.doings (objects_of self.old) }
+        ensures hints { result.items ≡ plan.hints }
+    {
         self.note_all(plan.doings());
+        plan.into_hints()
     }
 
     fn note_all(&mut self, doings: &[Doing])

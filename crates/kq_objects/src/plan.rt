@@ -29,6 +29,14 @@ impl Plan {
         self.hints.as_slice()
     }
 
+    /// These alone.
+    pub(crate) fn into_hints(self) -> Vec<(Target, Hint)>
+        ensures { result.items ≡ self.hints }
+    {
+        let Plan { hints, .. } = self;
+        hints
+    }
+
     /// What is noted of the objects, in order.
     pub(crate) fn doings(&self) -> &[Doing]
         ensures { result.now ≡ self.now.doings }

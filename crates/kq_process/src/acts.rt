@@ -53,9 +53,8 @@ impl World {
             Err(PlanError::Memory) => Err(Memory),
             Err(PlanError::Why(why)) => Ok(Effect::impossible(alloc, why)),
             Ok(plan) => {
-                let effect = Effect::telling(alloc, plan.hints())?;
-                self.objects.commit(plan);
-                Ok(effect)
+                let hints = self.objects.commit_and_tell(plan);
+                Ok(Effect::telling(alloc, hints))
             }
         }
     }
@@ -90,11 +89,10 @@ impl World {
                 let Some(descriptors) = self.descriptors.checked_add(1) else {
                     return Err(Memory);
                 };
-                let effect = Effect::telling(alloc, plan.hints())?;
                 self.processes.name(pid, number, named)?;
-                self.objects.commit(plan);
+                let hints = self.objects.commit_and_tell(plan);
                 self.descriptors = descriptors;
-                Ok(effect)
+                Ok(Effect::telling(alloc, hints))
             }
         }
     }
@@ -264,13 +262,12 @@ impl World {
                 let Some(descriptors) = self.descriptors.checked_add(2) else {
                     return Err(Memory);
                 };
-                let effect = Effect::telling(alloc, plan.hints())?;
                 let read = (read_fd, Named::PipeRead(place));
                 self.processes
                     .name_both(pid, read, (write_fd, Named::PipeWrite(place)))?;
-                self.objects.commit(plan);
+                let hints = self.objects.commit_and_tell(plan);
                 self.descriptors = descriptors;
-                Ok(effect)
+                Ok(Effect::telling(alloc, hints))
             }
         }
     }

@@ -62,10 +62,9 @@ impl Effect {
     }
 
     /// Of a record that closes nothing and gives these hints.
-    pub fn telling(alloc: Global, hints: &[(Target, Hint)]) -> Result<Self, Memory>
-        ensures { IfOk result (Tells hints.now) }
+    pub fn telling(alloc: Global, hints: Vec<(Target, Hint)>) -> Self
+        ensures { Tells hints.items result }
     {
-        let hints = Vec::from_slice(alloc, hints).map_err(|_| Memory)?;
-        Ok(Effect::done(Vec::new(alloc), hints))
+        Effect::done(Vec::new(alloc), hints)
     }
 }

@@ -109,7 +109,8 @@ fn a_socket_connects(rt: HostRuntime) -> Result<(), Fail> {
     let plan = objects.plan(2, &Act::Connect { on })?;
     let hint = (Target::Socket(1), Hint::Writable);
     assert_eq!(rt; plan.hints(), [hint].as_slice());
-    objects.commit(plan);
+    let told = objects.commit_and_tell(plan);
+    assert_eq!(rt; told.as_slice(), [hint].as_slice());
     let view = objects.view(Target::Socket(1));
     assert!(rt;
         matches!(

@@ -94,13 +94,6 @@ fn an_effect_tells_its_hint(rt: HostRuntime) {
     assert_told(&rt, told, pipe, Hint::Writable);
 }
 
-#[test]
-fn an_effect_tells_its_hints(rt: HostRuntime) {
-    let pipe = Target::Pipe(2);
-    let hints = [(pipe, Hint::Writable), (pipe, Hint::Readable)];
-    assert_effect(&rt, Effect::telling(rt.alloc(), &hints), &[], &hints);
-}
-
 /// Process 1 starts, and forks process 2.
 fn assert_started(rt: &impl Abort, world: &mut World) {
     assert_quiet(rt, world.proc(1));

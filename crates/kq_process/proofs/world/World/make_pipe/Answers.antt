@@ -30,16 +30,16 @@ invariant_of-self-in-Ok c =
     record {
       sound = sound-act c.args.place (act.Pipe c.args.cap) (world_of old) c.in-Ok.plan c.in-Ok.ensures.plan
           (pipe_ends c.args.place c.args.pid c.args.read_fd c.args.write_fd) old.descriptors c.in-Some.descriptors
-          old.sound refl c.in-Some.ensures.1 fits (table_of c.name_both.new.self) (objects_of c.commit.new.self)
+          old.sound refl c.in-Some.ensures.1 fits (table_of c.name_both.new.self) (objects_of c.commit_and_tell-hints.new.self)
           c.in_ok-name_both-in-Ok.ensures.table
-          (c.commit.ensures.done ∙ ap (all_done c.in-Ok.plan.doings) c.plan.ensures.same);
+          (c.commit_and_tell-hints.ensures.done ∙ ap (all_done c.in-Ok.plan.doings) c.plan.ensures.same);
     }
 
 pub returns-in_ok-name_both-in-Ok-clause-effect : goal.returns-in_ok-name_both-in-Ok-clause-effect
 returns-in_ok-name_both-in-Ok-clause-effect c =
     rw (act_plan c.args.place (act.Pipe c.args.cap) (world_of c.args.self.now) c.in-Ok.plan c.in-Ok.ensures.plan
     (pipe_ends c.args.place c.args.pid c.args.read_fd c.args.write_fd))
-    (c.in_ok-effect-in-Ok.ensures _ refl (sym c.hints.ensures))
+    (c.telling.ensures _ refl (sym c.commit_and_tell-hints.ensures.hints))
 
 pub returns-in_ok-name_both-in-Ok-clause-world : goal.returns-in_ok-name_both-in-Ok-clause-world
 returns-in_ok-name_both-in-Ok-clause-world c =
@@ -47,4 +47,4 @@ returns-in_ok-name_both-in-Ok-clause-world c =
     act_world c.args.place (act.Pipe c.args.cap) (world_of old) c.in-Ok.plan c.in-Ok.ensures.plan
     (pipe_ends c.args.place c.args.pid c.args.read_fd c.args.write_fd) _ _ _ c.name_both.ensures.processes
     c.in_ok-name_both-in-Ok.ensures.table
-    (c.commit.ensures.done ∙ ap (all_done c.in-Ok.plan.doings) c.plan.ensures.same)
+    (c.commit_and_tell-hints.ensures.done ∙ ap (all_done c.in-Ok.plan.doings) c.plan.ensures.same)
