@@ -1,6 +1,7 @@
 pub mod Timeline
 pub mod Timelines
 pub mod Items
+pub mod Hashed
 pub mod Shelves
 pub mod Steps
 pub mod Log

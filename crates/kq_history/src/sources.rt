@@ -69,7 +69,7 @@ impl Sources {
     {
         let few = self.list.len().min(FEW_SOURCES);
         let (first, _) = self.list.as_slice().split_at(few);
-        first.contains(source) || self.known.contains(source)
+        first.contains(source) || (self.list.len() > FEW_SOURCES && self.known.contains(source))
     }
 
     /// One source more, which is not there.

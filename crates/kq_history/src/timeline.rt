@@ -5,6 +5,9 @@ use kq_model::Memory;
 use std::alloc::Global;
 use std::marker::Model;
 
+/// Most timelines have so many marks.
+const MARKS_OF_MOST: usize = 2;
+
 /// From this place on the value is another one.
 #[derive(Debug, Drop, Clone, Copy)]
 pub struct Mark<V> {
@@ -40,15 +43,16 @@ impl<V> Timeline<V> {
         }
     }
 
-    /// One mark alone.
+    /// One mark alone, with room for another: most things have one mark where they begin and one
+    /// where they end.
     pub fn one(alloc: Global, place: u64, value: V) -> Result<Self, Memory>
     where
         V: Drop,
         ensures { IfOk result (λ t. t ≡ mark place value ∷ []) }
     {
-        let mut timeline = Timeline::new(alloc);
-        timeline.push(place, value)?;
-        Ok(timeline)
+        let mut marks = Vec::with_capacity(alloc, MARKS_OF_MOST).map_err(|_| Memory)?;
+        marks.push(Mark { place, value }).map_err(|_| Memory)?;
+        Ok(Timeline { marks })
     }
 
     /// One mark more. After Memory nothing has changed.
