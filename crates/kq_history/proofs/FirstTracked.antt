@@ -1,5 +1,5 @@
 -- Before the first record: the empty world, of which nothing was seen.
-use Rattle.std.proofs.Common.{◌≡◌, ℕ, List, [], ◌∷◌, None, take, refl, sym, ap, subst, ◌∙◌}
+use Rattle.std.proofs.Common.{◌≡◌, ℕ, List, [], ◌∷◌, None, take, refl, sym, ap, subst, ◌∙◌, arith}
 use Rattle.std.proofs.lemmas.List.Elements.{All-nil}
 use Rattle.kq_model.specs.declared.object.Target.{Target}
 use Rattle.kq_model.specs.declared.object.Target.TheVariants.{Socket, Pipe, Open, File, Process, Signal, Own}
@@ -18,7 +18,9 @@ use Rattle.kq_process.specs.declared.world.World.{World}
 use Rattle.kq_process.specs.World.{world_of}
 use Rattle.kq_history.specs.declared.seen.Seen.{Seen}
 use Rattle.kq_history.specs.declared.timeline.Mark.{Mark}
-use Rattle.kq_history.specs.Seen.{pair_eq, target_key, IsBlank}
+use Rattle.kq_history.specs.Keys.{pair_eq}
+use Rattle.kq_history.specs.Seen.{IsBlank}
+use Rattle.kq_history.specs.Sights.{AreBetween, nothing_noted, view_by}
 use Rattle.kq_history.specs.Timeline.{value_at, IsUpTo}
 use Rattle.kq_history.specs.Timelines.{marks_at}
 use Rattle.kq_history.specs.Traced.{plain_rows_of}
@@ -34,7 +36,7 @@ no-view (Process n) = refl
 no-view (Signal pid n) = refl
 no-view Own = refl
 
-none-later : {V : Type 0} (ms : List (Mark V)) → ms ≡ [] → IsUpTo 0 ms
+pub none-later : {V : Type 0} (ms : List (Mark V)) → ms ≡ [] → IsUpTo 0 ms
 none-later ms none = subst (IsUpTo 0) (sym none) (All-nil _)
 
 pub first-world : (version : ℕ) (w : World) → world_of w ≡ empty_world counted → IsWorldAfter (record { version = version; events = [] }) w
@@ -45,19 +47,19 @@ first-world version w is = record {
   listed = subst (λ (x : model.World counted). AreListed x.objects) (sym is) listed-empty;
 }
 
-pub first-tracked : (version : ℕ) (w : World) (s : Seen) → world_of w ≡ empty_world counted → IsBlank s → IsTracked (record { version = version; events = [] }) w s
+pub first-tracked : (version : ℕ) (w : World) (s : Seen) → world_of w ≡ empty_world counted → IsBlank s → IsTracked nothing_noted (record { version = version; events = [] }) w s
 unfolding views_of named_by named_among view_in view_of process_of process_view world_after plans_from world_at
 first-tracked version w s is blank = record {
   after = first-world version w is;
   shows = record {
-    view = λ place t. ap (value_at place None) (blank.views t) ∙ sym (no-view t);
+    view = λ place t. ap (λ ss. view_by ss place t None) blank.sights ∙ sym (no-view t);
     descriptor = λ place pid number. ap (value_at place None) (blank.numbers (pid, number));
     now = λ place. ap (value_at place 0) blank.clock;
   };
   up_to = record {
     numbers = λ key. none-later (marks_at pair_eq s.numbers.table key) (blank.numbers key);
-    views = λ t. none-later (marks_at target_key s.views.table t) (blank.views t);
     clock = none-later s.clock blank.clock;
+    sights = subst (AreBetween 0 0) (sym blank.sights) (omega arith);
   };
 }
 

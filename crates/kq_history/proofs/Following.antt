@@ -2,14 +2,13 @@
 use Rattle.std.proofs.Common.{◌≡◌, ◌≤◌, ◌&&◌, ◌||◌, ℕ, Bool, true, false, not, cond, leb, ltb, List, [], ◌∷◌, ◌++◌, refl, sym, ap, subst, ◌∙◌, arith}
 use Rattle.std.proofs.lemmas.Bool.{lt-leb, le-leb, leb-true, ltb-true, ltb-false}
 use Rattle.std.proofs.lemmas.List.{append-nil}
-use Rattle.std.proofs.lemmas.List.Elements.{All-nil, All-cons, All-head, All-tail, All-append}
+use Rattle.std.proofs.lemmas.List.Elements.{All-weaker, All-nil, All-cons, All-head, All-tail, All-append}
 use Rattle.kq_model.specs.declared.object.Target.{Target}
 use Rattle.kq_model.specs.Views.{Views}
 use Rattle.kq_model.proofs.KnoteLaws.{by_test}
-use Rattle.kq_history.specs.declared.seen.Seen.{Seen}
 use Rattle.kq_history.specs.declared.timeline.Mark.{Mark}
 use Rattle.kq_history.specs.Noted.{IsNextWorld}
-use Rattle.kq_history.specs.Seen.{seen_by, Shows}
+use Rattle.kq_history.specs.Seen.{Shows}
 use Rattle.kq_history.specs.Timeline.{last_value, value_at, marked, IsUpTo}
 use Rattle.kq_history.specs.Touched.{has_number, has_target}
 
@@ -54,12 +53,12 @@ read-cond read true v w = refl
 read-cond read false v w = refl
 
 -- what was seen is what the worlds show with the next one among them, where all that it changes was noted
-pub shows-next : (place : ℕ) (after : Views) (pairs : List (ℕ × ℕ)) (targets : List Target) (worlds next : ℕ → Views) (old new : Seen)
+pub shows-next : (place : ℕ) (after : Views) (pairs : List (ℕ × ℕ)) (targets : List Target) (worlds next old new : ℕ → Views)
     → IsNextWorld place after pairs targets worlds next → Shows worlds old
-    → ((pid number at : ℕ) → (seen_by new at).descriptor pid number
-    ≡ cond (has_number pid number pairs && leb place at) (after.descriptor pid number) ((seen_by old at).descriptor pid number))
-    → ((t : Target) (at : ℕ) → (seen_by new at).view t ≡ cond (has_target t targets && leb place at) (after.view t) ((seen_by old at).view t))
-    → ((at : ℕ) → (seen_by new at).now ≡ cond (leb place at) after.now (seen_by old at).now) → Shows next new
+    → ((pid number at : ℕ) → (new at).descriptor pid number
+    ≡ cond (has_number pid number pairs && leb place at) (after.descriptor pid number) ((old at).descriptor pid number))
+    → ((t : Target) (at : ℕ) → (new at).view t ≡ cond (has_target t targets && leb place at) (after.view t) ((old at).view t))
+    → ((at : ℕ) → (new at).now ≡ cond (leb place at) after.now (old at).now) → Shows next new
 shows-next place after pairs targets worlds next old new is shows numbers views clock = record {
   view = λ at t.
       let has = has_target t targets in
@@ -121,3 +120,7 @@ up_to-marked false place value ms all = subst (IsUpTo place) (sym (append-nil ms
 up_to-marked true place value ms all =
     All-append (λ (m : Mark _). m.place ≤ place) ms (record { place = place; value = value } ∷ []) all
     (All-cons (λ (m : Mark _). m.place ≤ place) (record { place = place; value = value }) [] (omega arith) (All-nil (λ (m : Mark _). m.place ≤ place)))
+
+-- no mark that was not later than one place is later than a later one
+pub marks-later : {V : Type 0} (n m : ℕ) → n ≤ m → (ms : List (Mark V)) → IsUpTo n ms → IsUpTo m ms
+marks-later n m later ms up = All-weaker (λ (x : Mark _). x.place ≤ n) (λ (x : Mark _). x.place ≤ m) (λ x below. omega (arith, below, later)) ms up

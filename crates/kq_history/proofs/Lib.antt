@@ -22,6 +22,7 @@ mod UntouchedRecords
 mod NamedTargets
 mod NotedKeys
 mod NotedMarks
+mod SightLemmas
 mod SameValues
 mod ListedRecords
 mod TracedWorlds
@@ -36,6 +37,7 @@ mod SaidItems
 mod SaidNext
 pub mod PrivateOf
 mod AnsweringOf
+mod SplitShown
 mod SplitNext
 mod SplittingNext
 mod Events

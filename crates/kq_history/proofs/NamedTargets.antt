@@ -12,7 +12,7 @@ use Rattle.kq_model.specs.Views.{Views}
 use Rattle.kq_model.proofs.KnoteLaws.{by_test}
 use Rattle.kq_model.proofs.SameTarget.{same_target}
 use Rattle.kq_history.specs.Noted.{IsNextWorld}
-use Rattle.kq_history.specs.Seen.{pair_eq, target_key}
+use Rattle.kq_history.specs.Keys.{pair_eq, target_key}
 use Rattle.kq_history.specs.Touched.{has_number, has_target, targets_named, AreAmong}
 use Rattle.kq_history.proofs.NotedKeys.{as_target}
 

@@ -6,7 +6,7 @@ use Rattle.std.proofs.lemmas.List.{take_more}
 use Rattle.std.proofs.lemmas.List.Folds.{list_any-append}
 use Rattle.kq_model.specs.declared.object.Target.{Target}
 use Rattle.kq_model.specs.Targets.{target_eq}
-use Rattle.kq_history.specs.Seen.{pair_eq, target_key}
+use Rattle.kq_history.specs.Keys.{pair_eq, target_key}
 
 or_nothing : (b : Bool) → (b || false) ≡ b
 or_nothing true = refl

@@ -12,6 +12,7 @@ use Rattle.kq_history.specs.declared.splitting.Splitting.{Splitting}
 use Rattle.kq_history.specs.Heard.{IsHeard}
 use Rattle.kq_history.specs.Plain.{plain_row}
 use Rattle.kq_history.specs.Sayings.{kqueue_of}
+use Rattle.kq_history.specs.Sights.{HasNoted, NotedViews}
 use Rattle.kq_history.specs.Splitting.{IsHeardSoFar, IsSplitSoFar}
 use Rattle.kq_history.specs.Traced.{Traced, longer}
 use Rattle.kq_history.specs.Tracked.{IsTracked, IsWorldAfter}
@@ -38,12 +39,16 @@ place-of-next t es before n at within =
 -- ---- one record more
 
 pub split-next : (t : Traced) (e : Event) (place : ℕ) (old new : Splitting) (effect : Effect) (clock : ℕ) (kqueue : Option ℕ)
-    → length t.events + 1 ≡ place → IsSplitSoFar t old → IsTracked (longer t e) new.world new.seen → IsEffectBy (plan place e) old.world effect
+    → length t.events + 1 ≡ place → IsSplitSoFar t old → (noted : NotedViews) → HasNoted noted new.noting → IsTracked noted (longer t e) new.world new.seen
+    → new.seen.sights.list.items ≡ [] → IsEffectBy (plan place e) old.world effect
     → clock ≡ (world_of old.world).now → kqueue ≡ kqueue_of e (world_of old.world)
     → ((w : model.World counted) → clock ≡ w.now → kqueue ≡ kqueue_of e w → IsHeard place e effect w (world_of new.world) old.said new.said)
     → new.plain.items ≡ old.plain.items ++ plain_row place effect.verdict → IsSplitSoFar (longer t e) new
-split-next t e place old new effect clock kqueue at so_far onward of clock_is kqueue_is heard rows = record {
+split-next t e place old new effect clock kqueue at so_far noted has_noted onward all_noted of clock_is kqueue_is heard rows = record {
+  noted = noted;
+  has_noted = has_noted;
   tracked = onward;
+  all_noted = all_noted;
   said = heard-next t e place old.world new.world effect clock kqueue old.said new.said at so_far.tracked.after onward.after
       of clock_is kqueue_is heard so_far.said;
   plain_is = rows ∙ ap (λ xs. xs ++ plain_row place effect.verdict) so_far.plain_is

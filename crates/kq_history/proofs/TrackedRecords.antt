@@ -14,9 +14,8 @@ use Rattle.kq_model.specs.Objects.{counted}
 use Rattle.kq_model.specs.Plans.{plan}
 use Rattle.kq_model.specs.Views.{Views}
 use Rattle.kq_model.specs.World.{World, Plan, Impossible, Possible, carried_out, named_by, views_of}
-use Rattle.kq_history.specs.declared.seen.Seen.{Seen}
 use Rattle.kq_history.specs.Noted.{IsNextWorld}
-use Rattle.kq_history.specs.Seen.{seen_by, Shows}
+use Rattle.kq_history.specs.Seen.{Shows}
 use Rattle.kq_history.specs.Touched.{all_named, has_target, targets_named, told_targets, touched_numbers, touched_targets}
 use Rattle.kq_history.specs.Spoken.{opened_numbers, spoken_numbers, spoken_targets}
 use Rattle.kq_history.specs.Traced.{Traced, longer, seen_at}
@@ -29,7 +28,7 @@ use Rattle.kq_history.specs.Within.{IsWithin, IsWithinRecord}
 
 module _ (t : Traced) (e : Event) (counts : IsCountedWorld (end t e) (now t e)) (lists : AreListed (now t e).objects) where
   -- what was seen after the last record
-  before-same : (s : Seen) → Shows (seen_at t) s → (seen_by s (end t e)).descriptor ≡ (views_of (now t e)).descriptor
+  before-same : (s : ℕ → Views) → Shows (seen_at t) s → (s (end t e)).descriptor ≡ (views_of (now t e)).descriptor
   before-same s shows =
       fun_ext (λ pid. fun_ext (λ number.
       shows.descriptor (end t e) pid number ∙ ap (λ (v : Views). v.descriptor pid number) (seen-stands t e (end t e) (itself (end t e)))))
@@ -40,8 +39,8 @@ module _ (t : Traced) (e : Event) (counts : IsCountedWorld (end t e) (now t e)) 
   abbrev named_by_numbers : Views → (ℕ → ℕ → Option Named) → List (ℕ × ℕ) → List Target
   named_by_numbers after names numbers = flat_map (λ (p : ℕ × ℕ). targets_named (names p.0 p.1) ++ targets_named (after.descriptor p.0 p.1)) numbers
 
-  targets-same : (s : Seen) (after : Views) (hints : _) (numbers : List (ℕ × ℕ)) → Shows (seen_at t) s
-      → touched_targets e hints (seen_by s (end t e)) after numbers ≡ touched_targets e hints (views_of (now t e)) after numbers
+  targets-same : (s : ℕ → Views) (after : Views) (hints : _) (numbers : List (ℕ × ℕ)) → Shows (seen_at t) s
+      → touched_targets e hints (s (end t e)) after numbers ≡ touched_targets e hints (views_of (now t e)) after numbers
   targets-same s after hints numbers shows =
       ap (λ names. named_by_numbers after names numbers ++ (told_targets hints ++ (spoken_targets e ++ all_named after (spoken_numbers e)))) (before-same s shows)
 
@@ -61,9 +60,9 @@ module _ (t : Traced) (e : Event) (counts : IsCountedWorld (end t e) (now t e)) 
     pub next-listed : AreListed after.objects
     next-listed = (subst (KeepsLists (end t e) (now t e)) is (listed-record (end t e) e (now t e))).keeps counts lists
 
-    pub next-world : (s : Seen) (closed : List (ℕ × ℕ)) → map to_pair closed ≡ p.closed → IsCountedWorld (end t e + 1) after → Shows (seen_at t) s
+    pub next-world : (s : ℕ → Views) (closed : List (ℕ × ℕ)) → map to_pair closed ≡ p.closed → IsCountedWorld (end t e + 1) after → Shows (seen_at t) s
         → IsNextWorld (end t e) (views_of after) (touched_numbers e closed after)
-        (touched_targets e p.hints (seen_by s (end t e)) (views_of after) (touched_numbers e closed after)) (seen_at t) (seen_at (longer t e))
+        (touched_targets e p.hints (s (end t e)) (views_of after) (touched_numbers e closed after)) (seen_at t) (seen_at (longer t e))
     unfolding views_of named_by
     next-world s closed shut counted_after shows = record {
       earlier = λ at. seen-longer t e at ∙ ap (λ (w : World counted). cond (ltb at (end t e)) (seen_at t at) (views_of w)) next-is;
@@ -92,7 +91,7 @@ module _ (t : Traced) (e : Event) (counts : IsCountedWorld (end t e) (now t e)) 
         stays true earlier = refl
         stays false later = sym (seen-stands t e at later)
 
-    pub shows-still : (s : Seen) → Shows (seen_at t) s → Shows (seen_at (longer t e)) s
+    pub shows-still : (s : ℕ → Views) → Shows (seen_at t) s → Shows (seen_at (longer t e)) s
     shows-still s shows = record {
       view = λ at x. shows.view at x ∙ ap (λ (v : Views). v.view x) (sym (seen-stays at));
       descriptor = λ at pid number. shows.descriptor at pid number ∙ ap (λ (v : Views). v.descriptor pid number) (sym (seen-stays at));

@@ -12,6 +12,8 @@ pub mod Spoken
 pub mod Touched
 pub mod Accounts
 pub mod Within
+pub mod Keys
+pub mod Sights
 pub mod Seen
 pub mod Noted
 pub mod Traced

@@ -1,15 +1,20 @@
--- A split of the records that came so far, and each of its halves alone.
-use Rattle.std.specs.Prelude.{◌≡◌, ℕ, length}
+-- A split of the records that came so far, and each of its parts alone.
+use Rattle.std.specs.Prelude.{◌≡◌, ℕ, [], length}
 use Rattle.kq_history.specs.declared.hearing.Hearing.{Hearing}
+use Rattle.kq_history.specs.declared.noting.Noting.{Noting}
 use Rattle.kq_history.specs.declared.splitting.Splitting.{Splitting}
 use Rattle.kq_history.specs.declared.watching.Watching.{Watching}
 use Rattle.kq_history.specs.Said.{IsSaid}
+use Rattle.kq_history.specs.Sights.{HasNoted, NotedViews}
 use Rattle.kq_history.specs.Traced.{Traced, plain_rows_of}
 use Rattle.kq_history.specs.Tracked.{IsTracked, IsWorldAfter}
 
 -- these are all records that came so far: the world is that after them, and what is kept is what they say
 pub record IsSplitSoFar (t : Traced) (s : Splitting) : Type 0 where
-  pub tracked : IsTracked t s.world s.seen
+  pub noted : NotedViews
+  pub has_noted : HasNoted noted s.noting
+  pub tracked : IsTracked noted t s.world s.seen
+  pub all_noted : s.seen.sights.list.items ≡ []
   pub said : IsSaid t s.said
   pub plain_is : s.plain.items ≡ plain_rows_of t
 
@@ -17,15 +22,19 @@ pub record IsSplitSoFar (t : Traced) (s : Splitting) : Type 0 where
 abbrev pub AreSoMany : ℕ → Splitting → Type 0
 AreSoMany before s = (t : Traced) × (length t.events ≡ before) × IsSplitSoFar t s
 
--- ---- the half that keeps what is seen
+-- ---- the part that sees the world, where this was noted of targets before what it did not hand over
 
-abbrev pub IsWatchedSoFar : Traced → Watching → Type 0
-IsWatchedSoFar t w = IsTracked t w.world w.seen
+abbrev pub IsWatchedSoFar : NotedViews → Traced → Watching → Type 0
+IsWatchedSoFar n t w = IsTracked n t w.world w.seen
 
 abbrev pub AreSoManyWatched : ℕ → Watching → Type 0
-AreSoManyWatched before w = (t : Traced) × (length t.events ≡ before) × IsWatchedSoFar t w
+AreSoManyWatched before w = (n : NotedViews) × (t : Traced) × (length t.events ≡ before) × IsWatchedSoFar n t w
 
--- ---- the half that keeps what the records say
+-- all but what it did not hand over was noted here
+abbrev pub IsWatchedWith : Noting → Traced → Watching → Type 0
+IsWatchedWith noting t w = (n : NotedViews) × HasNoted n noting × IsWatchedSoFar n t w
+
+-- ---- the part that keeps what the records say
 
 pub record IsHeardSoFar (t : Traced) (h : Hearing) : Type 0 where
   pub after : IsWorldAfter t h.world

@@ -15,6 +15,7 @@ use Rattle.kq_process.specs.declared.world.World.{World}
 use Rattle.kq_history.specs.declared.seen.Seen.{Seen}
 use Rattle.kq_history.specs.Noted.{AreAllUpTo, IsNextWorld}
 use Rattle.kq_history.specs.Seen.{seen_by, Shows}
+use Rattle.kq_history.specs.Sights.{NotedViews}
 use Rattle.kq_history.specs.Touched.{touched_numbers, touched_targets}
 use Rattle.kq_history.specs.Traced.{Traced, seen_at, world_at_end}
 
@@ -24,26 +25,28 @@ pub record IsWorldAfter (t : Traced) (w : World) : Type 0 where
   pub counted : IsCountedWorld (length t.events + 1) (world_of w)
   pub listed : AreListed (world_of w).objects
 
-pub record IsTracked (t : Traced) (w : World) (s : Seen) : Type 0 where
+-- and this is what was seen of the worlds up to it, where this was noted of targets before
+pub record IsTracked (n : NotedViews) (t : Traced) (w : World) (s : Seen) : Type 0 where
   pub after : IsWorldAfter t w
-  pub shows : Shows (seen_at t) s
-  pub up_to : AreAllUpTo (length t.events) s
+  pub shows : Shows (seen_at t) (seen_by n s)
+  pub up_to : AreAllUpTo n (length t.events) s
 
 -- ---- one record more
 
--- all that it touches was noted: where what is seen goes on with the world after it, the new marks show that
-abbrev pub IsNoted : ℕ → Event → List (ℕ × ℕ) → List Posted → model.World counted → Seen → Seen → Type 0
+-- all that it touches was noted: where what is seen goes on with the world after it, that is shown now
+abbrev pub IsNoted : ℕ → Event → List (ℕ × ℕ) → List Posted → model.World counted → (ℕ → Views) → (ℕ → Views) → Type 0
 IsNoted place e closed hints after old new =
     (worlds next : ℕ → Views)
     → IsNextWorld place (views_of after) (touched_numbers e closed after)
-    (touched_targets e hints (seen_by old place) (views_of after) (touched_numbers e closed after)) worlds next
+    (touched_targets e hints (old place) (views_of after) (touched_numbers e closed after)) worlds next
     → Shows worlds old → Shows next new
 
 abbrev pub IsFollowedBy : ℕ → Event → Result (Unit {0}) Why → List (ℕ × ℕ) → List Posted → model.World counted
     → Seen → Seen → Type 0
 IsFollowedBy place e (Err why) closed hints after old new = new ≡ old
 IsFollowedBy place e (Ok done) closed hints after old new =
-    AreAllUpTo place new × IsNoted place e closed hints after old new
+    (n : NotedViews) → AreAllUpTo n place old
+    → AreAllUpTo n place new × IsNoted place e closed hints after (seen_by n old) (seen_by n new)
 
 -- of an impossible record nothing is noted
 abbrev pub IsFollowed : ℕ → Event → Effect → model.World counted → Seen → Seen → Type 0

@@ -14,7 +14,7 @@ use kq_model::{Event, Memory, Reply, Row, Why};
 use kq_process::{Effect, World};
 use std::alloc::Global;
 
-/// The half of a splitting that keeps what the records say and the rows of those that are impossible,
+/// The part of a splitting that keeps what the records say and the rows of those that are impossible,
 /// but nothing of what is seen.
 #[derive(Drop)]
 pub struct Hearing {
@@ -35,7 +35,7 @@ impl Hearing {
     }
 
     /// The records that follow those so far, which are so many: the world takes each of them. Its cost
-    /// is theirs. After Memory nothing is known, and the half is to be dropped.
+    /// is theirs. After Memory nothing is known, and it is to be dropped.
     pub fn take(&mut self, before: u64, events: &[Event]) -> Result<(), Memory>
         requires few { before + length events.now < 2 ^ 31 }
         requires before { AreSoManyHeard before self.old }

@@ -2,25 +2,28 @@ ghost use Rattle.std.specs.Prelude.{◌≡◌, ◌++◌, ℕ, ◌&&◌, nat_le, 
 ghost use Rattle.std.specs.List.{flat_map};
 ghost use Rattle.kq_model.specs.Views as model;
 ghost use Rattle.kq_history.specs.Noted.{AreAllUpTo, IsNextWorld};
-ghost use Rattle.kq_history.specs.Seen.{named_around, pair_eq, IsBlank, seen_by, target_key, Shows};
+ghost use Rattle.kq_history.specs.Keys.{pair_eq};
+ghost use Rattle.kq_history.specs.Seen.{named_around, IsBlank, seen_by, Shows};
+ghost use Rattle.kq_history.specs.Sights.{NotedViews};
 ghost use Rattle.kq_history.specs.Timeline.{value_at};
 ghost use Rattle.kq_history.specs.Timelines.{marks_at, AreUpTo};
-ghost use Rattle.kq_history.specs.Touched.{has_number, has_target, targets_of, AreAmong};
+ghost use Rattle.kq_history.specs.Touched.{has_number, targets_of, AreAmong};
 
+use crate::sights::Sights;
 use crate::timeline::Timeline;
 use crate::timelines::Timelines;
 use crate::touched::add_both;
 use kq_filters::Views;
-use kq_model::{Memory, Named, Target, View};
+use kq_model::{Memory, Named, Target};
 use std::alloc::Global;
 
-/// What was seen of the world after each record: what numbers named, the views of targets, and the
-/// clock.
+/// What was seen of the world after each record: what numbers named, the clock, and of targets what
+/// was not handed over yet.
 #[derive(Drop)]
 pub struct Seen {
     pub(crate) numbers: Timelines<(u32, u32), Option<Named>>,
-    pub(crate) views: Timelines<Target, Option<View>>,
     pub(crate) clock: Timeline<u64>,
+    pub(crate) sights: Sights,
 }
 
 impl Seen {
@@ -30,35 +33,15 @@ impl Seen {
     {
         Seen {
             numbers: Timelines::new(alloc),
-            views: Timelines::new(alloc),
             clock: Timeline::new(alloc),
+            sights: Sights::new(alloc),
         }
     }
 
-    /// What a number of a process named after a place.
-    pub fn descriptor(&self, place: u64, pid: u32, number: u32) -> Option<Named>
-        ensures { result ≡ (seen_by self.now place).descriptor pid number }
-    {
-        self.numbers.at((pid, number), place, None)
-    }
-
-    /// What was seen of a target after a place.
-    pub fn view(&self, place: u64, target: Target) -> Option<View>
-        ensures { result ≡ (seen_by self.now place).view target }
-    {
-        self.views.at(target, place, None)
-    }
-
-    /// The clock after a place, in ns.
-    pub fn now(&self, place: u64) -> u64
-        ensures { result ≡ (seen_by self.now place).now }
-    {
-        self.clock.at(place, 0)
-    }
-
-    /// Notes the world after the record of a place: of the numbers and the targets that the record
-    /// touched, of the targets that these numbers name before it and after it, which it adds to the
-    /// others, and of the clock. What is as it was has no mark. After Memory nothing is known.
+    /// Notes the world after the record of a place: of the numbers that the record touched, where
+    /// they name something else; of the targets that it touched and of those that these numbers name
+    /// before it and after it, which it adds to the others; and of the clock. After Memory nothing is
+    /// known.
     pub fn note<V: Views>(
         &mut self,
         place: u64,
@@ -66,16 +49,17 @@ impl Seen {
         targets: &mut Vec<Target>,
         views: &V,
     ) -> Result<(), Memory>
-        requires { AreAllUpTo place self.old }
-        ensures up_to { OnOk result (AreAllUpTo place self.new) }
-        ensures shows { OnOk result ((worlds next : ℕ → model.Views)
+        requires { (noted : NotedViews) × AreAllUpTo noted place self.old }
+        ensures up_to { OnOk result ((noted : NotedViews) → AreAllUpTo noted place self.old
+            → AreAllUpTo noted place self.new) }
+        ensures shows { OnOk result ((noted : NotedViews) (worlds next : ℕ → model.Views)
             → IsNextWorld place (V.sees views.now) numbers.now
-            (flat_map (targets_of (seen_by self.old place) (V.sees views.now)) numbers.now
+            (flat_map (targets_of (seen_by noted self.old place) (V.sees views.now)) numbers.now
             ++ targets.old.items) worlds next
-            → Shows worlds self.old → Shows next self.new) }
+            → Shows worlds (seen_by noted self.old) → Shows next (seen_by noted self.new)) }
     {
         note_numbers(&mut self.numbers, place, numbers, targets, views)?;
-        note_targets(&mut self.views, place, targets.as_slice(), views)?;
+        self.sights.add(place, targets.as_slice(), views)?;
         self.clock.note(place, 0, views.now())?;
         Ok(())
     }
@@ -104,27 +88,6 @@ fn note_numbers<V: Views>(
         let named = views.descriptor(number.0, number.1);
         let had = timelines.note(*number, place, None, named)?;
         add_both(targets, had, named)?;
-    }
-    Ok(())
-}
-
-/// What is seen of these targets.
-fn note_targets<V: Views>(
-    timelines: &mut Timelines<Target, Option<View>>,
-    place: u64,
-    targets: &[Target],
-    views: &V,
-) -> Result<(), Memory>
-    requires { AreUpTo target_key place timelines.old.table }
-    ensures up_to { OnOk result (AreUpTo target_key place timelines.new.table) }
-    ensures noted { OnOk result ((t : Target) (at : ℕ) →
-        value_at at None (marks_at target_key timelines.new.table t)
-        ≡ (if has_target t targets.now && nat_le place at
-        then (V.sees views.now).view t
-        else value_at at None (marks_at target_key timelines.old.table t))) }
-{
-    for target in targets {
-        timelines.note(*target, place, None, views.view(*target))?;
     }
     Ok(())
 }

@@ -4,10 +4,12 @@ use crate::answering::Answering;
 use crate::at::HistoryAt;
 use crate::hearing::Hearing;
 use crate::item::Source;
+use crate::noting::Noting;
 use crate::private::Private;
 use crate::said::Said;
-use crate::seen::Seen;
 use crate::splitting::Splitting;
+use crate::timeline::Timeline;
+use crate::timelines::Timelines;
 use crate::watching::Watching;
 use kq_model::{Event, Memory, Named, Row, Target, Trace, View};
 use std::alloc::Global;
@@ -19,13 +21,15 @@ use std::marker::Model;
 pub struct Split<'a> {
     pub(crate) version: u32,
     pub(crate) events: &'a [Event],
-    pub(crate) seen: Seen,
+    pub(crate) numbers: Timelines<(u32, u32), Option<Named>>,
+    pub(crate) views: Timelines<Target, Option<View>>,
+    pub(crate) clock: Timeline<u64>,
     pub(crate) said: Said,
     pub(crate) plain: Vec<Row>,
 }
 
 impl<'a> Model for Split<'a> {
-    ghost use Rattle.kq_history.specs.Split.{IsSplit};
+    ghost use Rattle.kq_history.specs.Split.{IsSplit, shown_by};
     ghost use Rattle.kq_history.specs.Traced.{Traced};
 
     ghost Value = { Traced };
@@ -33,11 +37,12 @@ impl<'a> Model for Split<'a> {
     ghost view = { λ s. record { version = s.version; events = s.events.now } };
 
     ghost invariant = { λ s.
-        IsSplit (record { version = s.version; events = s.events.now }) s.seen s.said s.plain.items };
+        IsSplit (record { version = s.version; events = s.events.now }) (shown_by s.numbers s.views s.clock)
+        s.said s.plain.items };
 }
 
 impl<'a> Split<'a> {
-    ghost use Rattle.kq_history.specs.Splitting.{IsHeardSoFar, IsWatchedSoFar};
+    ghost use Rattle.kq_history.specs.Splitting.{IsHeardSoFar, IsWatchedWith};
     ghost use Rattle.kq_history.specs.Traced.{places_of, plain_rows_of, seen_at, traced, IsBorn};
 
     /// One pass of the world over the trace. Its cost is that of the trace. Memory: a growth was refused.
@@ -50,23 +55,32 @@ impl<'a> Split<'a> {
         Ok(splitting.end(trace))
     }
 
-    /// The same from two halves, each of which took all records of the trace. Its cost is that of
-    /// dropping their worlds.
-    pub fn of_halves(trace: &'a Trace, watching: Watching, hearing: Hearing) -> Self
-        requires watched { IsWatchedSoFar (traced trace.now) watching }
+    /// The same from three thirds, each of which took all records of the trace: what was not handed over
+    /// yet is noted here. Its cost is that, and that of dropping their worlds. Memory: a growth was refused.
+    pub fn of_thirds(
+        trace: &'a Trace,
+        watching: Watching,
+        noting: Noting,
+        hearing: Hearing,
+    ) -> Result<Self, Memory>
+        requires watched { IsWatchedWith noting (traced trace.now) watching }
         requires heard { IsHeardSoFar (traced trace.now) hearing }
-        ensures { result ≡ traced trace.now }
+        ensures { IfOk result (λ s. s ≡ traced trace.now) }
     {
         let events = trace.events.as_slice();
         let Watching { seen, .. } = watching;
+        let mut noting = noting;
+        noting.take(&seen.sights)?;
         let Hearing { said, plain, .. } = hearing;
-        Split {
+        Ok(Split {
             version: trace.version,
             events,
-            seen,
+            numbers: seen.numbers,
+            views: noting.timelines,
+            clock: seen.clock,
             said,
             plain,
-        }
+        })
     }
 
     /// The places where kqueues were made, rising.
@@ -132,21 +146,21 @@ impl<'a> Split<'a> {
     pub(crate) fn view(&self, place: u64, target: Target) -> Option<View>
         ensures { result ≡ (seen_at self.now place).view target }
     {
-        self.seen.view(place, target)
+        self.views.at(target, place, None)
     }
 
     /// What a number of a process names after a place.
     pub(crate) fn descriptor(&self, place: u64, pid: u32, number: u32) -> Option<Named>
         ensures { result ≡ (seen_at self.now place).descriptor pid number }
     {
-        self.seen.descriptor(place, pid, number)
+        self.numbers.at((pid, number), place, None)
     }
 
     /// The clock after a place, in ns.
     pub(crate) fn now(&self, place: u64) -> u64
         ensures { result ≡ (seen_at self.now place).now }
     {
-        self.seen.now(place)
+        self.clock.at(place, 0)
     }
 }
 

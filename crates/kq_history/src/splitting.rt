@@ -3,6 +3,7 @@ ghost use Rattle.kq_history.specs.Splitting.{AreSoMany, IsSplitSoFar};
 ghost use Rattle.kq_history.specs.Traced.{traced, Traced};
 
 use crate::hearing::{hear, put_plain};
+use crate::noting::Noting;
 use crate::said::{Before, Said};
 use crate::seen::Seen;
 use crate::split::Split;
@@ -17,6 +18,7 @@ use std::alloc::Global;
 pub struct Splitting {
     pub(crate) world: World,
     pub(crate) seen: Seen,
+    pub(crate) noting: Noting,
     pub(crate) said: Said,
     pub(crate) plain: Vec<Row>,
     touched: Touched,
@@ -29,12 +31,14 @@ impl Splitting {
     {
         let world = World::new(alloc)?;
         let seen = Seen::new(alloc);
+        let noting = Noting::new(alloc);
         let said = Said::new(alloc);
         let plain = Vec::new(alloc);
         let touched = Touched::new(alloc);
         Ok(Splitting {
             world,
             seen,
+            noting,
             said,
             plain,
             touched,
@@ -54,6 +58,8 @@ impl Splitting {
             let before_it = Before::of(event, &self.world);
             let world = &mut self.world;
             let effect = track(place, event, world, &mut self.seen, &mut self.touched)?;
+            self.noting.take(&self.seen.sights)?;
+            self.seen.sights.clear();
             hear(
                 &mut self.said,
                 place,
@@ -75,6 +81,7 @@ impl Splitting {
         let events = trace.events.as_slice();
         let Splitting {
             seen,
+            noting,
             said,
             plain,
             ..
@@ -82,7 +89,9 @@ impl Splitting {
         Split {
             version: trace.version,
             events,
-            seen,
+            numbers: seen.numbers,
+            views: noting.timelines,
+            clock: seen.clock,
             said,
             plain,
         }

@@ -4,6 +4,8 @@ ghost use Rattle.kq_model.specs.CountedWorld.{IsCountedWorld};
 ghost use Rattle.kq_model.specs.Plans.{plan};
 ghost use Rattle.kq_process.specs.World.{world_of, IsEffectBy};
 ghost use Rattle.kq_history.specs.Noted.{AreAllUpTo};
+ghost use Rattle.kq_history.specs.Seen.{seen_by};
+ghost use Rattle.kq_history.specs.Sights.{NotedViews};
 ghost use Rattle.kq_history.specs.Traced.{longer, Traced};
 ghost use Rattle.kq_history.specs.Tracked.{IsFollowed, IsNoted, IsTracked};
 
@@ -22,10 +24,10 @@ pub fn track(
     touched: &mut Touched,
 ) -> Result<Effect, Memory>
     requires counted { IsCountedWorld place (world_of world.old) }
-    requires up_to { AreAllUpTo place seen.old }
+    requires up_to { (n : NotedViews) × AreAllUpTo n place seen.old }
     ensures effect { IfOk result (IsEffectBy (plan place event.now) world.old) }
-    ensures tracked { OnOk result ((t : Traced) → length t.events + 1 ≡ place → IsTracked t world.old seen.old
-        → IsTracked (longer t event.now) world.new seen.new) }
+    ensures tracked { OnOk result ((n : NotedViews) (t : Traced) → length t.events + 1 ≡ place
+        → IsTracked n t world.old seen.old → IsTracked n (longer t event.now) world.new seen.new) }
 {
     let effect = world.apply(place, event)?;
     follow(place, event, &effect, world, seen, touched)?;
@@ -41,7 +43,7 @@ fn follow(
     seen: &mut Seen,
     touched: &mut Touched,
 ) -> Result<(), Memory>
-    requires { AreAllUpTo place seen.old }
+    requires { (n : NotedViews) × AreAllUpTo n place seen.old }
     ensures { OnOk result (IsFollowed place event.now effect.now (world_of world.now) seen.old seen.new) }
 {
     match effect.verdict {
@@ -59,10 +61,10 @@ fn note(
     seen: &mut Seen,
     touched: &mut Touched,
 ) -> Result<(), Memory>
-    requires { AreAllUpTo place seen.old }
-    ensures up_to { OnOk result (AreAllUpTo place seen.new) }
-    ensures noted { OnOk result (IsNoted place event.now effect.now.closed effect.now.hints (world_of world.now)
-        seen.old seen.new) }
+    requires { (n : NotedViews) × AreAllUpTo n place seen.old }
+    ensures up_to { OnOk result ((n : NotedViews) → AreAllUpTo n place seen.old → AreAllUpTo n place seen.new) }
+    ensures noted { OnOk result ((n : NotedViews) → IsNoted place event.now effect.now.closed effect.now.hints
+        (world_of world.now) (seen_by n seen.old) (seen_by n seen.new)) }
 {
     touched.fill(event, effect, world)?;
     seen.note(

@@ -1,16 +1,19 @@
 ghost use Rattle.std.specs.Prelude.{◌≡◌, ◌+◌, ◌<◌, ◌^◌, ◌++◌, [], ℕ, length, IfOk, OnOk};
+ghost use Rattle.kq_history.specs.Sights.{and_then, nothing_noted, AreBetween, NotedViews};
 ghost use Rattle.kq_history.specs.Splitting.{AreSoManyWatched, IsWatchedSoFar};
 ghost use Rattle.kq_history.specs.Traced.{Traced};
 
 use crate::seen::Seen;
+use crate::sights::Sights;
 use crate::touched::Touched;
 use crate::tracking::track;
 use kq_model::{Event, Memory};
 use kq_process::World;
 use std::alloc::Global;
+use std::mem::swap;
 
-/// The half of a splitting that keeps what is seen of the world after each record, but nothing of what
-/// the records say.
+/// The part of a splitting that sees the world after each record, and keeps what numbers named and the
+/// clock. What it sees of targets is handed over to [`Noting`](crate::Noting).
 #[derive(Drop)]
 pub struct Watching {
     pub(crate) world: World,
@@ -21,7 +24,8 @@ pub struct Watching {
 impl Watching {
     /// Of no record. Memory: a growth was refused.
     pub fn new(alloc: Global) -> Result<Self, Memory>
-        ensures { IfOk result (λ w. (version : ℕ) → IsWatchedSoFar (record { version = version; events = [] }) w) }
+        ensures { IfOk result (λ w. (version : ℕ)
+            → IsWatchedSoFar nothing_noted (record { version = version; events = [] }) w) }
     {
         let world = World::new(alloc)?;
         let seen = Seen::new(alloc);
@@ -34,12 +38,12 @@ impl Watching {
     }
 
     /// The records that follow those so far, which are so many: the world takes each of them. Its cost
-    /// is theirs. After Memory nothing is known, and the half is to be dropped.
+    /// is theirs. After Memory nothing is known, and it is to be dropped.
     pub fn take(&mut self, before: u64, events: &[Event]) -> Result<(), Memory>
         requires few { before + length events.now < 2 ^ 31 }
         requires before { AreSoManyWatched before self.old }
-        ensures { OnOk result ((t : Traced) → length t.events ≡ before → IsWatchedSoFar t self.old
-            → IsWatchedSoFar (record { version = t.version; events = t.events ++ events.now }) self.new) }
+        ensures { OnOk result ((n : NotedViews) (t : Traced) → length t.events ≡ before → IsWatchedSoFar n t self.old
+            → IsWatchedSoFar n (record { version = t.version; events = t.events ++ events.now }) self.new) }
     {
         for (taken, event) in events.iter().enumerate() {
             let place = before + taken as u64 + 1;
@@ -47,5 +51,16 @@ impl Watching {
             track(place, event, world, &mut self.seen, &mut self.touched)?;
         }
         Ok(())
+    }
+
+    /// Hands over what was seen of targets since this was done last, in place of what the list had.
+    pub fn hand_over(&mut self, sights: &mut Sights)
+        ensures order { (n : NotedViews) (t : Traced) → IsWatchedSoFar n t self.old
+            → AreBetween n.place (length t.events) sights.new.list.items }
+        ensures watched { (n : NotedViews) (t : Traced) → IsWatchedSoFar n t self.old
+            → IsWatchedSoFar (and_then n (length t.events) sights.new.list.items) t self.new }
+    {
+        sights.clear();
+        swap(&mut self.seen.sights, sights);
     }
 }

@@ -4,7 +4,6 @@
 
 mod command_line;
 mod fault;
-mod halves;
 mod input;
 mod living;
 mod order;
@@ -14,6 +13,7 @@ mod running;
 mod splitter;
 #[cfg(test)]
 mod tests;
+mod thirds;
 mod workers;
 
 use command_line::parse_words;

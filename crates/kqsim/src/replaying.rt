@@ -8,8 +8,8 @@ ghost use Rattle.kqsim.specs.Replay.{AreRowsOf, IsFault, IsReplayFault, IsReport
 ghost use Rattle.kqsim.specs.Workers.{IsWorkerCount};
 
 use crate::fault::Fault;
-use crate::halves::HalvesSplitter;
 use crate::splitter::Splitter;
+use crate::thirds::ThirdsSplitter;
 use crate::workers::is_worker_count;
 use kq_history::Split;
 use kq_merge::{Merging, copied, report_by_place};
@@ -20,7 +20,7 @@ use std::sync::Wait;
 use std::thread::{Threads, join};
 
 /// With fewer workers the second pass of the world takes time from reading.
-const LEAST_FOR_HALVES: u32 = 4;
+const LEAST_FOR_THIRDS: u32 = 4;
 
 /// The report of the trace that the bytes are, replayed by so many workers, 1 to 256; any other
 /// number is [`Fault::Usage`], before all else.
@@ -57,10 +57,10 @@ pub fn replay_with<R: AllocGlobal + Threads + Wait + Sync, G: Gate + Sync, S: St
     if !is_worker_count(workers) {
         return Err(Fault::Usage);
     }
-    if workers < LEAST_FOR_HALVES {
+    if workers < LEAST_FOR_THIRDS {
         by_one_pass(rt, bytes, workers, gate, starts)
     } else {
-        by_halves(rt, bytes, workers, gate, starts)
+        by_thirds(rt, bytes, workers, gate, starts)
     }
 }
 
@@ -84,9 +84,9 @@ fn by_one_pass<R: AllocGlobal + Threads + Wait + Sync, G: Gate + Sync, S: Starts
     written(rt, trace, rows, workers)
 }
 
-/// The same, where two threads split it, so that there is one more than workers until the trace is read.
+/// The same, where three threads split it, so that there are two more than workers until the trace is read.
 #[tactic(auto, using(crate::proofs::ReplayedTraces::replay_fault, crate::proofs::ReplayedTraces::no_usage, crate::proofs::ReplayedTraces::read_fault))]
-fn by_halves<R: AllocGlobal + Threads + Wait + Sync, G: Gate + Sync, S: Starts>(
+fn by_thirds<R: AllocGlobal + Threads + Wait + Sync, G: Gate + Sync, S: Starts>(
     rt: &R,
     bytes: &[u8],
     workers: u32,
@@ -98,9 +98,10 @@ fn by_halves<R: AllocGlobal + Threads + Wait + Sync, G: Gate + Sync, S: Starts>(
     ensures report { IfOk result (λ text. IsReport bytes.now text.items) }
     ensures fault { IfErr result (IsFault bytes.now workers) }
 {
-    let mut splitter = HalvesSplitter::new(rt)?;
+    let mut splitter = ThirdsSplitter::new(rt)?;
     let trace = read_trace_told(rt, bytes, workers, &mut splitter)?;
-    let rows = replayed(rt, splitter.end(&trace), workers, gate, starts)?;
+    let split = splitter.end(&trace)?;
+    let rows = replayed(rt, split, workers, gate, starts)?;
     written(rt, trace, rows, workers)
 }
 

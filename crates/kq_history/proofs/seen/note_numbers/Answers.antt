@@ -2,7 +2,8 @@ use Rattle.std.proofs.Common.{◌≡◌, ◌∙◌, ◌<◌, ◌≤◌, ◌&&◌
 use Rattle.std.specs.List.{flat_map}
 use Rattle.std.proofs.lemmas.List.{take_more}
 use Rattle.kq_model.specs.declared.object.Named.{Named}
-use Rattle.kq_history.specs.Seen.{named_around, pair_eq}
+use Rattle.kq_history.specs.Keys.{pair_eq}
+use Rattle.kq_history.specs.Seen.{named_around}
 use Rattle.kq_history.specs.Timeline.{last_value, marked, value_at, IsUpTo}
 use Rattle.kq_history.specs.Timelines.{marks_at}
 use Rattle.kq_history.specs.Touched.{has_number, targets_named, AreAmong}

@@ -1,6 +1,7 @@
 use Rattle.std.proofs.Common.{◌≡◌, ◌&&◌, ◌++◌, ℕ, leb, cond, take, None}
 use Rattle.std.specs.List.{flat_map}
-use Rattle.kq_history.specs.Seen.{named_around, pair_eq}
+use Rattle.kq_history.specs.Keys.{pair_eq}
+use Rattle.kq_history.specs.Seen.{named_around}
 use Rattle.kq_history.specs.Timeline.{value_at}
 use Rattle.kq_history.specs.Timelines.{marks_at, AreUpTo}
 use Rattle.kq_history.specs.Touched.{has_number, AreAmong}

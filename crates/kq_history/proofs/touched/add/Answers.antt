@@ -1,6 +1,6 @@
 use Rattle.std.proofs.Common.{◌≡◌, ◌∙◌, true, sym, subst, rules}
 use Rattle.std.specs.List.{list_any}
-use Rattle.kq_history.specs.Seen.{target_key}
+use Rattle.kq_history.specs.Keys.{target_key}
 use Rattle.kq_history.proofs.NamedTargets.{found-there}
 use Rattle.kq_history.proofs.touched.add.Goals as goal
 

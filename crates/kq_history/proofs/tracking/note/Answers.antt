@@ -6,6 +6,7 @@ use Rattle.kq_model.specs.World.{views_of}
 use Rattle.kq_process.specs.World.{world_of}
 use Rattle.kq_history.specs.Noted.{IsNextWorld}
 use Rattle.kq_history.specs.Seen.{seen_by, Shows}
+use Rattle.kq_history.specs.Sights.{NotedViews}
 use Rattle.kq_history.specs.Touched.{other_targets, targets_of, touched_numbers}
 use Rattle.kq_history.proofs.NamedTargets.{among-behind, next-among}
 use Rattle.kq_history.proofs.tracking.note.Goals as goal
@@ -23,12 +24,14 @@ returns-clause-noted c =
     let old = c.args.seen.now in
     let new = c.note.new.self in
     let others : List Target = other_targets e c.args.effect.now.hints after in
-    let named : List Target = flat_map (targets_of (seen_by old place) after) numbers in
+    let named : NotedViews → List Target = λ n. flat_map (targets_of (seen_by n old place) after) numbers in
     on_ok c.note.result
-    (λ (shows : (worlds next : ℕ → Views) → IsNextWorld place after numbers (named ++ c.fill.new.self.targets.items) worlds next → Shows worlds old → Shows next new).
-    λ (worlds next : ℕ → Views) (is : IsNextWorld place after numbers (named ++ others) worlds next).
-    shows worlds next (next-among place after numbers (named ++ others) (named ++ c.fill.new.self.targets.items) worlds next
-    (among-behind named others c.fill.new.self.targets.items c.in_ok-fill.ensures.targets) is))
-    (subst (λ (ns : List (ℕ × ℕ)). OnOk c.note.result ((worlds next : ℕ → Views) → IsNextWorld place after ns
-    (flat_map (targets_of (seen_by old place) after) ns ++ c.fill.new.self.targets.items) worlds next → Shows worlds old → Shows next new))
+    (λ (shows : (n : NotedViews) (worlds next : ℕ → Views) → IsNextWorld place after numbers (named n ++ c.fill.new.self.targets.items) worlds next
+    → Shows worlds (seen_by n old) → Shows next (seen_by n new)).
+    λ (n : NotedViews) (worlds next : ℕ → Views) (is : IsNextWorld place after numbers (named n ++ others) worlds next).
+    shows n worlds next (next-among place after numbers (named n ++ others) (named n ++ c.fill.new.self.targets.items) worlds next
+    (among-behind (named n) others c.fill.new.self.targets.items c.in_ok-fill.ensures.targets) is))
+    (subst (λ (ns : List (ℕ × ℕ)). OnOk c.note.result ((n : NotedViews) (worlds next : ℕ → Views) → IsNextWorld place after ns
+    (flat_map (targets_of (seen_by n old place) after) ns ++ c.fill.new.self.targets.items) worlds next
+    → Shows worlds (seen_by n old) → Shows next (seen_by n new)))
     (c.as_slice.ensures.value ∙ c.in_ok-fill.ensures.numbers) c.note.ensures.shows)

@@ -4,6 +4,7 @@ use Rattle.kq_model.specs.declared.event.Event.{Event}
 use Rattle.kq_model.specs.CountedWorld.{IsCountedWorld}
 use Rattle.kq_process.specs.World.{world_of}
 use Rattle.kq_history.specs.declared.watching.Watching.{Watching}
+use Rattle.kq_history.specs.Sights.{NotedViews}
 use Rattle.kq_history.specs.Splitting.{IsWatchedSoFar}
 use Rattle.kq_history.specs.Traced.{Traced}
 use Rattle.kq_history.proofs.SplittingNext.{none-follow, one-follows, place-of-next}
@@ -12,47 +13,49 @@ use Rattle.kq_history.proofs.watching.Watching.take.Goals as goal
 
 pub loop-taken-init : goal.loop-taken-init
 loop-taken-init c =
-    λ (t : Traced) (at : length t.events ≡ c.args.before) (so_far : IsWatchedSoFar t c.args.self.now).
-    subst (λ (xs : List Event). IsWatchedSoFar (record { version = t.version; events = xs }) c.args.self.now) (sym (none-follow t c.args.events.now)) so_far
+    λ (n : NotedViews) (t : Traced) (at : length t.events ≡ c.args.before) (so_far : IsWatchedSoFar n t c.args.self.now).
+    subst (λ (xs : List Event). IsWatchedSoFar n (record { version = t.version; events = xs }) c.args.self.now) (sym (none-follow t c.args.events.now)) so_far
 
 pub track-requires-clause-counted : goal.track-requires-clause-counted
 track-requires-clause-counted c =
     let given = c.requires.before in
-    let so_far = c.loop-taken.invariant given.0 given.1 given.2 in
+    let so_far = c.loop-taken.invariant given.0 given.1 given.2 given.3 in
     subst (λ k. IsCountedWorld k (world_of c.loop-taken.self.world))
-    (place-of-next given.0 c.args.events.now c.args.before c.loop-taken.taken given.1 c.loop-taken.auto.taken-end) so_far.after.counted
+    (place-of-next given.1 c.args.events.now c.args.before c.loop-taken.taken given.2 c.loop-taken.auto.taken-end) so_far.after.counted
 
 pub track-requires-clause-up_to : goal.track-requires-clause-up_to
 track-requires-clause-up_to c =
     let given = c.requires.before in
-    let so_far = c.loop-taken.invariant given.0 given.1 given.2 in
-    let place = place-of-next given.0 c.args.events.now c.args.before c.loop-taken.taken given.1 c.loop-taken.auto.taken-end in
-    up-later (length (given.0.events ++ take c.loop-taken.taken c.args.events.now)) (c.args.before + c.loop-taken.taken + 1) c.loop-taken.self.seen
-    (omega (arith, place)) so_far.up_to
+    let so_far = c.loop-taken.invariant given.0 given.1 given.2 given.3 in
+    let place = place-of-next given.1 c.args.events.now c.args.before c.loop-taken.taken given.2 c.loop-taken.auto.taken-end in (
+      given.0,
+      up-later given.0 (length (given.1.events ++ take c.loop-taken.taken c.args.events.now)) (c.args.before + c.loop-taken.taken + 1)
+          c.loop-taken.self.seen (omega (arith, place)) so_far.up_to,
+    )
 
 pub loop-taken-preserved : goal.loop-taken-preserved
 loop-taken-preserved c =
-    λ (t : Traced) (at : length t.events ≡ c.args.before) (so_far : IsWatchedSoFar t c.args.self.now).
+    λ (n : NotedViews) (t : Traced) (at : length t.events ≡ c.args.before) (so_far : IsWatchedSoFar n t c.args.self.now).
     let es = c.args.events.now in
-    let n = c.loop-taken.taken in
+    let k = c.loop-taken.taken in
     let event : Event = c.index-events-taken.result in
-    let here : Traced = record { version = t.version; events = t.events ++ take n es } in
+    let here : Traced = record { version = t.version; events = t.events ++ take k es } in
     let new : Watching = record {
       world = c.track.new.world;
       seen = c.track.new.seen;
       touched = c.track.new.touched;
     } in
-    let place : length here.events + 1 ≡ c.args.before + n + 1 = place-of-next t es c.args.before n at c.loop-taken.auto.taken-end in
-    let more : take (n + 1) es ≡ take n es ++ event ∷ [] =
-    take_more es n event c.loop-taken-test.true ∙ ap (λ (x : Event). take n es ++ x ∷ []) (sym c.index-events-taken.is) in
-    subst (λ (xs : List Event). IsWatchedSoFar (record { version = t.version; events = xs }) new) (one-follows t es n event more)
-    (c.in_ok-track.ensures.tracked here place (c.loop-taken.invariant t at so_far))
+    let place : length here.events + 1 ≡ c.args.before + k + 1 = place-of-next t es c.args.before k at c.loop-taken.auto.taken-end in
+    let more : take (k + 1) es ≡ take k es ++ event ∷ [] =
+    take_more es k event c.loop-taken-test.true ∙ ap (λ (x : Event). take k es ++ x ∷ []) (sym c.index-events-taken.is) in
+    subst (λ (xs : List Event). IsWatchedSoFar n (record { version = t.version; events = xs }) new) (one-follows t es k event more)
+    (c.in_ok-track.ensures.tracked n here place (c.loop-taken.invariant n t at so_far))
 
 pub returns : goal.returns
 returns c =
-    λ (t : Traced) (at : length t.events ≡ c.args.before) (so_far : IsWatchedSoFar t c.args.self.now).
+    λ (n : NotedViews) (t : Traced) (at : length t.events ≡ c.args.before) (so_far : IsWatchedSoFar n t c.args.self.now).
     let es = c.args.events.now in
-    let n = c.loop-taken.taken in
-    let past : length es ≤ n = omega arith in
-    subst (λ (xs : List Event). IsWatchedSoFar (record { version = t.version; events = t.events ++ xs }) c.loop-taken.self) (take_all n es past)
-    (c.loop-taken.invariant t at so_far)
+    let k = c.loop-taken.taken in
+    let past : length es ≤ k = omega arith in
+    subst (λ (xs : List Event). IsWatchedSoFar n (record { version = t.version; events = t.events ++ xs }) c.loop-taken.self) (take_all k es past)
+    (c.loop-taken.invariant n t at so_far)
