@@ -16,3 +16,5 @@ mod private;
 mod rows;
 #[cfg(test)]
 mod steps;
+#[cfg(test)]
+mod thirds;

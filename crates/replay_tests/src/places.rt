@@ -189,7 +189,7 @@ fn add(events: &mut Vec<Event>, event: Event) -> Result<(), Memory> {
     events.push(event).map_err(|_| Memory)
 }
 
-fn whole(rt: &impl Abort, alloc: Global) -> Result<Trace, Memory> {
+pub fn whole(rt: &impl Abort, alloc: Global) -> Result<Trace, Memory> {
     let mut events = Vec::new(alloc);
     for event in sockets() {
         add(&mut events, event)?;
@@ -229,7 +229,7 @@ fn assert_now(rt: &impl Abort, history: &HistoryAt, world: &World) {
 }
 
 /// What was seen after a place is what the world says then.
-fn assert_seen(rt: &impl Abort, split: &Split, place: u64, world: &World) {
+pub fn assert_seen(rt: &impl Abort, split: &Split, place: u64, world: &World) {
     let history = split.at(place);
     for pid in 0..5 {
         for number in 0..14 {
@@ -247,7 +247,7 @@ fn assert_seen(rt: &impl Abort, split: &Split, place: u64, world: &World) {
 }
 
 /// The world before the first record.
-fn unborn(alloc: Global) -> Result<World, Memory>
+pub fn unborn(alloc: Global) -> Result<World, Memory>
     ensures { IfOk result (λ world. IsCountedWorld 1 (world_of world)) }
 {
     World::new(alloc)
@@ -263,7 +263,7 @@ fn step(world: &mut World, place: u64, event: &Event) -> Result<bool, Memory>
 }
 
 /// The world goes over the records, and is what was seen after each. Returns how many are impossible.
-fn assert_seen_at_each(
+pub fn assert_seen_at_each(
     rt: &impl Abort,
     split: &Split,
     world: &mut World,
