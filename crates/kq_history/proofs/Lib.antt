@@ -31,6 +31,7 @@ mod WorldNext
 mod TrackedNext
 pub mod Sayings
 mod FirstTracked
+pub mod NotingLemmas
 mod PlainRows
 mod NamedKqueues
 mod SaidItems
@@ -38,6 +39,7 @@ mod SaidNext
 pub mod PrivateOf
 mod AnsweringOf
 mod SplitShown
+pub mod ThirdsSplit
 mod SplitNext
 mod SplittingNext
 mod Events

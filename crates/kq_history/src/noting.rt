@@ -18,6 +18,7 @@ pub struct Noting {
 
 impl Noting {
     /// Of no record.
+    #[tactic(auto, using(crate::proofs::NotingLemmas::nothing_noted_yet))]
     pub fn new(alloc: Global) -> Self
         ensures { HasNoted nothing_noted result }
     {
@@ -28,6 +29,7 @@ impl Noting {
 
     /// What was seen behind what was noted so far. What is as it was has no mark. Its cost is that of the
     /// sights. After Memory nothing is known, and it is to be dropped.
+    #[tactic(auto, using(crate::proofs::NotingLemmas::can_note, crate::proofs::NotingLemmas::has_noted))]
     pub fn take(&mut self, sights: &Sights) -> Result<(), Memory>
         requires { (n : NotedViews) × (to : ℕ) × HasNoted n self.old × AreBetween n.place to sights.now.list.items }
         ensures { OnOk result ((n : NotedViews) (to : ℕ) → HasNoted n self.old

@@ -30,7 +30,7 @@ impl Sights {
     }
 
     /// None any more.
-    pub fn clear(&mut self)
+    pub(crate) fn clear(&mut self)
         ensures { self.new.list.items ≡ [] }
     {
         self.list.clear();

@@ -57,6 +57,7 @@ impl<'a> Split<'a> {
 
     /// The same from three thirds, each of which took all records of the trace: what was not handed over
     /// yet is noted here. Its cost is that, and that of dropping their worlds. Memory: a growth was refused.
+    #[tactic(auto, using(crate::proofs::ThirdsSplit::left_to_note, crate::proofs::ThirdsSplit::is_split))]
     pub fn of_thirds(
         trace: &'a Trace,
         watching: Watching,

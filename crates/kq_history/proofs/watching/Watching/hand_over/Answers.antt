@@ -1,5 +1,5 @@
 -- The list that was kept is the one that is given.
-use Rattle.std.proofs.Common.{◌≡◌, ◌∙◌, [], length, ap, sym, subst}
+use Rattle.std.proofs.Common.{◌≡◌, [], length, rules, sym, subst}
 use Rattle.kq_history.specs.declared.sights.Sights.{Sights}
 use Rattle.kq_history.specs.Sights.{and_then, AreBetween}
 use Rattle.kq_history.specs.Tracked.{IsTracked}
@@ -13,6 +13,6 @@ returns-clause-order c = λ n t is.
 pub returns-clause-watched : goal.returns-clause-watched
 returns-clause-watched c = λ n t is.
     let old = c.args.self.now in
-    let empty : c.swap.new.x.list.items ≡ [] = ap (λ (s : Sights). s.list.items) c.swap.ensures.x_after ∙ c.clear.ensures in
+    let empty : c.swap.new.x.list.items ≡ [] = search rules in
     subst (λ (s : Sights). IsTracked (and_then n (length t.events) s.list.items) t old.world (record { numbers = old.seen.numbers; clock = old.seen.clock; sights = c.swap.new.x }))
     (sym c.swap.ensures.y_after) (all-noted n t old.world old.seen c.swap.new.x empty is)
