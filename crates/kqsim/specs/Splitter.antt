@@ -15,7 +15,8 @@ use Rattle.kqsim.specs.declared.thirds.Thirds.{Thirds}
 abbrev pub HasSplit : Splitter → List Event → Type 0
 HasSplit s events = (version : ℕ) → IsSplitSoFar (record { version = version; events = events }) s.splitting
 
--- the same of each third alone; of the one that watches, where this was noted of targets before what it did not hand over
+-- the same of each third alone; of the one that watches, where this was noted of targets before what it did not hand
+-- over
 abbrev pub WatchedSoFar : NotedViews → Watching → List Event → Type 0
 WatchedSoFar n w events = (version : ℕ) → IsWatchedSoFar n (record { version = version; events = events }) w
 
@@ -34,14 +35,16 @@ pub record WatchesOn (before : ℕ) (old new : Watching) (events : List Event) :
       → WatchedSoFar n new (so_far ++ events)
 
 pub record HearsOn (before : ℕ) (old new : Hearing) (events : List Event) : Type 0 where
-  pub on : (so_far : List Event) → length so_far ≡ before → HeardSoFar old so_far → HeardSoFar new (so_far ++ events)
+  pub on : (so_far : List Event) → length so_far ≡ before → HeardSoFar old so_far
+      → HeardSoFar new (so_far ++ events)
 
 -- these sights came behind what it noted
 abbrev pub CanNote : Noting → List Sight → Type 0
 CanNote noting sights = (n : NotedViews) × (to : ℕ) × HasNoted n noting × AreBetween n.place to sights
 
 pub record NotesOn (old new : Noting) (sights : List Sight) : Type 0 where
-  pub on : (n : NotedViews) (to : ℕ) → HasNoted n old → AreBetween n.place to sights → HasNoted (and_then n to sights) new
+  pub on : (n : NotedViews) (to : ℕ) → HasNoted n old → AreBetween n.place to sights
+      → HasNoted (and_then n to sights) new
 
 -- ---- all three
 
