@@ -1,6 +1,6 @@
 //! The records of a trace, many lines at a time.
 
-ghost use Rattle.std.specs.Prelude.{◌≡◌, IfErr, IfNone, IfOk, IfSome, OnErr};
+ghost use Rattle.std.specs.Prelude.{◌≡◌, ◌≤◌, ◌<◌, IfErr, IfNone, IfOk, IfSome, OnErr};
 ghost use Rattle.kq_model.specs.Reading.{reading};
 ghost use Rattle.kq_trace.specs.Faults.{IsFault};
 ghost use Rattle.kq_trace.specs.Unread.{IsFaultAhead, IsPart};
@@ -19,8 +19,11 @@ use std::marker::Model;
 use std::sync::Wait;
 use std::thread::Threads;
 
-/// How many bytes are read together, and the line that they end in: enough that it is worth threads.
-const PART_BYTES: usize = 4_194_304;
+/// So many bytes are read together at least, and the line that they end in: enough that it is worth threads.
+const LEAST_PART_BYTES: usize = 1_048_576;
+
+/// And at most so many.
+const MOST_PART_BYTES: usize = 4_194_304;
 
 /// How many lines are read together where one after the other is read.
 const PART_LINES: u64 = 32_768;
@@ -36,6 +39,8 @@ pub struct PartReader<'a> {
     number: u64,
     /// The text behind the lines that were read.
     rest: &'a [u8],
+    /// The next part has no more bytes, but for the line that they end in.
+    most: usize,
 }
 
 impl<'a> Model for PartReader<'a> {
@@ -68,6 +73,7 @@ impl<'a> PartReader<'a> {
             version,
             number: FIRST_RECORD_LINE,
             rest,
+            most: LEAST_PART_BYTES,
         })
     }
 
@@ -97,8 +103,19 @@ impl<'a> PartReader<'a> {
         }
     }
 
-    /// The records on the next lines, in pieces; none where there is no line, where one of them has a fault, where there
-    /// are more than there may be, or where a thread does not start.
+    /// How many bytes the next part has. The first parts and the last ones are small, for there is nothing to be told of
+    /// while the first one is read, and nothing to read while one is told of the last.
+    fn part_bytes(&self) -> usize
+        ensures { (0 < result) × (result ≤ MOST_PART_BYTES) }
+    {
+        let quarter = self.rest.len() / 4;
+        quarter
+            .min(self.most)
+            .clamp(LEAST_PART_BYTES, MOST_PART_BYTES)
+    }
+
+    /// The records on the next lines, in pieces; none where there is no line, where one of them has a fault, where
+    /// there are more than there may be, or where a thread does not start.
     fn next_pieces<R: Threads + Wait + Sync>(
         &mut self,
         rt: &R,
@@ -109,7 +126,8 @@ impl<'a> PartReader<'a> {
         ensures none { IfOk result (λ some. IfNone some (self.new ≡ self.old)) }
         ensures err { OnErr result (self.new ≡ self.old) }
     {
-        let (text, rest) = cut_behind(self.rest, PART_BYTES);
+        let bytes = self.part_bytes();
+        let (text, rest) = cut_behind(self.rest, bytes);
         let most = FIRST_RECORD_LINE + MOST_RECORDS - self.number;
         let Some(part) = records_in(rt, self.alloc, text, most, threads)? else {
             return Ok(None);
@@ -119,6 +137,7 @@ impl<'a> PartReader<'a> {
         }
         self.number += part.len();
         self.rest = rest;
+        self.most = 2 * bytes;
         Ok(Some(part))
     }
 
