@@ -1,30 +1,58 @@
-//! One fold of the whole system.
+//! One fold of the whole system, on the calling thread.
+
+ghost use Rattle.std.specs.Prelude.{◌≡◌, IfOk};
+ghost use Rattle.kq_model.specs.Report.{report_of};
 
 use crate::watch::Watch;
-use kq_merge::ReportText;
+use kq_merge::{ReportText, report_text};
 use kq_model::limits::MOST_RECORDS;
+use kq_model::{Memory, Trace};
 use kq_system::System;
-use kq_trace::{TraceError, TraceReader};
-use std::alloc::Global;
+use kq_trace::{TraceError, TraceReader, read_trace_with};
+use std::alloc::{AllocError, Global};
 use std::io::Write;
+use std::thread::Threads;
 use std::time::{Clock, CpuClock};
 
-/// Folds the trace on the calling thread, and writes its report.
-pub fn fold<R: AllocGlobal + Clock + CpuClock, O: Write, W: Write>(
+/// Reads the trace, folds the system over it, and writes its report.
+pub fn fold<R: AllocGlobal + Clock + CpuClock + Threads + Sync, O: Write, W: Write>(
     rt: &R,
     bytes: &[u8],
     out: &mut O,
     times: &mut W,
 ) -> anyhow::Result<()> {
     let mut watch = Watch::start(rt)?;
-    let report = folded(rt.alloc(), bytes)?;
+    let trace = read_trace_with(rt, bytes, 1)?;
+    let report = folded(rt.alloc(), &trace).map_err(|_| AllocError)?;
     watch.lap(rt, "fold", times)?;
     out.write_all(report.as_slice())?;
     Ok(())
 }
 
-/// The report of a trace, each record applied as soon as it is read.
-fn folded(alloc: Global, bytes: &[u8]) -> Result<Vec<u8>, TraceError> {
+/// The report of a trace.
+fn folded(alloc: Global, trace: &Trace) -> Result<Vec<u8>, Memory>
+    ensures { IfOk result (λ text. text.items ≡ report_of trace.now.version trace.now.events) }
+{
+    let rows = System::run(alloc, trace)?;
+    report_text(alloc, rows.as_slice(), trace.events.len() as u64)
+}
+
+/// The same, but each record is applied as soon as it is read, and neither records nor rows are kept.
+pub fn stream<R: AllocGlobal + Clock + CpuClock, O: Write, W: Write>(
+    rt: &R,
+    bytes: &[u8],
+    out: &mut O,
+    times: &mut W,
+) -> anyhow::Result<()> {
+    let mut watch = Watch::start(rt)?;
+    let report = streamed(rt.alloc(), bytes)?;
+    watch.lap(rt, "stream", times)?;
+    out.write_all(report.as_slice())?;
+    Ok(())
+}
+
+/// The report of the trace that the bytes are.
+fn streamed(alloc: Global, bytes: &[u8]) -> Result<Vec<u8>, TraceError> {
     let mut reader = TraceReader::new(alloc, bytes)?;
     let mut system = System::new(alloc, reader.version())?;
     let mut text = ReportText::new(alloc);

@@ -1,7 +1,8 @@
 //! Replays a trace from standard input part by part, for the benchmark. For each part it writes a line on standard
 //! error: its name, and the ns that it took by the clock and of the processors.
 //!
-//!     replay_bench fold         one fold of the whole system on one thread, each record as soon as it is read
+//!     replay_bench fold         reads, folds the whole system over the trace and writes, on one thread
+//!     replay_bench stream       the same fold, each record as soon as it is read, keeping neither records nor rows
 //!     replay_bench parts N      reads, splits, replays by N workers, merges and writes, as `kqsim replay --workers N`
 //!
 //! Both print the report.
@@ -13,7 +14,7 @@ mod task;
 mod watch;
 
 use anyhow::Context;
-use fold::fold;
+use fold::{fold, stream};
 use parts::parts;
 use std::env;
 use std::io::Read;
@@ -24,12 +25,13 @@ fn main(rt: HostRuntime) -> anyhow::Result<()> {
     let mut words = words.skip(1);
     let (word, count) = (words.next(), words.next());
     let task = Task::named(word.as_deref(), count.as_deref());
-    let task = task.context("usage: replay_bench fold | parts N")?;
+    let task = task.context("usage: replay_bench fold | stream | parts N")?;
     let mut bytes = Vec::new(rt.alloc());
     rt.stdin().read_to_end(&mut bytes)?;
     let mut times = rt.stderr();
     match task {
         Task::Fold => fold(&rt, bytes.as_slice(), &mut rt.stdout(), &mut times),
+        Task::Stream => stream(&rt, bytes.as_slice(), &mut rt.stdout(), &mut times),
         Task::Parts { workers } => parts(
             &rt,
             bytes.as_slice(),
