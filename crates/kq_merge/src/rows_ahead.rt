@@ -53,8 +53,8 @@ impl Merging {
         })
     }
 
-    /// Takes the rows of the places that come first, as many places as are taken together; none only where none is left.
-    pub(crate) fn next_round(self, alloc: Global) -> Result<Round, Memory>
+    /// Takes the rows of the places that come first, of no more places than so many; none only where none is left.
+    pub(crate) fn next_round(self, alloc: Global, most: u32) -> Result<Round, Memory>
         ensures { IfOk result (λ round. IsRound self round.rows.items round.left) }
     {
         let Merging { runs } = self;
@@ -64,7 +64,7 @@ impl Merging {
                 left: Merging { runs },
             });
         };
-        let mut places = Places::new(alloc, first, last_place(runs.as_slice()))?;
+        let mut places = Places::new(alloc, first, last_place(runs.as_slice()), most)?;
         let runs = taken(alloc, runs, &mut places)?;
         Ok(Round {
             rows: places.into_rows()?,

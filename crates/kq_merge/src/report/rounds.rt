@@ -15,6 +15,12 @@ use kq_model::{Memory, Row};
 use std::alloc::Global;
 use std::thread::{Threads, join};
 
+/// The first round has no more places, since nothing is written while it is taken.
+const FIRST_PLACES: u32 = 8_192;
+
+/// The later ones have no more: their rows are a few megabytes.
+const MOST_PLACES: u32 = 131_072;
+
 /// A report that is being written.
 #[derive(Drop)]
 pub struct Writing {
@@ -32,7 +38,7 @@ impl Writing {
     fn start(alloc: Global, rows: Merging) -> Result<Self, Memory>
         ensures { IfOk result (IsUnderWay rows) }
     {
-        let round = rows.next_round(alloc)?;
+        let round = rows.next_round(alloc, FIRST_PLACES)?;
         Ok(Writing {
             text: ReportText::new(alloc),
             parts: Vec::new(alloc),
@@ -72,8 +78,8 @@ impl Writing {
     }
 }
 
-/// Writes the rows of a round by at most so many threads, and meanwhile lets go of those that are spent and takes the
-/// next ones.
+/// Writes the rows of a round by at most so many threads, and meanwhile takes the next ones by one and lets go of those
+/// that are spent by another.
 fn write_and_take<R: AllocGlobal + Threads + Sync>(
     rt: &R,
     rows: &[Row],
@@ -90,12 +96,27 @@ fn write_and_take<R: AllocGlobal + Threads + Sync>(
         ensures { IfOk result (λ parts. AreWritten rows.entry.now parts.items) }
     { parts_of(rt, alloc, rows, threads).map_err(|_| Memory) };
     let take = move || -> Result<Round, Memory>
+        requires { IsSync R.row }
         ensures { IfOk result (λ round. IsRound left round.rows.items round.left) }
-    {
-        drop(spent);
-        left.next_round(alloc)
-    };
+    { take_and_let_go(rt, spent, left) };
     join(rt, write, take)
+}
+
+/// Takes the next round, and meanwhile lets go of the rows that are spent.
+fn take_and_let_go<R: AllocGlobal + Threads + Sync>(
+    rt: &R,
+    spent: Vec<Row>,
+    left: Merging,
+) -> Result<Round, Memory>
+    ensures { IfOk result (λ round. IsRound left round.rows.items round.left) }
+{
+    let alloc = rt.alloc();
+    let take = move || -> Result<Round, Memory>
+        ensures { IfOk result (λ round. IsRound left round.rows.items round.left) }
+    { left.next_round(alloc, MOST_PLACES) };
+    let let_go = move || { drop(spent) };
+    let (round, _) = join(rt, take, let_go);
+    round
 }
 
 /// The lines of all rows by place, and what the last line counts of them, by the calling thread.
@@ -103,16 +124,17 @@ fn text_alone(alloc: Global, rows: Merging) -> Result<ReportText, Memory>
     ensures { IfOk result (AreWrittenByPlace rows) }
 {
     let mut text = ReportText::new(alloc);
-    let mut round = rows.next_round(alloc)?;
+    let mut round = rows.next_round(alloc, MOST_PLACES)?;
     'rounds: while !round.rows.is_empty() {
         text = with_rows(text, round.rows.as_slice())?;
-        round = round.left.next_round(alloc)?;
+        round = round.left.next_round(alloc, MOST_PLACES)?;
     }
     Ok(text)
 }
 
 /// The lines of all rows by place, and what the last line counts of them. By two threads or more, all but one of them
-/// write, while one puts the rows ahead in order and one puts together what was written before.
+/// write, while one puts the rows ahead in order, one puts together what was written before, and one lets go of the rows
+/// of that.
 pub fn text_by_place<R: AllocGlobal + Threads + Sync>(
     rt: &R,
     rows: Merging,
