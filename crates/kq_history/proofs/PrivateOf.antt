@@ -59,14 +59,14 @@ named-there t said is place c at =
     let bs = births_of t in
     let index = at.0 in
     let places = said.kqueues.places.items in
-    let count : length places ≡ length bs = ap (λ (ps : List ℕ). length ps) is.births ∙ length-map bs (λ (b : Birth). b.place) in
+    let count : length places ≡ length bs = ap (λ (ps : List ℕ). length ps) is.kqueues.births ∙ length-map bs (λ (b : Birth). b.place) in
     let inside : index < length places = at.1 in
     let within : index < length bs = omega (arith, inside, count) in (
       index,
       within,
-      place-at bs index no_birth within ∙ ap (λ (ps : List ℕ). get_or ps index 0) (sym is.births) ∙ at.2,
+      place-at bs index no_birth within ∙ ap (λ (ps : List ℕ). get_or ps index 0) (sym is.kqueues.births) ∙ at.2,
       subst (IsNamedBy (moments_of t) (get_or bs index no_birth)) (sym at.3)
-          (named-at (moments_of t) bs said.kqueues.concerned.items is.concerned index no_birth c within),
+          (named-at (moments_of t) bs said.kqueues.concerned.items is.kqueues.concerned index no_birth c within),
     )
 
 pub known-there : (t : Traced) (said : Said) → IsSaid t said → (place : ℕ) (c : Concerned) → IsAtPlace place said.kqueues c → AreKnown c.sources
@@ -90,7 +90,7 @@ is-private t said is place c at items picked =
     let sources = c.sources.list.items in
     record {
       owned = found-there (births_of t) there.0 no_birth place c.owner there.1 there.2 (sym there.3.owner_is);
-      items_are = picked ∙ ap (filter (is_from sources)) is.log
+      items_are = picked ∙ ap (filter (is_from sources)) is.logged.items
           ∙ picked-private (moments_of t) b c.owner sources (concerned-by (moments_of t) b c there.3)
           ∙ ap₂ (λ p o. private_items p o (moments_of t)) there.2 (sym there.3.owner_is);
     }

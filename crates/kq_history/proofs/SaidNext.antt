@@ -26,10 +26,10 @@ use Rattle.kq_model.proofs.SeenWorld.{seen-counted}
 use Rattle.kq_process.specs.declared.effect.Effect.{Effect}
 use Rattle.kq_process.specs.Effects.{IsDone, IsEffectOf, pairs_in}
 use Rattle.kq_history.specs.declared.kqueues.Kqueues.{Kqueues}
-use Rattle.kq_history.specs.declared.said.Said.{Said}
-use Rattle.kq_history.specs.Heard.{IsHeard, IsHeardBy, IsSaidOnce}
+use Rattle.kq_history.specs.declared.log.Log.{Log}
+use Rattle.kq_history.specs.Heard.{AreHeardBy, AreHeardNext, IsLoggedBy, IsLoggedNext, IsLoggedOnce}
 use Rattle.kq_history.specs.Items.{bare_items}
-use Rattle.kq_history.specs.Said.{AreHeard, AreNamedBy, CallsBelow, IsSaid, said_items}
+use Rattle.kq_history.specs.Said.{AreHeard, AreNamedBy, AreTheKqueues, CallsBelow, IsLogged, said_items}
 use Rattle.kq_history.specs.Sayings.{born_of, call_by, call_of, call_on, clock_of, kqueue_named, kqueue_of, Says, SaysBy}
 use Rattle.kq_history.specs.Sources.{Grows, call_sources}
 use Rattle.kq_history.specs.Traced.{Traced, births_of, longer, moments_of, places_of}
@@ -109,21 +109,29 @@ module _ (t : Traced) (e : Event) (counts : IsCountedWorld (end t e) (now t e)) 
 
   -- ---- an impossible one
 
-  refused-next : (why : Why) → plan (end t e) e (now t e) ≡ Impossible why → (s : Said) → IsSaid t s → IsSaid (longer t e) s
-  unfolding moment_by birth_by
-  refused-next why is s said =
-      let same_moments : moments_of (longer t e) ≡ moments_of t =
-      moments-longer ∙ ap (λ q. moments_of t ++ moment_by t.version (end t e) q (now t e)) is ∙ append-nil (moments_of t) in
-      let same_births : births_of (longer t e) ≡ births_of t =
-      births-longer ∙ ap (λ q. births_of t ++ birth_by (end t e) q) is ∙ append-nil (births_of t) in
-      record {
-        log = said.log ∙ ap (λ ms. bare_items (all_items ms)) (sym same_moments);
-        shelved = said.shelved;
-        births = said.births ∙ ap (λ bs. map (λ (b : Birth). b.place) bs) (sym same_births);
-        concerned = subst (λ ms. AreNamedBy ms (births_of (longer t e)) s.kqueues.concerned.items) (sym same_moments)
-            (subst (λ bs. AreNamedBy (moments_of t) bs s.kqueues.concerned.items) (sym same_births) said.concerned);
-        calls = subst (λ ms. All (CallsBelow (length (t.events ++ e ∷ []) + 1)) ms) (sym same_moments) (later-calls (moments_of t) said.calls);
-      }
+  module _ (why : Why) (is : plan (end t e) e (now t e) ≡ Impossible why) where
+    refused-moments : moments_of (longer t e) ≡ moments_of t
+    unfolding moment_by
+    refused-moments =
+        moments-longer ∙ ap (λ q. moments_of t ++ moment_by t.version (end t e) q (now t e)) is ∙ append-nil (moments_of t)
+
+    refused-births : births_of (longer t e) ≡ births_of t
+    unfolding birth_by
+    refused-births = births-longer ∙ ap (λ q. births_of t ++ birth_by (end t e) q) is ∙ append-nil (births_of t)
+
+    refused-log : (l : Log) → IsLogged t l → IsLogged (longer t e) l
+    refused-log l logged = record {
+      items = logged.items ∙ ap (λ ms. bare_items (all_items ms)) (sym refused-moments);
+      shelved = logged.shelved;
+    }
+
+    refused-kqueues : (k : Kqueues) → AreTheKqueues t k → AreTheKqueues (longer t e) k
+    refused-kqueues k are = record {
+      births = are.births ∙ ap (λ bs. map (λ (b : Birth). b.place) bs) (sym refused-births);
+      concerned = subst (λ ms. AreNamedBy ms (births_of (longer t e)) k.concerned.items) (sym refused-moments)
+          (subst (λ bs. AreNamedBy (moments_of t) bs k.concerned.items) (sym refused-births) are.concerned);
+      calls = subst (λ ms. All (CallsBelow (length (t.events ++ e ∷ []) + 1)) ms) (sym refused-moments) (later-calls (moments_of t) are.calls);
+    }
 
   -- ---- a possible one
 
@@ -166,86 +174,105 @@ module _ (t : Traced) (e : Event) (counts : IsCountedWorld (end t e) (now t e)) 
     m-calls : CallsBelow (end t e) m
     m-calls c calls = called-below e (now t e) (end t e) c counts (sym m-call ∙ calls)
 
-    all-below : (s : Said) → IsSaid t s → All (CallsBelow (end t e)) (moments_of t ++ m ∷ [])
-    all-below s said =
-        All-append (CallsBelow (end t e)) (moments_of t) (m ∷ []) said.calls (All-cons (CallsBelow (end t e)) m [] m-calls (All-nil (CallsBelow (end t e))))
+    all-below : (k : Kqueues) → AreTheKqueues t k → All (CallsBelow (end t e)) (moments_of t ++ m ∷ [])
+    all-below k are =
+        All-append (CallsBelow (end t e)) (moments_of t) (m ∷ []) are.calls (All-cons (CallsBelow (end t e)) m [] m-calls (All-nil (CallsBelow (end t e))))
 
     -- the kqueues, by what the record says of itself
-    kqueues-next : (s s' : Said) → IsSaid t s → (born : Option Pair) (call : Option Call) → born_of e ≡ born → call_of e (now t e) ≡ call
-        → AreHeard (end t e) born call (views_of after) s.kqueues s'.kqueues
-        → (s'.kqueues.places.items ≡ places_of (longer t e))
-        × AreNamedBy (moments_of t ++ m ∷ []) (births_of t ++ birth_at (end t e) born) s'.kqueues.concerned.items
+    kqueues-next : (k k' : Kqueues) → AreTheKqueues t k → (born : Option Pair) (call : Option Call) → born_of e ≡ born → call_of e (now t e) ≡ call
+        → AreHeard (end t e) born call (views_of after) k k'
+        → (k'.places.items ≡ places_of (longer t e))
+        × AreNamedBy (moments_of t ++ m ∷ []) (births_of t ++ birth_at (end t e) born) k'.concerned.items
     unfolding birth_at
-    kqueues-next s s' said (Some x) call born calls heard =
+    kqueues-next k k' are (Some x) call born calls heard =
         let c = heard.1.0 in
         let b : Birth = record { place = end t e; owner = x.pid; number = x.number } in
         let none : m.call ≡ None = m-call ∙ sym (call-known e (now t e)) ∙ none-called e x (kqueue_of e (now t e)) born in (
-          heard.0 ∙ ap (λ ps. ps ++ end t e ∷ []) said.births
+          heard.0 ∙ ap (λ ps. ps ++ end t e ∷ []) are.births
               ∙ sym (map-append (λ (b : Birth). b.place) (births_of t) (b ∷ []))
               ∙ ap (λ bs. map (λ (b : Birth). b.place) bs) (sym (same_births ∙ ap (λ x. births_of t ++ birth_at (end t e) x) born)),
           subst (AreNamedBy (moments_of t ++ m ∷ []) (births_of t ++ b ∷ [])) (sym heard.1.2)
-              (one-more (moments_of t ++ m ∷ []) (births_of t) s.kqueues.concerned.items b c
-              (all-quiet (moments_of t) m none (births_of t) s.kqueues.concerned.items said.concerned)
-              (new-named (moments_of t ++ m ∷ []) b c heard.1.1 (all-below s said))),
+              (one-more (moments_of t ++ m ∷ []) (births_of t) k.concerned.items b c
+              (all-quiet (moments_of t) m none (births_of t) k.concerned.items are.concerned)
+              (new-named (moments_of t ++ m ∷ []) b c heard.1.1 (all-below k are))),
         )
-    kqueues-next s s' said None None born calls heard = (
-      ap (λ (k : Kqueues). k.places.items) heard ∙ said.births ∙ places-same born,
-      subst (λ bs. AreNamedBy (moments_of t ++ m ∷ []) bs s'.kqueues.concerned.items) (sym (append-nil (births_of t)))
-          (subst (λ (k : Kqueues). AreNamedBy (moments_of t ++ m ∷ []) (births_of t) k.concerned.items) (sym heard)
-          (all-quiet (moments_of t) m (m-call ∙ calls) (births_of t) s.kqueues.concerned.items said.concerned)),
+    kqueues-next k k' are None None born calls heard = (
+      ap (λ (ks : Kqueues). ks.places.items) heard ∙ are.births ∙ places-same born,
+      subst (λ bs. AreNamedBy (moments_of t ++ m ∷ []) bs k'.concerned.items) (sym (append-nil (births_of t)))
+          (subst (λ (ks : Kqueues). AreNamedBy (moments_of t ++ m ∷ []) (births_of t) ks.concerned.items) (sym heard)
+          (all-quiet (moments_of t) m (m-call ∙ calls) (births_of t) k.concerned.items are.concerned)),
     )
       where
         places-same : born_of e ≡ None → places_of t ≡ places_of (longer t e)
         places-same none = ap (λ bs. map (λ (b : Birth). b.place) bs)
             (sym (same_births ∙ ap (λ x. births_of t ++ birth_at (end t e) x) none ∙ append-nil (births_of t)))
-    kqueues-next s s' said None (Some c) born calls heard = (
-      heard.0 ∙ said.births ∙ places-same born,
-      subst (λ bs. AreNamedBy (moments_of t ++ m ∷ []) bs s'.kqueues.concerned.items) (sym (append-nil (births_of t)))
-          (all-called (moments_of t) m c (m-call ∙ calls) (births_of t) s.kqueues.concerned.items s'.kqueues.concerned.items
+    kqueues-next k k' are None (Some c) born calls heard = (
+      heard.0 ∙ are.births ∙ places-same born,
+      subst (λ bs. AreNamedBy (moments_of t ++ m ∷ []) bs k'.concerned.items) (sym (append-nil (births_of t)))
+          (all-called (moments_of t) m c (m-call ∙ calls) (births_of t) k.concerned.items k'.concerned.items
           heard.1.length_is heard.1.owners
-          (λ index d within here. subst (λ (v : Views). Grows (call_sources v (get_or s.kqueues.concerned.items index d).owner c.changes)
-          (get_or s.kqueues.concerned.items index d).sources (get_or s'.kqueues.concerned.items index d).sources) (sym m-views)
-          (heard.1.named index d (inside index within) (ap (λ ps. get_or ps index 0) said.births ∙ here)))
-          (λ index d away. heard.1.others index d (λ here. away (ap (λ ps. get_or ps index 0) (sym said.births) ∙ here)))
-          said.concerned),
+          (λ index d within here. subst (λ (v : Views). Grows (call_sources v (get_or k.concerned.items index d).owner c.changes)
+          (get_or k.concerned.items index d).sources (get_or k'.concerned.items index d).sources) (sym m-views)
+          (heard.1.named index d (inside index within) (ap (λ ps. get_or ps index 0) are.births ∙ here)))
+          (λ index d away. heard.1.others index d (λ here. away (ap (λ ps. get_or ps index 0) (sym are.births) ∙ here)))
+          are.concerned),
     )
       where
-        inside : (index : ℕ) → index < length (births_of t) → index < length s.kqueues.places.items
+        inside : (index : ℕ) → index < length (births_of t) → index < length k.places.items
         inside index within =
-            let count : length s.kqueues.places.items ≡ length (births_of t) = ap (λ (ps : List ℕ). length ps) said.births ∙ length-map (births_of t) (λ (b : Birth). b.place) in
+            let count : length k.places.items ≡ length (births_of t) = ap (λ (ps : List ℕ). length ps) are.births ∙ length-map (births_of t) (λ (b : Birth). b.place) in
             omega (arith, within, count)
 
         places-same : born_of e ≡ None → places_of t ≡ places_of (longer t e)
         places-same none = ap (λ bs. map (λ (b : Birth). b.place) bs)
             (sym (same_births ∙ ap (λ x. births_of t ++ birth_at (end t e) x) none ∙ append-nil (births_of t)))
 
-    done-next : (s s' : Said) → IsSaid t s → IsSaidOnce (end t e) e effect (now t e) after s s' → IsSaid (longer t e) s'
-    done-next s s' said once =
-        let heard = subst (λ call. AreHeard (end t e) (born_of e) call (views_of after) s.kqueues s'.kqueues) (call-known e (now t e)) once.kqueues in
-        let next = kqueues-next s s' said (born_of e) (call_of e (now t e)) refl refl heard in
+    done-log : (l l' : Log) → IsLogged t l → IsLoggedOnce (end t e) e effect (now t e) l l' → IsLogged (longer t e) l'
+    done-log l l' logged once = record {
+      items = once.items ∙ ap (λ items. items ++ said_items (end t e) effect.closed effect.hints (clock_of e (now t e).now) (kqueue_of e (now t e))) logged.items
+          ∙ ap (λ items. bare_items (all_items (moments_of t)) ++ items) (sym m-items)
+          ∙ sym (items-longer (moments_of t) m) ∙ ap (λ ms. bare_items (all_items ms)) (sym same_moments);
+      shelved = once.shelved logged.shelved;
+    }
+
+    done-kqueues : (k k' : Kqueues) → AreTheKqueues t k
+        → AreHeard (end t e) (born_of e) (call_by e (kqueue_of e (now t e))) (views_of after) k k' → AreTheKqueues (longer t e) k'
+    done-kqueues k k' are once =
+        let heard = subst (λ call. AreHeard (end t e) (born_of e) call (views_of after) k k') (call-known e (now t e)) once in
+        let next = kqueues-next k k' are (born_of e) (call_of e (now t e)) refl refl heard in
         record {
-          log = once.items ∙ ap (λ items. items ++ said_items (end t e) effect.closed effect.hints (clock_of e (now t e).now) (kqueue_of e (now t e))) said.log
-              ∙ ap (λ items. bare_items (all_items (moments_of t)) ++ items) (sym m-items)
-              ∙ sym (items-longer (moments_of t) m) ∙ ap (λ ms. bare_items (all_items ms)) (sym same_moments);
-          shelved = once.shelved said.shelved;
           births = next.0;
-          concerned = subst (λ ms. AreNamedBy ms (births_of (longer t e)) s'.kqueues.concerned.items) (sym same_moments)
-              (subst (λ bs. AreNamedBy (moments_of t ++ m ∷ []) bs s'.kqueues.concerned.items) (sym same_births) next.1);
-          calls = subst (λ ms. All (CallsBelow (length (t.events ++ e ∷ []) + 1)) ms) (sym same_moments) (later-calls (moments_of t ++ m ∷ []) (all-below s said));
+          concerned = subst (λ ms. AreNamedBy ms (births_of (longer t e)) k'.concerned.items) (sym same_moments)
+              (subst (λ bs. AreNamedBy (moments_of t ++ m ∷ []) bs k'.concerned.items) (sym same_births) next.1);
+          calls = subst (λ ms. All (CallsBelow (length (t.events ++ e ∷ []) + 1)) ms) (sym same_moments) (later-calls (moments_of t ++ m ∷ []) (all-below k are));
         }
 
   -- ---- any
 
-  pub said-next : (q : Planned) → plan (end t e) e (now t e) ≡ q → (effect : Effect) → IsEffectOf q effect → (next : World counted)
-      → ((p : Plan) → q ≡ Possible p → next ≡ carried_out (end t e) p (now t e)) → (s s' : Said) → IsSaid t s
-      → IsHeard (end t e) e effect (now t e) next s s' → IsSaid (longer t e) s'
-  said-next (Impossible why) is effect refused next leads s s' said heard =
-      let none : s' ≡ s = subst (λ v. IsHeardBy v (end t e) e effect (now t e) next s s') refused.verdict heard in
-      subst (IsSaid (longer t e)) (sym none) (refused-next why is s said)
-  said-next (Possible p) is effect done next leads s s' said heard =
-      done-next p is effect done s s' said
-      (subst (λ w. IsSaidOnce (end t e) e effect (now t e) w s s') (leads p refl) (possible effect.verdict done.verdict heard))
+  pub logged-next : (q : Planned) → plan (end t e) e (now t e) ≡ q → (effect : Effect) → IsEffectOf q effect → (l l' : Log) → IsLogged t l
+      → IsLoggedNext (end t e) e effect (now t e) l l' → IsLogged (longer t e) l'
+  logged-next (Impossible why) is effect refused l l' logged next =
+      let none : l' ≡ l = subst (λ v. IsLoggedBy v (end t e) e effect (now t e) l l') refused.verdict next in
+      subst (IsLogged (longer t e)) (sym none) (refused-log why is l logged)
+  logged-next (Possible p) is effect done l l' logged next =
+      done-log p is effect done l l' logged (possible effect.verdict done.verdict next)
     where
-      possible : (v : Result (Unit {0}) Why) → IsOk v → IsHeardBy v (end t e) e effect (now t e) next s s' → IsSaidOnce (end t e) e effect (now t e) next s s'
-      possible (Ok done) is heard = heard
-      possible (Err why) is heard = absurd (false≢true is)
+      possible : (v : Result (Unit {0}) Why) → IsOk v → IsLoggedBy v (end t e) e effect (now t e) l l' → IsLoggedOnce (end t e) e effect (now t e) l l'
+      possible (Ok done) is next = next
+      possible (Err why) is next = absurd (false≢true is)
+
+  pub heard-next : (q : Planned) → plan (end t e) e (now t e) ≡ q → (effect : Effect) → IsEffectOf q effect → (after : World counted)
+      → ((p : Plan) → q ≡ Possible p → after ≡ carried_out (end t e) p (now t e)) → (k k' : Kqueues) → AreTheKqueues t k
+      → AreHeardNext (end t e) e effect (now t e) after k k' → AreTheKqueues (longer t e) k'
+  heard-next (Impossible why) is effect refused after leads k k' are next =
+      let none : k' ≡ k = subst (λ v. AreHeardBy v (end t e) e (now t e) after k k') refused.verdict next in
+      subst (AreTheKqueues (longer t e)) (sym none) (refused-kqueues why is k are)
+  heard-next (Possible p) is effect done after leads k k' are next =
+      done-kqueues p is effect done k k' are
+      (subst (λ w. AreHeard (end t e) (born_of e) (call_by e (kqueue_of e (now t e))) (views_of w) k k') (leads p refl)
+      (possible effect.verdict done.verdict next))
+    where
+      possible : (v : Result (Unit {0}) Why) → IsOk v → AreHeardBy v (end t e) e (now t e) after k k'
+          → AreHeard (end t e) (born_of e) (call_by e (kqueue_of e (now t e))) (views_of after) k k'
+      possible (Ok done) is next = next
+      possible (Err why) is next = absurd (false≢true is)

@@ -20,15 +20,16 @@ use Rattle.kq_process.specs.declared.effect.Effect.{Effect}
 use Rattle.kq_process.specs.declared.world.World.{World}
 use Rattle.kq_process.specs.Effects.{IsEffectOf}
 use Rattle.kq_process.specs.World.{world_of, IsEffectBy}
-use Rattle.kq_history.specs.declared.said.Said.{Said}
-use Rattle.kq_history.specs.Heard.{IsHeard}
+use Rattle.kq_history.specs.declared.kqueues.Kqueues.{Kqueues}
+use Rattle.kq_history.specs.declared.log.Log.{Log}
+use Rattle.kq_history.specs.Heard.{AreHeardNext, IsLoggedNext}
 use Rattle.kq_history.specs.Log.{AreShelved}
-use Rattle.kq_history.specs.Said.{AreNamedBy, IsSaid}
+use Rattle.kq_history.specs.Said.{AreNamedBy, AreTheKqueues, IsLogged}
 use Rattle.kq_history.specs.Sayings.{kqueue_of}
 use Rattle.kq_history.specs.Traced.{Traced, births_of, longer, places_of}
 use Rattle.kq_history.specs.Tracked.{IsWorldAfter}
 use Rattle.kq_history.proofs.NamedKqueues.{named-length}
-use Rattle.kq_history.proofs.SaidNext.{said-next}
+use Rattle.kq_history.proofs.SaidNext.{heard-next, logged-next}
 use Rattle.kq_history.proofs.TracedWorlds.{end, now, plans-length, world-longer}
 use Rattle.kq_history.proofs.TrackedRecords.{next-is}
 use Rattle.kq_history.proofs.WorldNext.{counted_now, listed_now}
@@ -59,13 +60,13 @@ rise-from place (Impossible why ∷ qs) = rise-from (place + 1) qs
 rise-from place (Possible p ∷ qs) =
     born-rise place p.born (births_from (place + 1) qs) (births-rising (place + 1) qs).0 (rise-from (place + 1) qs)
 
-pub places-rise : (t : Traced) (s : Said) → IsSaid t s → IsStrictlyIncreasing s.kqueues.places.items
-places-rise t s said = subst IsStrictlyIncreasing (sym said.births) (rise-from 1 _)
+pub places-rise : (t : Traced) (k : Kqueues) → AreTheKqueues t k → IsStrictlyIncreasing k.places.items
+places-rise t k are = subst IsStrictlyIncreasing (sym are.births) (rise-from 1 _)
 
-pub one-each : (t : Traced) (s : Said) → IsSaid t s → length s.kqueues.concerned.items ≡ length s.kqueues.places.items
-one-each t s said =
-    named-length _ (births_of t) s.kqueues.concerned.items said.concerned
-    ∙ sym (length-map (births_of t) (λ (b : Birth). b.place)) ∙ ap (λ (ps : List ℕ). length ps) (sym said.births)
+pub one-each : (t : Traced) (k : Kqueues) → AreTheKqueues t k → length k.concerned.items ≡ length k.places.items
+one-each t k are =
+    named-length _ (births_of t) k.concerned.items are.concerned
+    ∙ sym (length-map (births_of t) (λ (b : Birth). b.place)) ∙ ap (λ (ps : List ℕ). length ps) (sym are.births)
 
 -- ---- no more births than records
 
@@ -91,12 +92,16 @@ few-kqueues t =
 
 -- ---- no record
 
-pub first-said : (version : ℕ) (s : Said) → s.log.items.items ≡ [] → AreShelved [] s.log.shelves.table → s.kqueues.places.items ≡ [] → s.kqueues.concerned.items ≡ []
-    → IsSaid (record { version = version; events = [] }) s
+pub first-logged : (version : ℕ) (l : Log) → l.items.items ≡ [] → AreShelved [] l.shelves.table → IsLogged (record { version = version; events = [] }) l
+unfolding plans_from moments_from
+first-logged version l items shelved = record {
+  items = items;
+  shelved = subst (λ xs. AreShelved xs l.shelves.table) (sym items) shelved;
+}
+
+pub first-kqueues : (version : ℕ) (k : Kqueues) → k.places.items ≡ [] → k.concerned.items ≡ [] → AreTheKqueues (record { version = version; events = [] }) k
 unfolding plans_from moments_from births_from
-first-said version s items shelved places concerned = record {
-  log = items;
-  shelved = subst (λ xs. AreShelved xs s.log.shelves.table) (sym items) shelved;
+first-kqueues version k places concerned = record {
   births = places;
   concerned = subst (AreNamedBy [] []) (sym concerned) tt;
   calls = All-nil _;
@@ -104,22 +109,30 @@ first-said version s items shelved places concerned = record {
 
 -- ---- one record more
 
-pub heard-next : (t : Traced) (e : Event) (place : ℕ) (old new : World) (effect : Effect) (clock : ℕ) (kqueue : Option ℕ) (s s' : Said)
-    → length t.events + 1 ≡ place → IsWorldAfter t old → IsWorldAfter (longer t e) new → IsEffectBy (plan place e) old effect
-    → clock ≡ (world_of old).now → kqueue ≡ kqueue_of e (world_of old)
-    → ((w : model.World counted) → clock ≡ w.now → kqueue ≡ kqueue_of e w → IsHeard place e effect w (world_of new) s s') → IsSaid t s → IsSaid (longer t e) s'
-heard-next t e place old new effect clock kqueue s s' at before after of clock_is kqueue_is heard said =
-    said-next t e counts (plan (end t e) e (now t e)) refl effect
-    (subst (λ n. IsEffectOf (plan n e (now t e)) effect) (sym at) (subst (λ (w : model.World counted). IsEffectOf (plan place e w) effect) before.world of))
-    (world_of new) leads s s' said
-    (subst (λ n. IsHeard n e effect (now t e) (world_of new) s s') (sym at)
-    (heard (now t e) (clock_is ∙ ap (λ (w : model.World counted). w.now) before.world) (kqueue_is ∙ ap (kqueue_of e) before.world)))
-  where
-    counts : IsCountedWorld (end t e) (now t e)
-    counts = counted_now t e old before
+module _ (t : Traced) (e : Event) (place : ℕ) (old : World) (effect : Effect) (at : length t.events + 1 ≡ place) (before : IsWorldAfter t old)
+    (of : IsEffectBy (plan place e) old effect) where
+  counts : IsCountedWorld (end t e) (now t e)
+  counts = counted_now t e old before
 
-    lists : AreListed (now t e).objects
-    lists = listed_now t e old before
+  lists : AreListed (now t e).objects
+  lists = listed_now t e old before
 
-    leads : (p : Plan) → plan (end t e) e (now t e) ≡ Possible p → world_of new ≡ carried_out (end t e) p (now t e)
-    leads p is = after.world ∙ world-longer t e ∙ next-is t e counts lists p is
+  by : IsEffectOf (plan (end t e) e (now t e)) effect
+  by = subst (λ n. IsEffectOf (plan n e (now t e)) effect) (sym at) (subst (λ (w : model.World counted). IsEffectOf (plan place e w) effect) before.world of)
+
+  pub log-next : (clock : ℕ) (kqueue : Option ℕ) (l l' : Log) → clock ≡ (world_of old).now → kqueue ≡ kqueue_of e (world_of old)
+      → ((w : model.World counted) → clock ≡ w.now → kqueue ≡ kqueue_of e w → IsLoggedNext place e effect w l l') → IsLogged t l → IsLogged (longer t e) l'
+  log-next clock kqueue l l' clock_is kqueue_is next logged =
+      logged-next t e counts (plan (end t e) e (now t e)) refl effect by l l' logged
+      (subst (λ n. IsLoggedNext n e effect (now t e) l l') (sym at)
+      (next (now t e) (clock_is ∙ ap (λ (w : model.World counted). w.now) before.world) (kqueue_is ∙ ap (kqueue_of e) before.world)))
+
+  pub kqueues-next : (new : World) (kqueue : Option ℕ) (k k' : Kqueues) → IsWorldAfter (longer t e) new → kqueue ≡ kqueue_of e (world_of old)
+      → ((w : model.World counted) → kqueue ≡ kqueue_of e w → AreHeardNext place e effect w (world_of new) k k') → AreTheKqueues t k → AreTheKqueues (longer t e) k'
+  kqueues-next new kqueue k k' after kqueue_is next are =
+      heard-next t e counts (plan (end t e) e (now t e)) refl effect by (world_of new) leads k k' are
+      (subst (λ n. AreHeardNext n e effect (now t e) (world_of new) k k') (sym at)
+      (next (now t e) (kqueue_is ∙ ap (kqueue_of e) before.world)))
+    where
+      leads : (p : Plan) → plan (end t e) e (now t e) ≡ Possible p → world_of new ≡ carried_out (end t e) p (now t e)
+      leads p is = after.world ∙ world-longer t e ∙ next-is t e counts lists p is

@@ -15,6 +15,7 @@ use Rattle.kq_history.specs.declared.item.What.TheVariants as what
 use Rattle.kq_history.specs.declared.item.Source.{Source}
 use Rattle.kq_history.specs.declared.kqueues.Concerned.{Concerned}
 use Rattle.kq_history.specs.declared.kqueues.Kqueues.{Kqueues}
+use Rattle.kq_history.specs.declared.log.Log.{Log}
 use Rattle.kq_history.specs.declared.said.Said.{Said}
 use Rattle.kq_history.specs.Items.{bare_items, has_source}
 use Rattle.kq_history.specs.Kqueues.{IsNamedAt, IsNew}
@@ -67,9 +68,17 @@ AreNamedBy ms (b ∷ bs) (c ∷ cs) = IsNamedBy ms b c × AreNamedBy ms bs cs
 abbrev pub CallsBelow : ℕ → Moment → Type 0
 CallsBelow next m = (c : Call) → m.call ≡ Some c → c.kqueue < next
 
-pub record IsSaid (t : Traced) (s : Said) : Type 0 where
-  pub log : s.log.items.items ≡ bare_items (all_items (moments_of t))
-  pub shelved : AreShelved s.log.items.items s.log.shelves.table
-  pub births : s.kqueues.places.items ≡ places_of t
-  pub concerned : AreNamedBy (moments_of t) (births_of t) s.kqueues.concerned.items
+-- the log has all that they say
+pub record IsLogged (t : Traced) (l : Log) : Type 0 where
+  pub items : l.items.items ≡ bare_items (all_items (moments_of t))
+  pub shelved : AreShelved l.items.items l.shelves.table
+
+-- these are their kqueues, with what concerns each
+pub record AreTheKqueues (t : Traced) (k : Kqueues) : Type 0 where
+  pub births : k.places.items ≡ places_of t
+  pub concerned : AreNamedBy (moments_of t) (births_of t) k.concerned.items
   pub calls : All (CallsBelow (length t.events + 1)) (moments_of t)
+
+pub record IsSaid (t : Traced) (s : Said) : Type 0 where
+  pub logged : IsLogged t s.log
+  pub kqueues : AreTheKqueues t s.kqueues

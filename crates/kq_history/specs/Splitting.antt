@@ -4,7 +4,7 @@ use Rattle.kq_history.specs.declared.hearing.Hearing.{Hearing}
 use Rattle.kq_history.specs.declared.noting.Noting.{Noting}
 use Rattle.kq_history.specs.declared.splitting.Splitting.{Splitting}
 use Rattle.kq_history.specs.declared.watching.Watching.{Watching}
-use Rattle.kq_history.specs.Said.{IsSaid}
+use Rattle.kq_history.specs.Said.{AreTheKqueues, IsLogged, IsSaid}
 use Rattle.kq_history.specs.Sights.{HasNoted, NotedViews}
 use Rattle.kq_history.specs.Traced.{Traced, plain_rows_of}
 use Rattle.kq_history.specs.Tracked.{IsTracked, IsWorldAfter}
@@ -22,10 +22,12 @@ pub record IsSplitSoFar (t : Traced) (s : Splitting) : Type 0 where
 abbrev pub AreSoMany : ℕ → Splitting → Type 0
 AreSoMany before s = (t : Traced) × (length t.events ≡ before) × IsSplitSoFar t s
 
--- ---- the part that sees the world, where this was noted of targets before what it did not hand over
+-- ---- the part that sees the world and names the kqueues, where this was noted of targets before what it did not hand
+-- over
 
-abbrev pub IsWatchedSoFar : NotedViews → Traced → Watching → Type 0
-IsWatchedSoFar n t w = IsTracked n t w.world w.seen
+pub record IsWatchedSoFar (n : NotedViews) (t : Traced) (w : Watching) : Type 0 where
+  pub tracked : IsTracked n t w.world w.seen
+  pub kqueues : AreTheKqueues t w.kqueues
 
 abbrev pub AreSoManyWatched : ℕ → Watching → Type 0
 AreSoManyWatched before w = (n : NotedViews) × (t : Traced) × (length t.events ≡ before) × IsWatchedSoFar n t w
@@ -34,11 +36,11 @@ AreSoManyWatched before w = (n : NotedViews) × (t : Traced) × (length t.events
 abbrev pub IsWatchedWith : Noting → Traced → Watching → Type 0
 IsWatchedWith noting t w = (n : NotedViews) × HasNoted n noting × IsWatchedSoFar n t w
 
--- ---- the part that keeps what the records say
+-- ---- the part that keeps what the records say to kqueues
 
 pub record IsHeardSoFar (t : Traced) (h : Hearing) : Type 0 where
   pub after : IsWorldAfter t h.world
-  pub said : IsSaid t h.said
+  pub logged : IsLogged t h.log
   pub plain_is : h.plain.items ≡ plain_rows_of t
 
 abbrev pub AreSoManyHeard : ℕ → Hearing → Type 0

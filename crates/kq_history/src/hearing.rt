@@ -1,25 +1,24 @@
 ghost use Rattle.std.specs.Prelude.{◌≡◌, ◌+◌, ◌<◌, ◌^◌, ◌++◌, [], ℕ, length, IfOk, OnOk};
-ghost use Rattle.kq_process.specs.World.{world_of};
-ghost use Rattle.kq_history.specs.Heard.{IsHeard};
+ghost use Rattle.kq_history.specs.Heard.{IsLoggedNext};
 ghost use Rattle.kq_history.specs.Plain.{plain_row};
 ghost use Rattle.kq_history.specs.Sayings.{kqueue_of};
 ghost use Rattle.kq_history.specs.Splitting.{AreSoManyHeard, IsHeardSoFar};
 ghost use Rattle.kq_history.specs.Traced.{Traced};
 ghost use Rattle.kq_model.specs.Objects.{counted};
 ghost use Rattle.kq_model.specs.World as model;
-ghost use Rattle.std.specs.List.Sorted.{IsStrictlyIncreasing};
 
-use crate::said::{Before, Said};
+use crate::log::Log;
+use crate::said::{Before, log_record};
 use kq_model::{Event, Memory, Reply, Row, Why};
 use kq_process::{Effect, World};
 use std::alloc::Global;
 
-/// The part of a splitting that keeps what the records say and the rows of those that are impossible,
-/// but nothing of what is seen.
+/// The part of a splitting that keeps what the records say to kqueues and the rows of those that are
+/// impossible, but neither the kqueues nor anything of what is seen.
 #[derive(Drop)]
 pub struct Hearing {
     pub(crate) world: World,
-    pub(crate) said: Said,
+    pub(crate) log: Log,
     pub(crate) plain: Vec<Row>,
 }
 
@@ -29,9 +28,9 @@ impl Hearing {
         ensures { IfOk result (λ h. (version : ℕ) → IsHeardSoFar (record { version = version; events = [] }) h) }
     {
         let world = World::new(alloc)?;
-        let said = Said::new(alloc);
+        let log = Log::new(alloc);
         let plain = Vec::new(alloc);
-        Ok(Hearing { world, said, plain })
+        Ok(Hearing { world, log, plain })
     }
 
     /// The records that follow those so far, which are so many: the world takes each of them. Its cost
@@ -46,38 +45,27 @@ impl Hearing {
             let place = before + taken as u64 + 1;
             let before_it = Before::of(event, &self.world);
             let effect = self.world.apply(place, event)?;
-            hear(
-                &mut self.said,
-                place,
-                event,
-                &effect,
-                before_it,
-                &self.world,
-            )?;
+            log_heard(&mut self.log, place, event, &effect, before_it)?;
             put_plain(&mut self.plain, place, &effect.verdict)?;
         }
         Ok(())
     }
 }
 
-/// What the record of a place says, where it was possible.
-pub fn hear(
-    said: &mut Said,
+/// Logs what the record of a place says, where it was possible.
+pub fn log_heard(
+    log: &mut Log,
     place: u64,
     event: &Event,
     effect: &Effect,
     before: Before,
-    world: &World,
 ) -> Result<(), Memory>
-    requires rising { IsStrictlyIncreasing said.old.kqueues.places.items }
-    requires one_each { length said.old.kqueues.concerned.items ≡ length said.old.kqueues.places.items }
     ensures { OnOk result ((old : model.World counted) → before.clock ≡ old.now
-        → before.kqueue ≡ kqueue_of event.now old
-        → IsHeard place event.now effect.now old (world_of world.now) said.old said.new) }
+        → before.kqueue ≡ kqueue_of event.now old → IsLoggedNext place event.now effect.now old log.old log.new) }
 {
     match effect.verdict {
         Err(_) => Ok(()),
-        Ok(()) => said.hear(place, event, effect, before, world),
+        Ok(()) => log_record(log, place, event, effect, before),
     }
 }
 

@@ -8,6 +8,7 @@ mod hearing;
 mod item;
 mod kqueues;
 mod log;
+mod naming;
 mod noting;
 mod private;
 mod said;

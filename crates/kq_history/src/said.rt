@@ -43,7 +43,7 @@ impl Before {
 
 /// Which kqueue a record calls, if it is possible.
 #[tactic(auto, unfolding(crate::specs::Sayings::kqueue_of, crate::specs::Sayings::kqueue_named))]
-fn called(event: &Event, world: &World) -> Option<u64>
+pub fn called(event: &Event, world: &World) -> Option<u64>
     ensures { result ≡ kqueue_of event.now (world_of world.now) }
 {
     match event {
@@ -68,32 +68,25 @@ impl Said {
             kqueues: Kqueues::new(alloc),
         }
     }
+}
 
-    /// What a possible record says. The world is that after the record. After Memory nothing is
-    /// known.
-    pub fn hear(
-        &mut self,
-        place: u64,
-        event: &Event,
-        effect: &Effect,
-        before: Before,
-        world: &World,
-    ) -> Result<(), Memory>
-        requires rising { IsStrictlyIncreasing self.old.kqueues.places.items }
-        requires one_each { length self.old.kqueues.concerned.items ≡ length self.old.kqueues.places.items }
-        ensures items { OnOk result (self.new.log.items.items ≡ self.old.log.items.items
-            ++ said_items place effect.now.closed effect.now.hints (clock_of event.now before.clock) before.kqueue) }
-        ensures shelved { OnOk result (AreShelved self.old.log.items.items self.old.log.shelves.table
-            → AreShelved self.new.log.items.items self.new.log.shelves.table) }
-        ensures kqueues { OnOk result (AreHeard place (born_of event.now) (call_by event.now before.kqueue)
-            (views_of (world_of world.now)) self.old.kqueues self.new.kqueues) }
-    {
-        push_closed(&mut self.log, place, effect.closed.as_slice())?;
-        push_told(&mut self.log, place, effect.hints.as_slice())?;
-        push_clock(&mut self.log, place, event, before.clock)?;
-        push_call(&mut self.log, place, before.kqueue)?;
-        hear_kqueue(&mut self.kqueues, place, event, before.kqueue, world)
-    }
+/// Logs what a possible record says. After Memory nothing is known.
+pub fn log_record(
+    log: &mut Log,
+    place: u64,
+    event: &Event,
+    effect: &Effect,
+    before: Before,
+) -> Result<(), Memory>
+    ensures items { OnOk result (log.new.items.items ≡ log.old.items.items
+        ++ said_items place effect.now.closed effect.now.hints (clock_of event.now before.clock) before.kqueue) }
+    ensures shelved { OnOk result (AreShelved log.old.items.items log.old.shelves.table
+        → AreShelved log.new.items.items log.new.shelves.table) }
+{
+    push_closed(log, place, effect.closed.as_slice())?;
+    push_told(log, place, effect.hints.as_slice())?;
+    push_clock(log, place, event, before.clock)?;
+    push_call(log, place, before.kqueue)
 }
 
 fn push_closed(log: &mut Log, place: u64, closed: &[(u32, u32)]) -> Result<(), Memory>
@@ -164,9 +157,9 @@ fn push_call(log: &mut Log, place: u64, kqueue: Option<u64>) -> Result<(), Memor
     }
 }
 
-/// The birth or the call of a kqueue.
+/// The birth or the call of a kqueue by a possible record. The world is that after it. After Memory nothing is known.
 #[tactic(auto, unfolding(crate::specs::Sayings::born_of, crate::specs::Sayings::call_by))]
-fn hear_kqueue(
+pub fn hear_kqueue(
     kqueues: &mut Kqueues,
     place: u64,
     event: &Event,

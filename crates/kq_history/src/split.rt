@@ -69,17 +69,17 @@ impl<'a> Split<'a> {
         ensures { IfOk result (λ s. s ≡ traced trace.now) }
     {
         let events = trace.events.as_slice();
-        let Watching { seen, .. } = watching;
+        let Watching { seen, kqueues, .. } = watching;
         let mut noting = noting;
         noting.take(&seen.sights)?;
-        let Hearing { said, plain, .. } = hearing;
+        let Hearing { log, plain, .. } = hearing;
         Ok(Split {
             version: trace.version,
             events,
             numbers: seen.numbers,
             views: noting.timelines,
             clock: seen.clock,
-            said,
+            said: Said { log, kqueues },
             plain,
         })
     }

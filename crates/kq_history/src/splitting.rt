@@ -2,7 +2,8 @@ ghost use Rattle.std.specs.Prelude.{◌≡◌, ◌+◌, ◌<◌, ◌^◌, ◌++�
 ghost use Rattle.kq_history.specs.Splitting.{AreSoMany, IsSplitSoFar};
 ghost use Rattle.kq_history.specs.Traced.{traced, Traced};
 
-use crate::hearing::{hear, put_plain};
+use crate::hearing::{log_heard, put_plain};
+use crate::naming::name_kqueue;
 use crate::noting::Noting;
 use crate::said::{Before, Said};
 use crate::seen::Seen;
@@ -60,12 +61,14 @@ impl Splitting {
             let effect = track(place, event, world, &mut self.seen, &mut self.touched)?;
             self.noting.take(&self.seen.sights)?;
             self.seen.sights.clear();
-            hear(
-                &mut self.said,
+            log_heard(&mut self.said.log, place, event, &effect, before_it)?;
+            let kqueues = &mut self.said.kqueues;
+            name_kqueue(
+                kqueues,
                 place,
                 event,
                 &effect,
-                before_it,
+                before_it.kqueue,
                 &self.world,
             )?;
             put_plain(&mut self.plain, place, &effect.verdict)?;

@@ -3,6 +3,9 @@ ghost use Rattle.kq_history.specs.Sights.{and_then, nothing_noted, AreBetween, N
 ghost use Rattle.kq_history.specs.Splitting.{AreSoManyWatched, IsWatchedSoFar};
 ghost use Rattle.kq_history.specs.Traced.{Traced};
 
+use crate::kqueues::Kqueues;
+use crate::naming::name_kqueue;
+use crate::said::called;
 use crate::seen::Seen;
 use crate::sights::Sights;
 use crate::touched::Touched;
@@ -12,12 +15,14 @@ use kq_process::World;
 use std::alloc::Global;
 use std::mem::swap;
 
-/// The part of a splitting that sees the world after each record, and keeps what numbers named and the
-/// clock. What it sees of targets is handed over to [`Noting`](crate::Noting).
+/// The part of a splitting that sees the world after each record, and keeps what numbers named, the clock,
+/// and the kqueues with what concerns each. What it sees of targets is handed over to
+/// [`Noting`](crate::Noting).
 #[derive(Drop)]
 pub struct Watching {
     pub(crate) world: World,
     pub(crate) seen: Seen,
+    pub(crate) kqueues: Kqueues,
     touched: Touched,
 }
 
@@ -29,10 +34,12 @@ impl Watching {
     {
         let world = World::new(alloc)?;
         let seen = Seen::new(alloc);
+        let kqueues = Kqueues::new(alloc);
         let touched = Touched::new(alloc);
         Ok(Watching {
             world,
             seen,
+            kqueues,
             touched,
         })
     }
@@ -47,8 +54,11 @@ impl Watching {
     {
         for (taken, event) in events.iter().enumerate() {
             let place = before + taken as u64 + 1;
+            let kqueue = called(event, &self.world);
             let world = &mut self.world;
-            track(place, event, world, &mut self.seen, &mut self.touched)?;
+            let effect = track(place, event, world, &mut self.seen, &mut self.touched)?;
+            let kqueues = &mut self.kqueues;
+            name_kqueue(kqueues, place, event, &effect, kqueue, &self.world)?;
         }
         Ok(())
     }

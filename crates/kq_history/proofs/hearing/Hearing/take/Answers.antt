@@ -6,7 +6,6 @@ use Rattle.kq_process.specs.World.{world_of}
 use Rattle.kq_history.specs.declared.hearing.Hearing.{Hearing}
 use Rattle.kq_history.specs.Splitting.{IsHeardSoFar}
 use Rattle.kq_history.specs.Traced.{Traced}
-use Rattle.kq_history.proofs.SplitNext.{one-each, places-rise}
 use Rattle.kq_history.proofs.SplittingNext.{hearing-next, none-follow, one-follows, place-of-next}
 use Rattle.kq_history.proofs.WorldNext.{world-next}
 use Rattle.kq_history.proofs.hearing.Hearing.take.Goals as goal
@@ -23,16 +22,6 @@ apply-requires c =
     subst (λ k. IsCountedWorld k (world_of c.loop-taken.self.world))
     (place-of-next given.0 c.args.events.now c.args.before c.loop-taken.taken given.1 c.loop-taken.auto.taken-end) so_far.after.counted
 
-pub hear-requires-clause-rising : goal.hear-requires-clause-rising
-hear-requires-clause-rising c =
-    let given = c.requires.before in
-    places-rise _ c.loop-taken.self.said (c.loop-taken.invariant given.0 given.1 given.2).said
-
-pub hear-requires-clause-one_each : goal.hear-requires-clause-one_each
-hear-requires-clause-one_each c =
-    let given = c.requires.before in
-    one-each _ c.loop-taken.self.said (c.loop-taken.invariant given.0 given.1 given.2).said
-
 pub loop-taken-preserved : goal.loop-taken-preserved
 loop-taken-preserved c =
     λ (t : Traced) (at : length t.events ≡ c.args.before) (so_far : IsHeardSoFar t c.args.self.now).
@@ -43,7 +32,7 @@ loop-taken-preserved c =
     let old : Hearing = c.loop-taken.self in
     let new : Hearing = record {
       world = c.apply.new.self;
-      said = c.hear.new.said;
+      log = c.log_heard.new.log;
       plain = c.put_plain.new.plain;
     } in
     let heard : IsHeardSoFar here old = c.loop-taken.invariant t at so_far in
@@ -54,7 +43,7 @@ loop-taken-preserved c =
     subst (λ (xs : List Event). IsHeardSoFar (record { version = t.version; events = xs }) new) (one-follows t es n event more)
     (hearing-next here event (c.args.before + n + 1) old new c.in_ok-effect.effect c.of-before_it.result.clock c.of-before_it.result.kqueue place heard
     after c.in_ok-effect.ensures.effect c.of-before_it.ensures.clock c.of-before_it.ensures.kqueue
-    c.in_ok-hear.ensures c.in_ok-put_plain.ensures)
+    c.in_ok-log_heard.ensures c.in_ok-put_plain.ensures)
 
 pub returns : goal.returns
 returns c =

@@ -14,14 +14,14 @@ use Rattle.kq_history.proofs.SplitNext.{one-each, places-rise}
 use Rattle.kq_history.proofs.split.Split.answering.Goals as goal
 
 pub of-concerned-requires-clause-rising : goal.of-concerned-requires-clause-rising
-of-concerned-requires-clause-rising c = places-rise _ c.self.inside.said c.self.invariant.said
+of-concerned-requires-clause-rising c = places-rise _ c.self.inside.said.kqueues c.self.invariant.said.kqueues
 
 pub of-concerned-requires-clause-one_each : goal.of-concerned-requires-clause-one_each
-of-concerned-requires-clause-one_each c = one-each _ c.self.inside.said c.self.invariant.said
+of-concerned-requires-clause-one_each c = one-each _ c.self.inside.said.kqueues c.self.invariant.said.kqueues
 
 pub of-concerned-requires-clause-born : goal.of-concerned-requires-clause-born
 of-concerned-requires-clause-born c =
-    let same : c.self.inside.said.kqueues.places.items ≡ places_of c.args.self.now = c.self.invariant.said.births ∙ search rules in
+    let same : c.self.inside.said.kqueues.places.items ≡ places_of c.args.self.now = c.self.invariant.said.kqueues.births ∙ search rules in
     subst (λ (ps : List ℕ). Contains ps c.args.kqueue) (sym same) c.requires
 
 pub pick_between-requires-clause-distinct : goal.pick_between-requires-clause-distinct
@@ -35,7 +35,7 @@ pick_between-requires-clause-there c =
     (calls-named _ c.self.inside.said c.self.invariant.said c.args.kqueue c.of-concerned.result.now c.of-concerned.ensures)
 
 pub pick_between-requires-clause-shelved : goal.pick_between-requires-clause-shelved
-pick_between-requires-clause-shelved c = c.self.invariant.said.shelved
+pick_between-requires-clause-shelved c = c.self.invariant.said.logged.shelved
 
 pub invariant_of-result : goal.invariant_of-result
 invariant_of-result c =

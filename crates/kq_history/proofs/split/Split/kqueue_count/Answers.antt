@@ -7,7 +7,7 @@ pub overflow_cast-result : goal.overflow_cast-result
 overflow_cast-result c =
     let t : Traced = record { version = c.self.inside.version; events = c.self.inside.events.now } in
     let all : length c.places.result.now ≡ length (places_of t) =
-    ap (λ (ps : List ℕ). length ps) (c.places.ensures ∙ c.self.invariant.said.births) in
+    ap (λ (ps : List ℕ). length ps) (c.places.ensures ∙ c.self.invariant.said.kqueues.births) in
     let few : length (places_of t) ≤ length c.self.inside.events.now = few-kqueues t in
     let countable : length c.self.inside.events.now < 2 ^ 31 = c.self.invariant.countable in
     omega (arith, all, few, countable)

@@ -9,14 +9,14 @@ use Rattle.kq_history.proofs.SplitNext.{one-each, places-rise}
 use Rattle.kq_history.proofs.split.Split.private.Goals as goal
 
 pub of-concerned-requires-clause-rising : goal.of-concerned-requires-clause-rising
-of-concerned-requires-clause-rising c = places-rise _ c.self.inside.said c.self.invariant.said
+of-concerned-requires-clause-rising c = places-rise _ c.self.inside.said.kqueues c.self.invariant.said.kqueues
 
 pub of-concerned-requires-clause-one_each : goal.of-concerned-requires-clause-one_each
-of-concerned-requires-clause-one_each c = one-each _ c.self.inside.said c.self.invariant.said
+of-concerned-requires-clause-one_each c = one-each _ c.self.inside.said.kqueues c.self.invariant.said.kqueues
 
 pub of-concerned-requires-clause-born : goal.of-concerned-requires-clause-born
 of-concerned-requires-clause-born c =
-    let same : c.self.inside.said.kqueues.places.items ≡ places_of c.args.self.now = c.self.invariant.said.births ∙ search rules in
+    let same : c.self.inside.said.kqueues.places.items ≡ places_of c.args.self.now = c.self.invariant.said.kqueues.births ∙ search rules in
     subst (λ (ps : List ℕ). Contains ps c.args.kqueue) (sym same) c.requires
 
 pub pick-requires-clause-distinct : goal.pick-requires-clause-distinct
@@ -25,7 +25,7 @@ pick-requires-clause-distinct c =
     (known-there _ c.self.inside.said c.self.invariant.said c.args.kqueue c.of-concerned.result.now c.of-concerned.ensures).distinct
 
 pub pick-requires-clause-shelved : goal.pick-requires-clause-shelved
-pick-requires-clause-shelved c = c.self.invariant.said.shelved
+pick-requires-clause-shelved c = c.self.invariant.said.logged.shelved
 
 pub invariant_of-result : goal.invariant_of-result
 invariant_of-result c =

@@ -46,15 +46,15 @@ take-requires c =
     (place-of-next given.0 es c.args.before n given.1 c.loop-taken.auto.taken-end) so_far.tracked in
     (so_far.noted, length (longer here c.index-events-taken.result).events, so_far.has_noted, tracked.up_to.sights)
 
-pub hear-requires-clause-rising : goal.hear-requires-clause-rising
-hear-requires-clause-rising c =
+pub name_kqueue-requires-clause-rising : goal.name_kqueue-requires-clause-rising
+name_kqueue-requires-clause-rising c =
     let given = c.requires.before in
-    places-rise _ c.loop-taken.self.said (c.loop-taken.invariant given.0 given.1 given.2).said
+    places-rise _ c.loop-taken.self.said.kqueues (c.loop-taken.invariant given.0 given.1 given.2).said.kqueues
 
-pub hear-requires-clause-one_each : goal.hear-requires-clause-one_each
-hear-requires-clause-one_each c =
+pub name_kqueue-requires-clause-one_each : goal.name_kqueue-requires-clause-one_each
+name_kqueue-requires-clause-one_each c =
     let given = c.requires.before in
-    one-each _ c.loop-taken.self.said (c.loop-taken.invariant given.0 given.1 given.2).said
+    one-each _ c.loop-taken.self.said.kqueues (c.loop-taken.invariant given.0 given.1 given.2).said.kqueues
 
 pub loop-taken-preserved : goal.loop-taken-preserved
 loop-taken-preserved c =
@@ -68,7 +68,7 @@ loop-taken-preserved c =
       world = c.track.new.world;
       seen = record { numbers = c.track.new.seen.numbers; clock = c.track.new.seen.clock; sights = c.clear.new.self };
       noting = c.take.new.self;
-      said = c.hear.new.said;
+      said = record { log = c.log_heard.new.log; kqueues = c.name_kqueue.new.kqueues };
       plain = c.put_plain.new.plain;
       touched = c.track.new.touched;
     } in
@@ -85,7 +85,7 @@ loop-taken-preserved c =
     subst (λ (xs : List Event). IsSplitSoFar (record { version = t.version; events = xs }) new) (one-follows t es n event more)
     (split-next here event (c.args.before + n + 1) old new c.in_ok-effect.effect c.of-before_it.result.clock c.of-before_it.result.kqueue place split
     noted has_noted tracked c.clear.ensures c.in_ok-effect.ensures.effect c.of-before_it.ensures.clock c.of-before_it.ensures.kqueue
-    c.in_ok-hear.ensures c.in_ok-put_plain.ensures)
+    c.in_ok-log_heard.ensures c.in_ok-name_kqueue.ensures c.in_ok-put_plain.ensures)
 
 pub returns : goal.returns
 returns c =
