@@ -1,8 +1,5 @@
 //! One fold of the whole system, on the calling thread.
 
-ghost use Rattle.std.specs.Prelude.{◌≡◌, IfOk};
-ghost use Rattle.kq_model.specs.Report.{report_of};
-
 use crate::watch::Watch;
 use kq_merge::{ReportText, report_text};
 use kq_model::limits::MOST_RECORDS;
@@ -30,9 +27,7 @@ pub fn fold<R: AllocGlobal + Clock + CpuClock + Threads + Sync, O: Write, W: Wri
 }
 
 /// The report of a trace.
-fn folded(alloc: Global, trace: &Trace) -> Result<Vec<u8>, Memory>
-    ensures { IfOk result (λ text. text.items ≡ report_of trace.now.version trace.now.events) }
-{
+fn folded(alloc: Global, trace: &Trace) -> Result<Vec<u8>, Memory> {
     let rows = System::run(alloc, trace)?;
     report_text(alloc, rows.as_slice(), trace.events.len() as u64)
 }
