@@ -5,3 +5,4 @@ pub mod WrittenRows
 pub mod WrittenParts
 pub mod RoundsGone
 pub mod PlacedRows
+pub mod SlotRows

@@ -4,6 +4,7 @@ use Rattle.std.specs.List.Sorted.{IsPermutation}
 use Rattle.std.proofs.lemmas.List.Sorted.{IsPermutation-append_right, IsPermutation-trans, length_permutation}
 use Rattle.kq_model.specs.declared.row.Row.{Row}
 use Rattle.kq_model.specs.Report.{call_count, event_count, row_lines}
+use Rattle.kq_merge.specs.AtPlaces.{present}
 use Rattle.kq_merge.specs.ByPlace.{Precede}
 use Rattle.kq_merge.specs.Merged.{AreWrittenByPlace, IsRound}
 use Rattle.kq_merge.specs.Parts.{AreWritten}
@@ -46,30 +47,30 @@ last_round all before rows left text so_far none is =
     )
 
 -- nothing is written yet
-pub started : (rows : List Row) (w : Writing) → IsRound rows w.round.rows.items w.round.left → w.text ≡ nothing_written → w.parts.items ≡ []
+pub started : (rows : List Row) (w : Writing) → IsRound rows (present w.round.slots.items) w.round.left → w.text ≡ nothing_written → w.parts.items ≡ []
     → IsUnderWay rows w
 unfolding row_lines call_count event_count
 started rows w round text parts = record {
   put = [];
   behind = [];
-  round = first_round rows w.round.rows.items w.round.left round;
+  round = first_round rows (present w.round.slots.items) w.round.left round;
   done = text;
   next = subst (AreWritten []) (sym parts) ([], refl, tt);
 }
 
 -- the parts were put behind the text, a round was written, and the next one was taken of the rows that were left
 pub gone_on : (all : List Row) (w next : Writing) (so_far : IsUnderWay all w) → next.text ≡ written (so_far.put ++ so_far.behind)
-    → AreWritten w.round.rows.items next.parts.items → IsRound w.round.left next.round.rows.items next.round.left → IsUnderWay all next
+    → AreWritten (present w.round.slots.items) next.parts.items → IsRound w.round.left (present next.round.slots.items) next.round.left → IsUnderWay all next
 gone_on all w next so_far text parts round = record {
   put = so_far.put ++ so_far.behind;
-  behind = w.round.rows.items;
-  round = round_more all (so_far.put ++ so_far.behind) w.round.rows.items w.round.left next.round.rows.items next.round.left so_far.round round;
+  behind = (present w.round.slots.items);
+  round = round_more all (so_far.put ++ so_far.behind) (present w.round.slots.items) w.round.left (present next.round.slots.items) next.round.left so_far.round round;
   done = text;
   next = parts;
 }
 
 -- with no row left, those that were taken are all of them
-pub all_gone : (all : List Row) (w : Writing) (so_far : IsUnderWay all w) (text : Written) → w.round.rows.items ≡ [] → text ≡ written (so_far.put ++ so_far.behind)
+pub all_gone : (all : List Row) (w : Writing) (so_far : IsUnderWay all w) (text : Written) → (present w.round.slots.items) ≡ [] → text ≡ written (so_far.put ++ so_far.behind)
     → AreWrittenByPlace all text
 all_gone all w so_far text none is =
-    last_round all (so_far.put ++ so_far.behind) w.round.rows.items w.round.left text so_far.round none is
+    last_round all (so_far.put ++ so_far.behind) (present w.round.slots.items) w.round.left text so_far.round none is

@@ -2,6 +2,7 @@
 use Rattle.std.specs.Prelude.{◌≡◌, List, [], ◌++◌}
 use Rattle.std.specs.List.Sorted.{IsPermutation}
 use Rattle.kq_model.specs.declared.row.Row.{Row}
+use Rattle.kq_merge.specs.AtPlaces.{present}
 use Rattle.kq_merge.specs.ByPlace.{Precede}
 use Rattle.kq_merge.specs.Parts.{AreWritten}
 use Rattle.kq_merge.specs.Written.{written}
@@ -17,6 +18,6 @@ pub record IsRoundBehind (all before rows left : List Row) : Type 0 where
 pub record IsUnderWay (all : List Row) (w : Writing) : Type 0 where
   pub put : List Row
   pub behind : List Row
-  pub round : IsRoundBehind all (put ++ behind) w.round.rows.items w.round.left
+  pub round : IsRoundBehind all (put ++ behind) (present w.round.slots.items) w.round.left
   pub done : w.text ≡ written put
   pub next : AreWritten behind w.parts.items

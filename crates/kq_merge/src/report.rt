@@ -7,6 +7,7 @@ mod event;
 mod line;
 mod parts;
 mod rounds;
+mod slots;
 mod text;
 
 use crate::report::parts::{text_by, text_of};

@@ -3,7 +3,7 @@
 ghost use Rattle.std.specs.Prelude.{◌≡◌, ◌≤◌, ◌++◌, IfOk, List};
 ghost use Rattle.std.specs.List.{All, flat_map};
 ghost use Rattle.std.specs.List.Sorted.{IsPermutation};
-ghost use Rattle.kq_merge.specs.AtPlaces.{AreTaken, IsFirstPlace};
+ghost use Rattle.kq_merge.specs.AtPlaces.{present, AreTaken, IsFirstPlace};
 ghost use Rattle.kq_merge.specs.ByPlace.{NeverFall, rows_in};
 ghost use Rattle.kq_merge.specs.Merged.{IsRound};
 ghost use Rattle.kq_model.specs.declared.row.Row.{Row};
@@ -32,10 +32,10 @@ impl Model for Merging {
     ghost view = { λ m. flat_map (λ run. run) m.runs.items };
 }
 
-/// The rows that stand first by place, and those that are left.
+/// The rows that stand first by place, in slots of which some have none, and those that are left.
 #[derive(Drop)]
 pub struct Round {
-    pub rows: Vec<Row>,
+    pub slots: Vec<Option<Row>>,
     pub left: Merging,
 }
 
@@ -55,19 +55,19 @@ impl Merging {
 
     /// Takes the rows of the places that come first, of no more places than so many; none only where none is left.
     pub(crate) fn next_round(self, alloc: Global, most: u32) -> Result<Round, Memory>
-        ensures { IfOk result (λ round. IsRound self round.rows.items round.left) }
+        ensures { IfOk result (λ round. IsRound self (present round.slots.items) round.left) }
     {
         let Merging { runs } = self;
         let Some(first) = first_place(runs.as_slice()) else {
             return Ok(Round {
-                rows: Vec::new(alloc),
+                slots: Vec::new(alloc),
                 left: Merging { runs },
             });
         };
         let mut places = Places::new(alloc, first, last_place(runs.as_slice()), most)?;
         let runs = taken(alloc, runs, &mut places)?;
         Ok(Round {
-            rows: places.into_rows()?,
+            slots: places.into_slots()?,
             left: Merging { runs },
         })
     }

@@ -42,7 +42,7 @@ pub fn with_rows(text: ReportText, rows: &[Row]) -> Result<ReportText, Memory>
 
 /// How many rows each of so many threads writes. The few that are left over are a part of their own, which the
 /// thread of the part before it writes.
-fn rows_each(rows: usize, threads: u32) -> usize
+pub fn rows_each(rows: usize, threads: u32) -> usize
     ensures { 0 < result }
 {
     (rows / threads.max(1) as usize).max(LEAST_ROWS)

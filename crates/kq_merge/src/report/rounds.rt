@@ -3,12 +3,14 @@
 ghost use Rattle.std.specs.Prelude.{◌≡◌, ◌+◌, ◌++◌, [], IfOk, List, length, nat_eq};
 ghost use Rattle.std.specs.Thread.{IsSync};
 ghost use Rattle.kq_model.specs.declared.row.Row.{Row};
+ghost use Rattle.kq_merge.specs.AtPlaces.{present};
 ghost use Rattle.kq_merge.specs.Merged.{AreWrittenByPlace, IsRound};
 ghost use Rattle.kq_merge.specs.Parts.{AreWritten};
 ghost use Rattle.kq_merge.specs.Rounds.{IsUnderWay};
 ghost use Rattle.kq_merge.specs.Written.{written};
 
-use super::parts::{Part, parts_of, put_behind, with_rows};
+use super::parts::{Part, put_behind};
+use super::slots::{have_no_row, parts_in, with_slots};
 use super::text::ReportText;
 use crate::rows_ahead::{Merging, Round};
 use kq_model::{Memory, Row};
@@ -29,7 +31,7 @@ pub struct Writing {
     /// What was written of the rows behind that.
     parts: Vec<Part>,
     /// The rows of these parts, which are no longer used.
-    spent: Vec<Row>,
+    spent: Vec<Option<Row>>,
     /// The rows that are written next.
     round: Round,
 }
@@ -50,29 +52,30 @@ impl Writing {
     /// Puts the parts behind the text, and meanwhile writes the round and takes the next one.
     fn next<R: AllocGlobal + Threads + Sync>(self, rt: &R, threads: u32) -> Result<Self, Memory>
         ensures under_way { (all : List Row) → IsUnderWay all self → IfOk result (IsUnderWay all) }
-        ensures fewer { IfOk result (λ next. length next.round.rows.items + length next.round.left ≡ length self.round.left) }
+        ensures fewer { IfOk result (λ next. length (present next.round.slots.items) + length next.round.left
+            ≡ length self.round.left) }
     {
         let Writing {
             text,
             parts,
             spent,
-            round: Round { rows, left },
+            round: Round { slots, left },
         } = self;
         let put = move || -> Result<ReportText, Memory>
             ensures { (before later : List Row) → text ≡ written before → AreWritten later parts.items
                 → IfOk result (λ longer. longer ≡ written (before ++ later)) }
         { put_behind(text, parts) };
-        let now = rows.as_slice();
+        let now = slots.as_slice();
         let write_and_take = move || -> (Result<Vec<Part>, Memory>, Result<Round, Memory>)
             requires { IsSync R.row }
-            ensures { IfOk result.0 (λ parts. AreWritten now.entry.now parts.items)
-                × IfOk result.1 (λ round. IsRound left round.rows.items round.left) }
+            ensures { IfOk result.0 (λ parts. AreWritten (present now.entry.now) parts.items)
+                × IfOk result.1 (λ round. IsRound left (present round.slots.items) round.left) }
         { write_and_take(rt, now, spent, left, threads) };
         let (text, (parts, round)) = join(rt, put, write_and_take);
         Ok(Writing {
             text: text?,
             parts: parts?,
-            spent: rows,
+            spent: slots,
             round: round?,
         })
     }
@@ -82,22 +85,22 @@ impl Writing {
 /// that are spent by another.
 fn write_and_take<R: AllocGlobal + Threads + Sync>(
     rt: &R,
-    rows: &[Row],
-    spent: Vec<Row>,
+    slots: &[Option<Row>],
+    spent: Vec<Option<Row>>,
     left: Merging,
     threads: u32,
 ) -> (Result<Vec<Part>, Memory>, Result<Round, Memory>)
-    ensures written { IfOk result.0 (λ parts. AreWritten rows.now parts.items) }
-    ensures taken { IfOk result.1 (λ round. IsRound left round.rows.items round.left) }
+    ensures written { IfOk result.0 (λ parts. AreWritten (present slots.now) parts.items) }
+    ensures taken { IfOk result.1 (λ round. IsRound left (present round.slots.items) round.left) }
 {
     let alloc = rt.alloc();
     let write = || -> Result<Vec<Part>, Memory>
         requires { IsSync R.row }
-        ensures { IfOk result (λ parts. AreWritten rows.entry.now parts.items) }
-    { parts_of(rt, alloc, rows, threads).map_err(|_| Memory) };
+        ensures { IfOk result (λ parts. AreWritten (present slots.entry.now) parts.items) }
+    { parts_in(rt, alloc, slots, threads).map_err(|_| Memory) };
     let take = move || -> Result<Round, Memory>
         requires { IsSync R.row }
-        ensures { IfOk result (λ round. IsRound left round.rows.items round.left) }
+        ensures { IfOk result (λ round. IsRound left (present round.slots.items) round.left) }
     { take_and_let_go(rt, spent, left) };
     join(rt, write, take)
 }
@@ -105,14 +108,14 @@ fn write_and_take<R: AllocGlobal + Threads + Sync>(
 /// Takes the next round, and meanwhile lets go of the rows that are spent.
 fn take_and_let_go<R: AllocGlobal + Threads + Sync>(
     rt: &R,
-    spent: Vec<Row>,
+    spent: Vec<Option<Row>>,
     left: Merging,
 ) -> Result<Round, Memory>
-    ensures { IfOk result (λ round. IsRound left round.rows.items round.left) }
+    ensures { IfOk result (λ round. IsRound left (present round.slots.items) round.left) }
 {
     let alloc = rt.alloc();
     let take = move || -> Result<Round, Memory>
-        ensures { IfOk result (λ round. IsRound left round.rows.items round.left) }
+        ensures { IfOk result (λ round. IsRound left (present round.slots.items) round.left) }
     { left.next_round(alloc, MOST_PLACES) };
     let let_go = move || { drop(spent) };
     let (round, _) = join(rt, take, let_go);
@@ -125,8 +128,8 @@ fn text_alone(alloc: Global, rows: Merging) -> Result<ReportText, Memory>
 {
     let mut text = ReportText::new(alloc);
     let mut round = rows.next_round(alloc, MOST_PLACES)?;
-    'rounds: while !round.rows.is_empty() {
-        text = with_rows(text, round.rows.as_slice())?;
+    'rounds: while !have_no_row(round.slots.as_slice()) {
+        text = with_slots(text, round.slots.as_slice())?;
         round = round.left.next_round(alloc, MOST_PLACES)?;
     }
     Ok(text)
@@ -147,7 +150,7 @@ pub fn text_by_place<R: AllocGlobal + Threads + Sync>(
         return text_alone(alloc, rows);
     }
     let mut writing = Writing::start(alloc, rows)?;
-    'rounds: while !writing.round.rows.is_empty() {
+    'rounds: while !have_no_row(writing.round.slots.as_slice()) {
         writing = writing.next(rt, threads - 1)?;
     }
     put_behind(writing.text, writing.parts)

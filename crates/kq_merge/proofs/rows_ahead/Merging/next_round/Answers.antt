@@ -2,7 +2,7 @@
 use Rattle.std.proofs.Common.{◌∙◌, List, ap, subst}
 use Rattle.std.specs.List.{flat_map}
 use Rattle.kq_model.specs.declared.row.Row.{Row}
-use Rattle.kq_merge.specs.AtPlaces.{AreTaken, IsFirstPlace}
+use Rattle.kq_merge.specs.AtPlaces.{AreTaken, IsFirstPlace, present}
 use Rattle.kq_merge.proofs.PlacedRows.{round_taken}
 use Rattle.kq_merge.proofs.rows_ahead.Merging.next_round.Goals as goal
 
@@ -17,5 +17,5 @@ returns c =
     let is = subst (IsFirstPlace all) c.in-Some.is
     (subst (λ l. IsFirstPlace l c.first_place.result) (ap flat c.as_slice.ensures.value ∙ c.self.view_is) c.first_place.ensures) in
     let taken = subst (λ l. AreTaken places c.taken.new.places l left) c.self.view_is c.in_ok-runs.ensures in
-    round_taken places c.taken.new.places all c.in_ok-into_rows.field-0.items left c.in-Some.first c.in_ok-places.ensures.none c.in_ok-places.ensures.until
-    is taken c.in_ok-into_rows.ensures.same c.in_ok-into_rows.ensures.by_place
+    round_taken places c.taken.new.places all (present c.in_ok-into_slots.field-0.items) left c.in-Some.first c.in_ok-places.ensures.none c.in_ok-places.ensures.until
+    is taken c.in_ok-into_slots.ensures.same c.in_ok-into_slots.ensures.by_place
