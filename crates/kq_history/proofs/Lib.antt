@@ -32,6 +32,7 @@ mod TrackedNext
 pub mod Sayings
 mod FirstTracked
 pub mod NotingLemmas
+pub mod HeardItems
 mod PlainRows
 mod NamedKqueues
 mod SaidItems

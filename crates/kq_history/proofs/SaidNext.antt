@@ -1,8 +1,8 @@
--- What was heard is what the trace with one record more says.
+-- What was said and heard is what the trace with one record more says.
 use Rattle.std.proofs.Common.{◌≡◌, ◌∙◌, ◌<◌, ◌+◌, ℕ, length, get_or, List, [], ◌∷◌, ◌++◌, map, Option, None, Some, Result, Ok, Err, refl, sym, ap, ap₂, subst, arith}
 use Rattle.std.specs.Prelude.{All, IsOk}
 use Rattle.std.proofs.lemmas.Bool.{false≢true}
-use Rattle.std.proofs.lemmas.List.{append-nil, length-append, length-map, map-append}
+use Rattle.std.proofs.lemmas.List.{append-nil, append_assoc, length-append, length-map, map-append}
 use Rattle.std.proofs.lemmas.List.Elements.{All-nil, All-cons, All-append, All-weaker}
 use Rattle.std.proofs.lemmas.Option.{none-some, same_Some}
 use Rattle.kq_model.specs.declared.event.Event.{Event}
@@ -25,11 +25,11 @@ use Rattle.kq_model.proofs.HistoryPushed.{births-push, moments-push}
 use Rattle.kq_model.proofs.SeenWorld.{seen-counted}
 use Rattle.kq_process.specs.declared.effect.Effect.{Effect}
 use Rattle.kq_process.specs.Effects.{IsDone, IsEffectOf, pairs_in}
+use Rattle.kq_history.specs.declared.item.Item.{Item}
 use Rattle.kq_history.specs.declared.kqueues.Kqueues.{Kqueues}
-use Rattle.kq_history.specs.declared.log.Log.{Log}
-use Rattle.kq_history.specs.Heard.{AreHeardBy, AreHeardNext, IsLoggedBy, IsLoggedNext, IsLoggedOnce}
+use Rattle.kq_history.specs.Heard.{AreHeardBy, AreHeardNext, AreSaidBy, AreSaidNext}
 use Rattle.kq_history.specs.Items.{bare_items}
-use Rattle.kq_history.specs.Said.{AreHeard, AreNamedBy, AreTheKqueues, CallsBelow, IsLogged, said_items}
+use Rattle.kq_history.specs.Said.{AreAllSaid, AreHeard, AreNamedBy, AreTheKqueues, CallsBelow, said_items}
 use Rattle.kq_history.specs.Sayings.{born_of, call_by, call_of, call_on, clock_of, kqueue_named, kqueue_of, Says, SaysBy}
 use Rattle.kq_history.specs.Sources.{Grows, call_sources}
 use Rattle.kq_history.specs.Traced.{Traced, births_of, longer, moments_of, places_of}
@@ -119,11 +119,8 @@ module _ (t : Traced) (e : Event) (counts : IsCountedWorld (end t e) (now t e)) 
     unfolding birth_by
     refused-births = births-longer ∙ ap (λ q. births_of t ++ birth_by (end t e) q) is ∙ append-nil (births_of t)
 
-    refused-log : (l : Log) → IsLogged t l → IsLogged (longer t e) l
-    refused-log l logged = record {
-      items = logged.items ∙ ap (λ ms. bare_items (all_items ms)) (sym refused-moments);
-      shelved = logged.shelved;
-    }
+    refused-said : (before items : List Item) → AreAllSaid before t items → AreAllSaid before (longer t e) items
+    refused-said before items said = said ∙ ap (λ ms. bare_items (all_items ms)) (sym refused-moments)
 
     refused-kqueues : (k : Kqueues) → AreTheKqueues t k → AreTheKqueues (longer t e) k
     refused-kqueues k are = record {
@@ -227,13 +224,14 @@ module _ (t : Traced) (e : Event) (counts : IsCountedWorld (end t e) (now t e)) 
         places-same none = ap (λ bs. map (λ (b : Birth). b.place) bs)
             (sym (same_births ∙ ap (λ x. births_of t ++ birth_at (end t e) x) none ∙ append-nil (births_of t)))
 
-    done-log : (l l' : Log) → IsLogged t l → IsLoggedOnce (end t e) e effect (now t e) l l' → IsLogged (longer t e) l'
-    done-log l l' logged once = record {
-      items = once.items ∙ ap (λ items. items ++ said_items (end t e) effect.closed effect.hints (clock_of e (now t e).now) (kqueue_of e (now t e))) logged.items
-          ∙ ap (λ items. bare_items (all_items (moments_of t)) ++ items) (sym m-items)
-          ∙ sym (items-longer (moments_of t) m) ∙ ap (λ ms. bare_items (all_items ms)) (sym same_moments);
-      shelved = once.shelved logged.shelved;
-    }
+    done-said : (before items more : List Item) → AreAllSaid before t items
+        → more ≡ items ++ said_items (end t e) effect.closed effect.hints (clock_of e (now t e).now) (kqueue_of e (now t e))
+        → AreAllSaid before (longer t e) more
+    done-said before items more said once =
+        let these = said_items (end t e) effect.closed effect.hints (clock_of e (now t e).now) (kqueue_of e (now t e)) in
+        ap (λ xs. before ++ xs) once ∙ sym (append_assoc before items these) ∙ ap (λ xs. xs ++ these) said
+        ∙ ap (λ xs. bare_items (all_items (moments_of t)) ++ xs) (sym m-items)
+        ∙ sym (items-longer (moments_of t) m) ∙ ap (λ ms. bare_items (all_items ms)) (sym same_moments)
 
     done-kqueues : (k k' : Kqueues) → AreTheKqueues t k
         → AreHeard (end t e) (born_of e) (call_by e (kqueue_of e (now t e))) (views_of after) k k' → AreTheKqueues (longer t e) k'
@@ -249,15 +247,16 @@ module _ (t : Traced) (e : Event) (counts : IsCountedWorld (end t e) (now t e)) 
 
   -- ---- any
 
-  pub logged-next : (q : Planned) → plan (end t e) e (now t e) ≡ q → (effect : Effect) → IsEffectOf q effect → (l l' : Log) → IsLogged t l
-      → IsLoggedNext (end t e) e effect (now t e) l l' → IsLogged (longer t e) l'
-  logged-next (Impossible why) is effect refused l l' logged next =
-      let none : l' ≡ l = subst (λ v. IsLoggedBy v (end t e) e effect (now t e) l l') refused.verdict next in
-      subst (IsLogged (longer t e)) (sym none) (refused-log why is l logged)
-  logged-next (Possible p) is effect done l l' logged next =
-      done-log p is effect done l l' logged (possible effect.verdict done.verdict next)
+  pub said-next : (q : Planned) → plan (end t e) e (now t e) ≡ q → (effect : Effect) → IsEffectOf q effect → (before items more : List Item)
+      → AreAllSaid before t items → AreSaidNext (end t e) e effect (now t e) items more → AreAllSaid before (longer t e) more
+  said-next (Impossible why) is effect refused before items more said next =
+      let none : more ≡ items = subst (λ v. AreSaidBy v (end t e) e effect (now t e) items more) refused.verdict next in
+      subst (AreAllSaid before (longer t e)) (sym none) (refused-said why is before items said)
+  said-next (Possible p) is effect done before items more said next =
+      done-said p is effect done before items more said (possible effect.verdict done.verdict next)
     where
-      possible : (v : Result (Unit {0}) Why) → IsOk v → IsLoggedBy v (end t e) e effect (now t e) l l' → IsLoggedOnce (end t e) e effect (now t e) l l'
+      possible : (v : Result (Unit {0}) Why) → IsOk v → AreSaidBy v (end t e) e effect (now t e) items more
+          → more ≡ items ++ said_items (end t e) effect.closed effect.hints (clock_of e (now t e).now) (kqueue_of e (now t e))
       possible (Ok done) is next = next
       possible (Err why) is next = absurd (false≢true is)
 

@@ -20,16 +20,15 @@ use Rattle.kq_process.specs.declared.effect.Effect.{Effect}
 use Rattle.kq_process.specs.declared.world.World.{World}
 use Rattle.kq_process.specs.Effects.{IsEffectOf}
 use Rattle.kq_process.specs.World.{world_of, IsEffectBy}
+use Rattle.kq_history.specs.declared.item.Item.{Item}
 use Rattle.kq_history.specs.declared.kqueues.Kqueues.{Kqueues}
-use Rattle.kq_history.specs.declared.log.Log.{Log}
-use Rattle.kq_history.specs.Heard.{AreHeardNext, IsLoggedNext}
-use Rattle.kq_history.specs.Log.{AreShelved}
-use Rattle.kq_history.specs.Said.{AreNamedBy, AreTheKqueues, IsLogged}
+use Rattle.kq_history.specs.Heard.{AreHeardNext, AreSaidNext}
+use Rattle.kq_history.specs.Said.{AreAllSaid, AreNamedBy, AreTheKqueues}
 use Rattle.kq_history.specs.Sayings.{kqueue_of}
 use Rattle.kq_history.specs.Traced.{Traced, births_of, longer, places_of}
 use Rattle.kq_history.specs.Tracked.{IsWorldAfter}
 use Rattle.kq_history.proofs.NamedKqueues.{named-length}
-use Rattle.kq_history.proofs.SaidNext.{heard-next, logged-next}
+use Rattle.kq_history.proofs.SaidNext.{heard-next, said-next}
 use Rattle.kq_history.proofs.TracedWorlds.{end, now, plans-length, world-longer}
 use Rattle.kq_history.proofs.TrackedRecords.{next-is}
 use Rattle.kq_history.proofs.WorldNext.{counted_now, listed_now}
@@ -92,12 +91,9 @@ few-kqueues t =
 
 -- ---- no record
 
-pub first-logged : (version : ℕ) (l : Log) → l.items.items ≡ [] → AreShelved [] l.shelves.table → IsLogged (record { version = version; events = [] }) l
+pub first-said : (version : ℕ) (items : List Item) → items ≡ [] → AreAllSaid [] (record { version = version; events = [] }) items
 unfolding plans_from moments_from
-first-logged version l items shelved = record {
-  items = items;
-  shelved = subst (λ xs. AreShelved xs l.shelves.table) (sym items) shelved;
-}
+first-said version items none = none
 
 pub first-kqueues : (version : ℕ) (k : Kqueues) → k.places.items ≡ [] → k.concerned.items ≡ [] → AreTheKqueues (record { version = version; events = [] }) k
 unfolding plans_from moments_from births_from
@@ -120,11 +116,12 @@ module _ (t : Traced) (e : Event) (place : ℕ) (old : World) (effect : Effect) 
   by : IsEffectOf (plan (end t e) e (now t e)) effect
   by = subst (λ n. IsEffectOf (plan n e (now t e)) effect) (sym at) (subst (λ (w : model.World counted). IsEffectOf (plan place e w) effect) before.world of)
 
-  pub log-next : (clock : ℕ) (kqueue : Option ℕ) (l l' : Log) → clock ≡ (world_of old).now → kqueue ≡ kqueue_of e (world_of old)
-      → ((w : model.World counted) → clock ≡ w.now → kqueue ≡ kqueue_of e w → IsLoggedNext place e effect w l l') → IsLogged t l → IsLogged (longer t e) l'
-  log-next clock kqueue l l' clock_is kqueue_is next logged =
-      logged-next t e counts (plan (end t e) e (now t e)) refl effect by l l' logged
-      (subst (λ n. IsLoggedNext n e effect (now t e) l l') (sym at)
+  pub items-next : (clock : ℕ) (kqueue : Option ℕ) (kept items more : List Item) → clock ≡ (world_of old).now → kqueue ≡ kqueue_of e (world_of old)
+      → ((w : model.World counted) → clock ≡ w.now → kqueue ≡ kqueue_of e w → AreSaidNext place e effect w items more)
+      → AreAllSaid kept t items → AreAllSaid kept (longer t e) more
+  items-next clock kqueue kept items more clock_is kqueue_is next said =
+      said-next t e counts (plan (end t e) e (now t e)) refl effect by kept items more said
+      (subst (λ n. AreSaidNext n e effect (now t e) items more) (sym at)
       (next (now t e) (clock_is ∙ ap (λ (w : model.World counted). w.now) before.world) (kqueue_is ∙ ap (kqueue_of e) before.world)))
 
   pub kqueues-next : (new : World) (kqueue : Option ℕ) (k k' : Kqueues) → IsWorldAfter (longer t e) new → kqueue ≡ kqueue_of e (world_of old)

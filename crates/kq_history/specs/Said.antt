@@ -68,6 +68,10 @@ AreNamedBy ms (b ∷ bs) (c ∷ cs) = IsNamedBy ms b c × AreNamedBy ms bs cs
 abbrev pub CallsBelow : ℕ → Moment → Type 0
 CallsBelow next m = (c : Call) → m.call ≡ Some c → c.kqueue < next
 
+-- these, behind what came before them, are all that they say
+abbrev pub AreAllSaid : List Item → Traced → List Item → Type 0
+AreAllSaid before t items = before ++ items ≡ bare_items (all_items (moments_of t))
+
 -- the log has all that they say
 pub record IsLogged (t : Traced) (l : Log) : Type 0 where
   pub items : l.items.items ≡ bare_items (all_items (moments_of t))

@@ -89,7 +89,7 @@ impl Kqueues {
     }
 
     /// A call of the kqueue that was made at a place: what its changes name concerns it. Where none
-    /// was made there, nothing changes.
+    /// was made there, nothing changes. A call without changes costs nothing.
     pub fn call<V: Views>(
         &mut self,
         place: u64,
@@ -101,6 +101,9 @@ impl Kqueues {
         ensures places { self.new.places.items ≡ self.old.places.items }
         ensures named { OnOk result (IsNamedAt place (V.sees views.now) changes.now self.old self.new) }
     {
+        if changes.is_empty() {
+            return Ok(());
+        }
         match find(self.places.as_slice(), place) {
             None => Ok(()),
             Some(index) => self.concerned[index].name_all(changes, views),

@@ -1,19 +1,21 @@
-ghost use Rattle.std.specs.Prelude.{◌≡◌, ◌++◌, [], length, map, OnOk};
+ghost use Rattle.std.specs.Prelude.{◌≡◌, ◌++◌, length, map, OnOk};
 ghost use Rattle.std.specs.List.Sorted.{IsStrictlyIncreasing};
 ghost use Rattle.kq_model.specs.Items.{clock_whats, Closed, Told};
+ghost use Rattle.kq_model.specs.Objects.{counted};
+ghost use Rattle.kq_model.specs.World as model;
 ghost use Rattle.kq_model.specs.World.{views_of};
 ghost use Rattle.kq_process.specs.Effects.{pairs_in};
 ghost use Rattle.kq_process.specs.World.{world_of};
-ghost use Rattle.kq_history.specs.Log.{AreShelved};
+ghost use Rattle.kq_history.specs.Heard.{AreSaidNext};
 ghost use Rattle.kq_history.specs.Said.{called_items, said_items, said_whats, AreHeard};
 ghost use Rattle.kq_history.specs.Sayings.{born_of, call_by, clock_of, kqueue_of};
 
 use crate::item::{Item, What};
+use crate::items::Items;
 use crate::kqueues::Kqueues;
 use crate::log::Log;
 use kq_model::{Event, Hint, Memory, Named, Target};
 use kq_process::{Effect, World};
-use std::alloc::Global;
 
 /// What the records of a trace say to kqueues.
 #[derive(Drop)]
@@ -55,78 +57,73 @@ pub fn called(event: &Event, world: &World) -> Option<u64>
     }
 }
 
-impl Said {
-    /// Of no record.
-    pub fn new(alloc: Global) -> Self
-        ensures log { result.log.items.items ≡ [] }
-        ensures shelved { AreShelved [] result.log.shelves.table }
-        ensures places { result.kqueues.places.items ≡ [] }
-        ensures concerned { result.kqueues.concerned.items ≡ [] }
-    {
-        Said {
-            log: Log::new(alloc),
-            kqueues: Kqueues::new(alloc),
-        }
-    }
-}
-
-/// Logs what a possible record says. After Memory nothing is known.
-pub fn log_record(
-    log: &mut Log,
+/// Adds what the record of a place says, where it was possible. After Memory nothing is known.
+pub fn say(
+    items: &mut Items,
     place: u64,
     event: &Event,
     effect: &Effect,
     before: Before,
 ) -> Result<(), Memory>
-    ensures items { OnOk result (log.new.items.items ≡ log.old.items.items
-        ++ said_items place effect.now.closed effect.now.hints (clock_of event.now before.clock) before.kqueue) }
-    ensures shelved { OnOk result (AreShelved log.old.items.items log.old.shelves.table
-        → AreShelved log.new.items.items log.new.shelves.table) }
+    ensures { OnOk result ((old : model.World counted) → before.clock ≡ old.now
+        → before.kqueue ≡ kqueue_of event.now old
+        → AreSaidNext place event.now effect.now old items.old.list.items items.new.list.items) }
 {
-    push_closed(log, place, effect.closed.as_slice())?;
-    push_told(log, place, effect.hints.as_slice())?;
-    push_clock(log, place, event, before.clock)?;
-    push_call(log, place, before.kqueue)
+    match effect.verdict {
+        Err(_) => Ok(()),
+        Ok(()) => say_record(items, place, event, effect, before),
+    }
 }
 
-fn push_closed(log: &mut Log, place: u64, closed: &[(u32, u32)]) -> Result<(), Memory>
-    ensures items { OnOk result (log.new.items.items
-        ≡ log.old.items.items ++ said_whats place (map Closed (pairs_in closed.now))) }
-    ensures shelved { OnOk result (AreShelved log.old.items.items log.old.shelves.table
-        → AreShelved log.new.items.items log.new.shelves.table) }
+/// Adds what a possible record says.
+fn say_record(
+    items: &mut Items,
+    place: u64,
+    event: &Event,
+    effect: &Effect,
+    before: Before,
+) -> Result<(), Memory>
+    ensures { OnOk result (items.new.list.items ≡ items.old.list.items
+        ++ said_items place effect.now.closed effect.now.hints (clock_of event.now before.clock) before.kqueue) }
+{
+    push_closed(items, place, effect.closed.as_slice())?;
+    push_told(items, place, effect.hints.as_slice())?;
+    push_clock(items, place, event, before.clock)?;
+    push_call(items, place, before.kqueue)
+}
+
+fn push_closed(items: &mut Items, place: u64, closed: &[(u32, u32)]) -> Result<(), Memory>
+    ensures { OnOk result (items.new.list.items
+        ≡ items.old.list.items ++ said_whats place (map Closed (pairs_in closed.now))) }
 {
     for pair in closed {
         let what = What::Closed {
             pid: pair.0,
             number: pair.1,
         };
-        log.push(Item { place, what })?;
+        items.push(Item { place, what })?;
     }
     Ok(())
 }
 
-fn push_told(log: &mut Log, place: u64, hints: &[(Target, Hint)]) -> Result<(), Memory>
-    ensures items { OnOk result (log.new.items.items
-        ≡ log.old.items.items ++ said_whats place (map Told hints.now)) }
-    ensures shelved { OnOk result (AreShelved log.old.items.items log.old.shelves.table
-        → AreShelved log.new.items.items log.new.shelves.table) }
+fn push_told(items: &mut Items, place: u64, hints: &[(Target, Hint)]) -> Result<(), Memory>
+    ensures { OnOk result (items.new.list.items
+        ≡ items.old.list.items ++ said_whats place (map Told hints.now)) }
 {
     for told in hints {
         let what = What::Told {
             target: told.0,
             hint: told.1,
         };
-        log.push(Item { place, what })?;
+        items.push(Item { place, what })?;
     }
     Ok(())
 }
 
 #[tactic(auto, unfolding(crate::specs::Sayings::clock_of, crate::specs::Sayings::span_to, kq_model::specs::Items::clock_whats))]
-fn push_clock(log: &mut Log, place: u64, event: &Event, from: u64) -> Result<(), Memory>
-    ensures items { OnOk result (log.new.items.items
-        ≡ log.old.items.items ++ said_whats place (clock_whats (clock_of event.now from))) }
-    ensures shelved { OnOk result (AreShelved log.old.items.items log.old.shelves.table
-        → AreShelved log.new.items.items log.new.shelves.table) }
+fn push_clock(items: &mut Items, place: u64, event: &Event, from: u64) -> Result<(), Memory>
+    ensures { OnOk result (items.new.list.items
+        ≡ items.old.list.items ++ said_whats place (clock_whats (clock_of event.now from))) }
 {
     match event {
         Event::Clock { ns } => {
@@ -137,22 +134,20 @@ fn push_clock(log: &mut Log, place: u64, event: &Event, from: u64) -> Result<(),
                 from,
                 to: *ns as u64,
             };
-            log.push(Item { place, what })
+            items.push(Item { place, what })
         }
         _ => Ok(()),
     }
 }
 
-fn push_call(log: &mut Log, place: u64, kqueue: Option<u64>) -> Result<(), Memory>
-    ensures items { OnOk result (log.new.items.items ≡ log.old.items.items ++ called_items place kqueue) }
-    ensures shelved { OnOk result (AreShelved log.old.items.items log.old.shelves.table
-        → AreShelved log.new.items.items log.new.shelves.table) }
+fn push_call(items: &mut Items, place: u64, kqueue: Option<u64>) -> Result<(), Memory>
+    ensures { OnOk result (items.new.list.items ≡ items.old.list.items ++ called_items place kqueue) }
 {
     match kqueue {
         None => Ok(()),
         Some(kqueue) => {
             let what = What::Called { kqueue };
-            log.push(Item { place, what })
+            items.push(Item { place, what })
         }
     }
 }

@@ -15,6 +15,17 @@ use kq_model::{Event, Memory, Named, Row, Target, Trace, View};
 use std::alloc::Global;
 use std::marker::Model;
 
+/// What a split kept beside its trace, which is no longer used. It has nothing of the trace, so it can be let go of
+/// wherever that is.
+#[derive(Drop)]
+pub struct Spent {
+    numbers: Timelines<(u32, u32), Option<Named>>,
+    views: Timelines<Target, Option<View>>,
+    clock: Timeline<u64>,
+    said: Said,
+    plain: Vec<Row>,
+}
+
 /// A trace with what was seen of the world after each of its records, what these say to kqueues, and
 /// the rows of those that are impossible.
 #[derive(Drop)]
@@ -42,7 +53,7 @@ impl<'a> Model for Split<'a> {
 }
 
 impl<'a> Split<'a> {
-    ghost use Rattle.kq_history.specs.Splitting.{IsHeardSoFar, IsWatchedWith};
+    ghost use Rattle.kq_history.specs.Splitting.{IsWatchedWith};
     ghost use Rattle.kq_history.specs.Traced.{places_of, plain_rows_of, seen_at, traced, IsBorn};
 
     /// One pass of the world over the trace. Its cost is that of the trace. Memory: a growth was refused.
@@ -55,8 +66,8 @@ impl<'a> Split<'a> {
         Ok(splitting.end(trace))
     }
 
-    /// The same from three thirds, each of which took all records of the trace: what was not handed over
-    /// yet is noted here. Its cost is that, and that of dropping their worlds. Memory: a growth was refused.
+    /// The same from three thirds, of which the one that watches took all records of the trace: what was not handed
+    /// over yet is noted and heard here. Its cost is that, and that of dropping the world. Memory: a growth was refused.
     #[tactic(auto, using(crate::proofs::ThirdsSplit::left_to_note, crate::proofs::ThirdsSplit::is_split))]
     pub fn of_thirds(
         trace: &'a Trace,
@@ -64,24 +75,52 @@ impl<'a> Split<'a> {
         noting: Noting,
         hearing: Hearing,
     ) -> Result<Self, Memory>
-        requires watched { IsWatchedWith noting (traced trace.now) watching }
-        requires heard { IsHeardSoFar (traced trace.now) hearing }
+        requires { IsWatchedWith noting hearing (traced trace.now) watching }
         ensures { IfOk result (λ s. s ≡ traced trace.now) }
     {
         let events = trace.events.as_slice();
-        let Watching { seen, kqueues, .. } = watching;
+        let Watching {
+            seen,
+            items,
+            kqueues,
+            plain,
+            ..
+        } = watching;
         let mut noting = noting;
         noting.take(&seen.sights)?;
-        let Hearing { log, plain, .. } = hearing;
+        let mut hearing = hearing;
+        hearing.take(&items)?;
         Ok(Split {
             version: trace.version,
             events,
             numbers: seen.numbers,
             views: noting.timelines,
             clock: seen.clock,
-            said: Said { log, kqueues },
+            said: Said {
+                log: hearing.log,
+                kqueues,
+            },
             plain,
         })
+    }
+
+    /// What it kept, to be let go of. It costs nothing.
+    pub fn spend(self) -> Spent {
+        let Split {
+            numbers,
+            views,
+            clock,
+            said,
+            plain,
+            ..
+        } = self;
+        Spent {
+            numbers,
+            views,
+            clock,
+            said,
+            plain,
+        }
     }
 
     /// The places where kqueues were made, rising.

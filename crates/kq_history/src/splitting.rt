@@ -2,27 +2,20 @@ ghost use Rattle.std.specs.Prelude.{◌≡◌, ◌+◌, ◌<◌, ◌^◌, ◌++�
 ghost use Rattle.kq_history.specs.Splitting.{AreSoMany, IsSplitSoFar};
 ghost use Rattle.kq_history.specs.Traced.{traced, Traced};
 
-use crate::hearing::{log_heard, put_plain};
-use crate::naming::name_kqueue;
+use crate::hearing::Hearing;
 use crate::noting::Noting;
-use crate::said::{Before, Said};
-use crate::seen::Seen;
+use crate::said::Said;
 use crate::split::Split;
-use crate::touched::Touched;
-use crate::tracking::track;
-use kq_model::{Event, Memory, Row, Trace};
-use kq_process::World;
+use crate::watching::Watching;
+use kq_model::{Event, Memory, Trace};
 use std::alloc::Global;
 
 /// A split of the records that came so far, part by part: so that it can run beside their reading.
 #[derive(Drop)]
 pub struct Splitting {
-    pub(crate) world: World,
-    pub(crate) seen: Seen,
+    pub(crate) watching: Watching,
     pub(crate) noting: Noting,
-    pub(crate) said: Said,
-    pub(crate) plain: Vec<Row>,
-    touched: Touched,
+    pub(crate) hearing: Hearing,
 }
 
 impl Splitting {
@@ -30,19 +23,13 @@ impl Splitting {
     pub fn new(alloc: Global) -> Result<Self, Memory>
         ensures { IfOk result (λ s. (version : ℕ) → IsSplitSoFar (record { version = version; events = [] }) s) }
     {
-        let world = World::new(alloc)?;
-        let seen = Seen::new(alloc);
+        let watching = Watching::new(alloc)?;
         let noting = Noting::new(alloc);
-        let said = Said::new(alloc);
-        let plain = Vec::new(alloc);
-        let touched = Touched::new(alloc);
+        let hearing = Hearing::new(alloc);
         Ok(Splitting {
-            world,
-            seen,
+            watching,
             noting,
-            said,
-            plain,
-            touched,
+            hearing,
         })
     }
 
@@ -55,23 +42,10 @@ impl Splitting {
             → IsSplitSoFar (record { version = t.version; events = t.events ++ events.now }) self.new) }
     {
         for (taken, event) in events.iter().enumerate() {
-            let place = before + taken as u64 + 1;
-            let before_it = Before::of(event, &self.world);
-            let world = &mut self.world;
-            let effect = track(place, event, world, &mut self.seen, &mut self.touched)?;
-            self.noting.take(&self.seen.sights)?;
-            self.seen.sights.clear();
-            log_heard(&mut self.said.log, place, event, &effect, before_it)?;
-            let kqueues = &mut self.said.kqueues;
-            name_kqueue(
-                kqueues,
-                place,
-                event,
-                &effect,
-                before_it.kqueue,
-                &self.world,
-            )?;
-            put_plain(&mut self.plain, place, &effect.verdict)?;
+            self.watching.take_one(before + taken as u64 + 1, event)?;
+            self.noting.take(&self.watching.seen.sights)?;
+            self.hearing.take(&self.watching.items)?;
+            self.watching.forget();
         }
         Ok(())
     }
@@ -83,19 +57,26 @@ impl Splitting {
     {
         let events = trace.events.as_slice();
         let Splitting {
-            seen,
+            watching,
             noting,
-            said,
+            hearing,
+        } = self;
+        let Watching {
+            seen,
+            kqueues,
             plain,
             ..
-        } = self;
+        } = watching;
         Split {
             version: trace.version,
             events,
             numbers: seen.numbers,
             views: noting.timelines,
             clock: seen.clock,
-            said,
+            said: Said {
+                log: hearing.log,
+                kqueues,
+            },
             plain,
         }
     }

@@ -11,6 +11,7 @@ use Rattle.kq_model.specs.Reading.{Good, Bad, reading}
 use Rattle.kq_model.specs.Report.{report_of}
 use Rattle.kq_model.specs.System.{rows}
 use Rattle.kqsim.specs.Workers.{IsWorkerCount}
+use Rattle.kqsim.specs.declared.replayed.Replayed.{Replayed}
 use Rattle.kqsim.specs.declared.fault.Fault.{Fault}
 use Rattle.kqsim.specs.declared.fault.Fault.TheVariants.{Usage, Read, Trace, Memory, Spawn, Write}
 
@@ -54,3 +55,8 @@ IsReplayFault version events workers Write = ⊥
 -- these are the rows of the trace, each once; by rising place they stand as in the fold
 abbrev pub AreRowsOf : ℕ → List Event → List Row → Type 0
 AreRowsOf version events found = IsPermutation found (rows version events) × Rise (rows version events)
+
+-- these bytes were read and replayed
+abbrev pub IsReplayed : List ℕ → Replayed → Type 0
+IsReplayed bytes r =
+    (reading bytes ≡ Good r.trace.version r.trace.events) × AreRowsOf r.trace.version r.trace.events r.rows

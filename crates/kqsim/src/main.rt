@@ -8,6 +8,7 @@ mod input;
 mod living;
 mod order;
 mod output;
+mod replayed;
 mod replaying;
 mod running;
 mod splitter;

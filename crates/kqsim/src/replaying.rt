@@ -1,26 +1,18 @@
 ghost use Rattle.std.specs.Prelude.{◌≡◌, ◌↔◌, IfErr, IfOk, IsErrOf};
-ghost use Rattle.std.specs.List.{All};
-ghost use Rattle.std.specs.List.Sorted.{IsPermutation};
-ghost use Rattle.kq_merge.specs.ByPlace.{NeverFall, rows_in};
 ghost use Rattle.kq_merge.specs.Merged.{IsReportByPlace};
 ghost use Rattle.kq_model.specs.Report.{report_of};
-ghost use Rattle.kqsim.specs.Replay.{AreRowsOf, IsFault, IsReplayFault, IsReport};
+ghost use Rattle.kqsim.specs.Replay.{AreRowsOf, IsFault, IsReport};
 ghost use Rattle.kqsim.specs.Workers.{IsWorkerCount};
 
 use crate::fault::Fault;
-use crate::splitter::Splitter;
-use crate::thirds::ThirdsSplitter;
+use crate::replayed::Replayed;
 use crate::workers::is_worker_count;
-use kq_history::Split;
-use kq_merge::{Merging, copied, report_by_place};
-use kq_model::{Memory, Row, Rows, Trace};
-use kq_replay::{Always, Gate, Open, RunFault, Starts, replay_all_with};
-use kq_trace::read_trace_told;
+use kq_history::Spent;
+use kq_merge::{Merging, report_by_place};
+use kq_model::{Memory, Trace};
+use kq_replay::{Always, Gate, Open, Starts};
 use std::sync::Wait;
 use std::thread::{Threads, join};
-
-/// With fewer workers the second pass of the world takes time from reading.
-const LEAST_FOR_THIRDS: u32 = 4;
 
 /// The report of the trace that the bytes are, replayed by so many workers, 1 to 256; any other
 /// number is [`Fault::Usage`], before all else.
@@ -57,98 +49,56 @@ pub fn replay_with<R: AllocGlobal + Threads + Wait + Sync, G: Gate + Sync, S: St
     if !is_worker_count(workers) {
         return Err(Fault::Usage);
     }
-    if workers < LEAST_FOR_THIRDS {
-        by_one_pass(rt, bytes, workers, gate, starts)
-    } else {
-        by_thirds(rt, bytes, workers, gate, starts)
+    let Replayed { trace, rows, spent } = Replayed::of(rt, bytes, workers, gate, starts)?;
+    written(rt, trace, rows, (spent, Vec::new(rt.alloc())), workers)
+}
+
+/// The same as [`replay`] of bytes that nobody else uses: they are let go of while the report is written.
+pub fn replay_owned<R: AllocGlobal + Threads + Wait + Sync>(
+    rt: &R,
+    bytes: Vec<u8>,
+    workers: u32,
+) -> Result<Vec<u8>, Fault>
+    ensures workers { IsErrOf result Fault.Usage ↔ ¬ IsWorkerCount workers }
+    ensures report { IfOk result (λ text. IsReport bytes.items text.items) }
+    ensures fault { IfErr result (IsFault bytes.items workers) }
+{
+    if !is_worker_count(workers) {
+        return Err(Fault::Usage);
     }
+    let Replayed { trace, rows, spent } = Replayed::of(
+        rt,
+        bytes.as_slice(),
+        workers,
+        &Open,
+        &Always,
+    )?;
+    written(rt, trace, rows, (spent, bytes), workers)
 }
 
-/// The report, where one thread splits the trace while others read it; by one worker it is split once it is read.
-#[tactic(auto, using(crate::proofs::ReplayedTraces::replay_fault, crate::proofs::ReplayedTraces::no_usage, crate::proofs::ReplayedTraces::read_fault))]
-fn by_one_pass<R: AllocGlobal + Threads + Wait + Sync, G: Gate + Sync, S: Starts>(
-    rt: &R,
-    bytes: &[u8],
-    workers: u32,
-    gate: &G,
-    starts: &S,
-) -> Result<Vec<u8>, Fault>
-    requires { IsWorkerCount workers }
-    ensures usage { ¬ IsErrOf result Fault.Usage }
-    ensures report { IfOk result (λ text. IsReport bytes.now text.items) }
-    ensures fault { IfErr result (IsFault bytes.now workers) }
-{
-    let mut splitter = Splitter::new(rt.alloc())?;
-    let trace = read_trace_told(rt, bytes, workers, &mut splitter)?;
-    let rows = replayed(rt, splitter.end(&trace), workers, gate, starts)?;
-    written(rt, trace, rows, workers)
-}
-
-/// The same, where three threads split it, so that there are two more than workers until the trace is read.
-#[tactic(auto, using(crate::proofs::ReplayedTraces::replay_fault, crate::proofs::ReplayedTraces::no_usage, crate::proofs::ReplayedTraces::read_fault))]
-fn by_thirds<R: AllocGlobal + Threads + Wait + Sync, G: Gate + Sync, S: Starts>(
-    rt: &R,
-    bytes: &[u8],
-    workers: u32,
-    gate: &G,
-    starts: &S,
-) -> Result<Vec<u8>, Fault>
-    requires { IsWorkerCount workers }
-    ensures usage { ¬ IsErrOf result Fault.Usage }
-    ensures report { IfOk result (λ text. IsReport bytes.now text.items) }
-    ensures fault { IfErr result (IsFault bytes.now workers) }
-{
-    let mut splitter = ThirdsSplitter::new(rt)?;
-    let trace = read_trace_told(rt, bytes, workers, &mut splitter)?;
-    let split = splitter.end(&trace)?;
-    let rows = replayed(rt, split, workers, gate, starts)?;
-    written(rt, trace, rows, workers)
-}
-
-/// The rows of a trace that was split: each of its kqueues is replayed alone, and those of impossible records are put
-/// beside their rows.
-fn replayed<R: AllocGlobal + Threads + Wait + Sync, G: Gate + Sync, S: Starts>(
-    rt: &R,
-    split: Split<'_>,
-    workers: u32,
-    gate: &G,
-    starts: &S,
-) -> Result<Merging, Fault>
-    requires { IsWorkerCount workers }
-    ensures rows { IfOk result (AreRowsOf split.entry.version split.entry.events) }
-    ensures fault { IfErr result (IsReplayFault split.entry.version split.entry.events workers) }
-{
-    let kqueues = match replay_all_with(rt, &split, workers, gate, starts) {
-        Ok(kqueues) => kqueues,
-        Err(RunFault::Workers) => return Err(Fault::Usage),
-        Err(RunFault::Memory) => return Err(Fault::Memory),
-        Err(RunFault::Spawn) => return Err(Fault::Spawn),
-    };
-    let plain = copied(rt.alloc(), split.plain_rows())?;
-    Ok(Merging::of(rt.alloc(), kqueues, plain)?)
-}
-
-/// The report of a trace of which these are the rows.
+/// The report of a trace of which these are the rows; what is spent is let go of with the trace.
 fn written<R: AllocGlobal + Threads + Sync>(
     rt: &R,
     trace: Trace,
     rows: Merging,
+    spent: (Spent, Vec<u8>),
     threads: u32,
 ) -> Result<Vec<u8>, Fault>
     requires { AreRowsOf trace.version trace.events rows }
     ensures report { IfOk result (λ text. text.items ≡ report_of trace.version trace.events) }
-    ensures fault { IfErr result (IsReplayFault trace.version trace.events threads) }
+    ensures fault { IfErr result (λ f. f ≡ Fault.Memory) }
 {
     let records = trace.events.len() as u64;
-    written_beside(rt, trace, rows, records, threads).map_err(|_| Fault::Memory)
+    let text = written_beside(rt, rows, records, (trace, spent), threads)?;
+    Ok(text)
 }
 
-/// Writes a report. By two threads or more one of them lets go of the trace meanwhile.
+/// Writes a report. By two threads or more one of them lets go of what is spent meanwhile.
 fn written_beside<R: AllocGlobal + Threads + Sync>(
     rt: &R,
-    trace: Trace,
     rows: Merging,
     records: u64,
+    spent: (Trace, (Spent, Vec<u8>)),
     threads: u32,
 ) -> Result<Vec<u8>, Memory>
     ensures { IfOk result (λ text. IsReportByPlace rows records text.items) }
@@ -159,7 +109,7 @@ fn written_beside<R: AllocGlobal + Threads + Sync>(
     let write = move || -> Result<Vec<u8>, Memory>
         ensures { IfOk result (λ text. IsReportByPlace rows records text.items) }
     { report_by_place(rt, rows, records, threads) };
-    let let_go = move || { drop(trace) };
+    let let_go = move || { drop(spent) };
     let (text, _) = join(rt, write, let_go);
     text
 }

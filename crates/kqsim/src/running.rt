@@ -7,7 +7,7 @@ use crate::input::read_in;
 use crate::living::{book_text, live_report};
 use crate::order::Order;
 use crate::output::write_out;
-use crate::replaying::replay;
+use crate::replaying::replay_owned;
 use crate::workers::{is_thread_count, is_worker_count};
 use std::io::{Read, Write};
 use std::sync::Wait;
@@ -58,7 +58,7 @@ fn carry_out<R: AllocGlobal + Threads + Wait + Sync, I: Read, O: Write>(
         return Err(Fault::Usage);
     }
     let bytes = read_in(rt.alloc(), reader, MOST_BYTES)?;
-    let text = output_of(rt, order, bytes.as_slice())?;
+    let text = output_of(rt, order, bytes)?;
     write_out(text.as_slice(), out)
 }
 
@@ -76,16 +76,16 @@ fn is_in_range(order: &Order) -> bool
 fn output_of<R: AllocGlobal + Threads + Wait + Sync>(
     rt: &R,
     order: &Order,
-    bytes: &[u8],
+    bytes: Vec<u8>,
 ) -> Result<Vec<u8>, Fault>
     ensures usage { IsErrOf result Fault.Usage ↔ ¬ IsInRange order.now }
-    ensures output { IfOk result (λ text. IsOutput order.now bytes.now text.items) }
-    ensures fault { IfErr result (IsOutputFault order.now bytes.now) }
+    ensures output { IfOk result (λ text. IsOutput order.now bytes.items text.items) }
+    ensures fault { IfErr result (IsOutputFault order.now bytes.items) }
 {
     match order {
-        Order::Replay { workers, .. } => replay(rt, bytes, *workers),
-        Order::Live { threads, .. } => live_report(rt, bytes, *threads),
-        Order::Book { threads, .. } => book_text(rt, bytes, *threads),
+        Order::Replay { workers, .. } => replay_owned(rt, bytes, *workers),
+        Order::Live { threads, .. } => live_report(rt, bytes.as_slice(), *threads),
+        Order::Book { threads, .. } => book_text(rt, bytes.as_slice(), *threads),
     }
 }
 

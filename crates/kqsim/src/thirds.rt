@@ -4,23 +4,24 @@ ghost use Rattle.std.specs.Prelude.{◌≡◌, ◌<◌, ◌+◌, ◌^◌, ◌++�
 ghost use Rattle.kq_history.specs.Traced.{traced};
 ghost use Rattle.kq_model.specs.declared.event.Event.{Event};
 ghost use Rattle.kq_trace.specs.Told.{HasHeard};
-ghost use Rattle.kqsim.specs.Splitter.{CanNote, CanWatch, HaveSplit, HeardSoFar, HearsOn, NotesOn, WatchesOn};
+ghost use Rattle.kqsim.specs.Splitter.{CanNote, CanWatch, HaveSplit, HearsOn, NotesOn, WatchesOn};
 
-use kq_history::{Hearing, Noting, Sights, Split, Watching};
+use kq_history::{Hearing, Items, Noting, Sights, Split, Watching};
 use kq_model::{Event, Memory, Trace};
 use kq_trace::Listener;
 use std::thread::{Threads, join_mut};
 
-/// The three thirds of a splitting, and room for what is handed over from one to another.
+/// The three thirds of a splitting, and room for what one hands over to the others.
 #[derive(Drop)]
 pub struct Thirds {
     pub watching: Watching,
     pub noting: Noting,
     pub hearing: Hearing,
     sights: Sights,
+    items: Items,
 }
 
-/// Splits the records that it is told of; those that come in pieces by each third on a thread.
+/// Splits the records that it is told of; those that come in pieces by each third on a thread of its own.
 #[derive(Drop)]
 pub struct ThirdsSplitter<'r, R> {
     rt: &'r R,
@@ -34,13 +35,15 @@ impl<'r, R: AllocGlobal + Threads + Sync> ThirdsSplitter<'r, R> {
     {
         let watching = Watching::new(rt.alloc())?;
         let noting = Noting::new(rt.alloc());
-        let hearing = Hearing::new(rt.alloc())?;
+        let hearing = Hearing::new(rt.alloc());
         let sights = Sights::new(rt.alloc());
+        let items = Items::new(rt.alloc());
         let thirds = Thirds {
             watching,
             noting,
             hearing,
             sights,
+            items,
         };
         Ok(ThirdsSplitter { rt, thirds })
     }
@@ -73,11 +76,12 @@ impl<'r, R: AllocGlobal + Threads + Sync> Listener for ThirdsSplitter<'r, R> {
             noting,
             hearing,
             sights,
+            items,
         } = &mut self.thirds;
-        watching.hand_over(sights);
+        watching.hand_over(sights, items);
         noting.take(sights)?;
-        watching.take(before, events)?;
-        hearing.take(before, events)
+        hearing.take(items)?;
+        watching.take(before, events)
     }
 
     fn hear_pieces(&mut self, before: u64, pieces: &[Vec<Event>]) -> Result<(), Memory> {
@@ -99,20 +103,6 @@ fn watch_all(watching: &mut Watching, before: u64, pieces: &[Vec<Event>]) -> Res
     Ok(())
 }
 
-/// The third that hears takes the records that follow, piece by piece.
-fn hear_all(hearing: &mut Hearing, before: u64, pieces: &[Vec<Event>]) -> Result<(), Memory>
-    requires few { before + length (flat_map (λ piece. piece.items) pieces.now) < 2 ^ 31 }
-    requires before { HasHeard HeardSoFar before hearing.old }
-    ensures { OnOk result (HearsOn before hearing.old hearing.new (flat_map (λ piece. piece.items) pieces.now)) }
-{
-    let mut count = before;
-    for piece in pieces {
-        hearing.take(count, piece.as_slice())?;
-        count += piece.len() as u64;
-    }
-    Ok(())
-}
-
 /// The third that notes takes what was seen.
 fn note_all(noting: &mut Noting, sights: &Sights) -> Result<(), Memory>
     requires { CanNote noting.old sights.now.list.items }
@@ -121,41 +111,39 @@ fn note_all(noting: &mut Noting, sights: &Sights) -> Result<(), Memory>
     noting.take(sights)
 }
 
-/// The thirds with a world take the records that follow, at the same time. Memory where one of them answers it.
-fn take_both<R: Threads + Sync>(
-    rt: &R,
-    watching: &mut Watching,
-    hearing: &mut Hearing,
-    before: u64,
-    pieces: &[Vec<Event>],
-) -> Result<(), Memory>
-    requires few { before + length (flat_map (λ piece. piece.items) pieces.now) < 2 ^ 31 }
-    requires watched { CanWatch before watching.old }
-    requires heard { HasHeard HeardSoFar before hearing.old }
-    ensures watched { OnOk result (WatchesOn before watching.old watching.new
-        (flat_map (λ piece. piece.items) pieces.now)) }
-    ensures heard { OnOk result (HearsOn before hearing.old hearing.new
-        (flat_map (λ piece. piece.items) pieces.now)) }
+/// The third that hears takes what was said.
+fn hear_all(hearing: &mut Hearing, items: &Items) -> Result<(), Memory>
+    ensures { OnOk result (HearsOn hearing.old hearing.new items.now.list.items) }
 {
-    let mut take_hearing = ||
-        requires { HasHeard HeardSoFar before hearing.now
-            × (before + length (flat_map (λ piece. piece.items) pieces.now) < 2 ^ 31) }
-        ensures { OnOk result (HearsOn before hearing.entry.now hearing.exit.now
-            (flat_map (λ piece. piece.items) pieces.entry.now)) }
-    { hear_all(hearing, before, pieces) };
-    let mut take_watching = ||
-        requires { CanWatch before watching.now
-            × (before + length (flat_map (λ piece. piece.items) pieces.now) < 2 ^ 31) }
-        ensures { OnOk result (WatchesOn before watching.entry.now watching.exit.now
-            (flat_map (λ piece. piece.items) pieces.entry.now)) }
-    { watch_all(watching, before, pieces) };
-    let (hearing_taken, watching_taken) = join_mut(rt, &mut take_hearing, &mut take_watching);
-    watching_taken?;
-    hearing_taken
+    hearing.take(items)
 }
 
-/// Each third takes what follows, at the same time: those with a world the records, the other one what was seen before
-/// them. Memory where one of them answers it.
+/// The thirds without a world take what was seen and said, at the same time. Memory where one of them answers it.
+fn keep_both<R: Threads + Sync>(
+    rt: &R,
+    noting: &mut Noting,
+    sights: &Sights,
+    hearing: &mut Hearing,
+    items: &Items,
+) -> Result<(), Memory>
+    requires { CanNote noting.old sights.now.list.items }
+    ensures noted { OnOk result (NotesOn noting.old noting.new sights.now.list.items) }
+    ensures heard { OnOk result (HearsOn hearing.old hearing.new items.now.list.items) }
+{
+    let mut note = ||
+        requires { CanNote noting.now sights.now.list.items }
+        ensures { OnOk result (NotesOn noting.entry.now noting.exit.now sights.entry.now.list.items) }
+    { note_all(noting, sights) };
+    let mut hear = ||
+        ensures { OnOk result (HearsOn hearing.entry.now hearing.exit.now items.entry.now.list.items) }
+    { hear_all(hearing, items) };
+    let (noted, heard) = join_mut(rt, &mut note, &mut hear);
+    noted?;
+    heard
+}
+
+/// Each third takes what follows, at the same time: the one with a world the records, the others what was seen and said
+/// before them. Memory where one of them answers it.
 fn take_all<R: Threads + Sync>(
     rt: &R,
     thirds: &mut Thirds,
@@ -172,21 +160,21 @@ fn take_all<R: Threads + Sync>(
         noting,
         hearing,
         sights,
+        items,
     } = thirds;
-    watching.hand_over(sights);
-    let mut note = ||
+    watching.hand_over(sights, items);
+    let mut keep = ||
         requires { CanNote noting.now sights.now.list.items }
-        ensures { OnOk result (NotesOn noting.entry.now noting.exit.now sights.entry.now.list.items) }
-    { note_all(noting, sights) };
-    let mut take = ||
-        requires { CanWatch before watching.now × HasHeard HeardSoFar before hearing.now
+        ensures noted { OnOk result (NotesOn noting.entry.now noting.exit.now sights.entry.now.list.items) }
+        ensures heard { OnOk result (HearsOn hearing.entry.now hearing.exit.now items.entry.now.list.items) }
+    { keep_both(rt, noting, sights, hearing, items) };
+    let mut watch = ||
+        requires { CanWatch before watching.now
             × (before + length (flat_map (λ piece. piece.items) pieces.now) < 2 ^ 31) }
-        ensures watched { OnOk result (WatchesOn before watching.entry.now watching.exit.now
+        ensures { OnOk result (WatchesOn before watching.entry.now watching.exit.now
             (flat_map (λ piece. piece.items) pieces.entry.now)) }
-        ensures heard { OnOk result (HearsOn before hearing.entry.now hearing.exit.now
-            (flat_map (λ piece. piece.items) pieces.entry.now)) }
-    { take_both(rt, watching, hearing, before, pieces) };
-    let (noted, taken) = join_mut(rt, &mut note, &mut take);
-    noted?;
-    taken
+    { watch_all(watching, before, pieces) };
+    let (kept, watched) = join_mut(rt, &mut keep, &mut watch);
+    kept?;
+    watched
 }

@@ -1,13 +1,8 @@
 use Rattle.std.proofs.Common.{◌≡◌, ◌++◌, map, take}
 use Rattle.kq_model.specs.Items.{Told}
-use Rattle.kq_history.specs.Log.{AreShelved}
 use Rattle.kq_history.specs.Said.{said_whats}
 use Rattle.kq_history.proofs.said.push_told.Given as goal
 
 abbrev pub invariant-loop-told : goal.invariant-loop-told
-invariant-loop-told l = record {
-  items : l.log.items.items
-      ≡ l.initial.log.items.items ++ said_whats l.place (map Told (take l.told-index l.hints));
-  shelved : AreShelved l.initial.log.items.items l.initial.log.shelves.table
-      → AreShelved l.log.items.items l.log.shelves.table;
-}
+invariant-loop-told l = l.items.list.items
+    ≡ l.initial.items.list.items ++ said_whats l.place (map Told (take l.told-index l.hints))

@@ -1,34 +1,29 @@
--- What was seen before is noted, and those with a world took the records that follow.
-use Rattle.std.proofs.Common.{rules, ◌≡◌, Result, Ok, Err, OnOk, length, subst}
+-- What was seen and said before is noted and heard, and the one with a world took the records that follow.
+use Rattle.std.proofs.Common.{rules, ◌≡◌, ◌++◌, List, Result, Ok, Err, OnOk, length}
+use Rattle.kq_history.specs.declared.item.Item.{Item}
 use Rattle.kq_trace.proofs.ToldParts.{events_in}
 use Rattle.kq_history.specs.Sights.{and_then, NotedViews}
 use Rattle.kq_history.specs.Traced.{Traced}
 use Rattle.kqsim.specs.Splitter.{HearsOn, NotesOn, WatchesOn}
 use Rattle.kqsim.proofs.thirds.take_all.Goals as goal
 
-from_ok : {T E : Type 0} (P : Type 0) (r : Result T E) (x : T) → r ≡ Ok x → OnOk r P → P
-from_ok P r x is p = subst (λ s. OnOk s P) is p
+when_ok : {T E : Type 0} {P Q : Type 0} (r : Result T E) → (P → Q) → OnOk r P → OnOk r Q
+when_ok (Ok x) f p = f p
+when_ok (Err e) f p = tt
 
-on_both : {T E : Type 0} {P Q S : Type 0} (r : Result T E) → (P → Q → S) → OnOk r P → OnOk r Q → OnOk r S
-on_both (Ok x) f p q = f p q
-on_both (Err e) f p q = tt
-
-pub join_mut-noted-requires-after_bounds : goal.join_mut-noted-requires-after_bounds
-join_mut-noted-requires-after_bounds g c = λ lifetimes alive.
+pub join_mut-kept-requires-after_bounds : goal.join_mut-kept-requires-after_bounds
+join_mut-kept-requires-after_bounds g c = λ lifetimes alive.
     let so_far = c.requires.before in
     let split = so_far.2 in
     let t : Traced = record { version = 1; events = so_far.0 } in (
-      (split.noted, length so_far.0, split.has_noted, c.hand_over.ensures.order split.noted t (split.watched 1)),
+      ((split.noted, length so_far.0, split.has_noted, c.hand_over.ensures.order split.noted split.said t (split.watched 1)), search rules),
       (
         (
-          (
-            and_then split.noted (length so_far.0) c.hand_over.new.sights.list.items,
-            (so_far.0, so_far.1, λ version. c.hand_over.ensures.watched split.noted (record { version = version; events = so_far.0 }) (split.watched version)),
-          ),
-          (so_far.0, so_far.1, split.heard),
-          c.requires.few,
+          and_then split.noted (length so_far.0) c.hand_over.new.sights.list.items,
+          split.said ++ c.hand_over.new.items.list.items,
+          (so_far.0, so_far.1, λ version. c.hand_over.ensures.watched split.noted split.said (record { version = version; events = so_far.0 }) (split.watched version)),
         ),
-        search rules,
+        c.requires.few,
       ),
     )
 
@@ -36,17 +31,20 @@ pub returns : goal.returns
 returns g c =
     let old = c.args.thirds.now in
     let sights = c.hand_over.new.sights.list.items in
-    let noted_all : NotesOn old.noting c.join_mut-noted.new.f.0.now sights = search rules in
-    let watched : OnOk c.join_mut-noted.result.1 (WatchesOn c.args.before c.hand_over.new.self c.join_mut-noted.new.g.1.now (events_in c.args.pieces.now)) = search rules in
-    let heard : OnOk c.join_mut-noted.result.1 (HearsOn c.args.before old.hearing c.join_mut-noted.new.g.2.now (events_in c.args.pieces.now)) = search rules in
-    on_both c.join_mut-noted.result.1
-    (λ watches hears so_far count is.
+    let items = c.hand_over.new.items.list.items in
+    let notes : NotesOn old.noting c.join_mut-kept.new.f.1.now sights = search rules in
+    let hears : HearsOn old.hearing c.join_mut-kept.new.f.3.now items = search rules in
+    let watched : OnOk c.join_mut-kept.result.1 (WatchesOn c.args.before c.hand_over.new.self c.join_mut-kept.new.g.0.now (events_in c.args.pieces.now)) = search rules in
+    when_ok c.join_mut-kept.result.1
+    (λ watches so_far count is.
     let noted : NotedViews = and_then is.noted (length so_far) sights in
+    let said : List Item = is.said ++ items in
     record {
       noted = noted;
-      has_noted = noted_all.on is.noted (length so_far) is.has_noted
-          (c.hand_over.ensures.order is.noted (record { version = 1; events = so_far }) (is.watched 1));
-      watched = watches.on noted so_far count
-          (λ version. c.hand_over.ensures.watched is.noted (record { version = version; events = so_far }) (is.watched version));
-      heard = hears.on so_far count is.heard;
-    }) watched heard
+      said = said;
+      has_noted = notes.on is.noted (length so_far) is.has_noted
+          (c.hand_over.ensures.order is.noted is.said (record { version = 1; events = so_far }) (is.watched 1));
+      has_logged = hears.on is.said is.has_logged;
+      watched = watches.on noted said so_far count
+          (λ version. c.hand_over.ensures.watched is.noted is.said (record { version = version; events = so_far }) (is.watched version));
+    }) watched

@@ -1,18 +1,30 @@
-use Rattle.std.proofs.Common.{List, sym, subst}
+use Rattle.std.proofs.Common.{List, sym, subst, ap, ◌∙◌, append-nil, ◌++◌}
 use Rattle.kq_model.specs.declared.event.Event.{Event}
+use Rattle.kq_history.specs.declared.item.Item.{Item}
+use Rattle.kq_history.specs.Said.{AreAllSaid}
 use Rattle.kq_history.specs.Split.{IsSplit, shown_by}
+use Rattle.kq_history.specs.Splitting.{HasLogged}
 use Rattle.kq_history.specs.Traced.{seen_at, traced}
+use Rattle.kq_history.proofs.HeardItems.{all_heard, none_behind}
 use Rattle.kq_history.proofs.SplitShown.{none-left}
 use Rattle.kq_history.proofs.splitting.Splitting.end.Goals as goal
 
 pub invariant_of-result : goal.invariant_of-result
 invariant_of-result c =
+    let t = traced c.args.trace.now in
+    let w = c.args.self.watching in
+    let thirds = c.requires.thirds in
+    let none = c.requires.handed_over in
     subst (λ (xs : List Event). IsSplit (record { version = c.args.trace.now.version; events = xs })
-    (shown_by c.args.self.seen.numbers c.args.self.noting.timelines c.args.self.seen.clock) c.args.self.said c.args.self.plain.items)
+    (shown_by w.seen.numbers c.args.self.noting.timelines w.seen.clock) (record { log = c.args.self.hearing.log; kqueues = w.kqueues }) w.plain.items)
     (sym c.as_slice-events.ensures) (record {
-      shows = none-left c.requires.noted (seen_at (traced c.args.trace.now)) c.args.self.seen c.args.self.noting c.requires.all_noted c.requires.has_noted c.requires.tracked.shows;
-      said = c.requires.said;
-      plain_is = c.requires.plain_is;
+      shows = none-left thirds.0 (seen_at t) w.seen c.args.self.noting none.sights thirds.2 thirds.4.tracked.shows;
+      said = record {
+        logged = all_heard t thirds.1 w.items.list.items c.args.self.hearing thirds.4.said
+            (none_behind thirds.1 w.items.list.items c.args.self.hearing none.items thirds.3);
+        kqueues = thirds.4.kqueues;
+      };
+      plain_is = thirds.4.plain_is;
       version_one = c.args.trace.now.version_one;
       countable = c.args.trace.now.countable;
     })

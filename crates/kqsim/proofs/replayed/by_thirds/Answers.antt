@@ -4,7 +4,7 @@ use Rattle.kq_history.specs.Traced.{Traced}
 use Rattle.kqsim.specs.Fault.{fault_of}
 use Rattle.kqsim.specs.Replay.{IsFault, IsReplayFault}
 use Rattle.kqsim.proofs.ReplayedTraces.{fault_of_replay, fault_passed, read_fault}
-use Rattle.kqsim.proofs.replaying.by_thirds.Goals as goal
+use Rattle.kqsim.proofs.replayed.by_thirds.Goals as goal
 
 pub read_trace_told-requires-after_bounds : goal.read_trace_told-requires-after_bounds
 read_trace_told-requires-after_bounds g c = λ lifetimes alive. (search rules, c.in_ok-splitter.ensures)

@@ -5,19 +5,19 @@ use Rattle.std.proofs.lemmas.List.Sorted.{IsPermutation-refl}
 use Rattle.kq_history.specs.Traced.{plain_rows_of}
 use Rattle.kq_merge.specs.ByPlace.{NeverFall, rows_in}
 use Rattle.kqsim.proofs.ReplayedTraces.{kqueues_never_fall, plain_never_falls, rows_again}
-use Rattle.kqsim.proofs.replaying.replayed.Goals as goal
+use Rattle.kqsim.proofs.replayed.rows_of.Goals as goal
 
 pub of-requires-clause-kqueues : goal.of-requires-clause-kqueues
-of-requires-clause-kqueues g c = kqueues_never_fall c.args.split c.in-Ok.kqueues.items c.in-Ok.ensures.ok
+of-requires-clause-kqueues g c = kqueues_never_fall c.args.split.now c.in-Ok.kqueues.items c.in-Ok.ensures.ok
 
 pub of-requires-clause-plain : goal.of-requires-clause-plain
 of-requires-clause-plain g c =
-    let are : c.in_ok-plain.plain.items ≡ plain_rows_of c.args.split = search rules in
-    subst NeverFall (sym are) (plain_never_falls c.args.split c.in-Ok.kqueues.items c.in-Ok.ensures.ok)
+    let are : c.in_ok-plain.plain.items ≡ plain_rows_of c.args.split.now = search rules in
+    subst NeverFall (sym are) (plain_never_falls c.args.split.now c.in-Ok.kqueues.items c.in-Ok.ensures.ok)
 
 pub returns-clause-rows : goal.returns-clause-rows
 returns-clause-rows g c =
-    let split = c.args.split in
+    let split = c.args.split.now in
     let kqueues = c.in-Ok.kqueues.items in
     let plain = c.in_ok-plain.plain.items in
     let are : plain ≡ plain_rows_of split = search rules in

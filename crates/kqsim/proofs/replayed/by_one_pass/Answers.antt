@@ -3,7 +3,7 @@ use Rattle.std.proofs.Common.{subst}
 use Rattle.kq_history.specs.Traced.{Traced}
 use Rattle.kqsim.specs.Replay.{IsFault, IsReplayFault}
 use Rattle.kqsim.proofs.ReplayedTraces.{fault_of_replay, fault_passed}
-use Rattle.kqsim.proofs.replaying.by_one_pass.Goals as goal
+use Rattle.kqsim.proofs.replayed.by_one_pass.Goals as goal
 
 pub read_trace_told-requires-after_bounds : goal.read_trace_told-requires-after_bounds
 read_trace_told-requires-after_bounds g c = λ lifetimes alive. c.in_ok-splitter.ensures
@@ -13,6 +13,6 @@ returns-in_err-rows-clause-fault g c =
     let bytes = c.args.bytes.now in
     let trace = c.in_ok-trace.trace in
     let fault = c.in_err-rows.field-0.0 in
-    let is : IsReplayFault trace.version trace.events c.args.workers fault = subst (λ (t : Traced). IsReplayFault t.version t.events c.args.workers fault) c.end.ensures c.in_err-rows.ensures.fault in
+    let is : IsReplayFault trace.version trace.events c.args.workers fault = subst (λ (t : Traced). IsReplayFault t.version t.events c.args.workers fault) c.end-split.ensures c.in_err-rows.ensures.fault in
     fault_passed c.from_residual-in_err-rows.result fault (IsFault bytes c.args.workers) c.from_residual-in_err-rows.ensures.1
     (fault_of_replay bytes c.args.workers trace.version trace.events c.in_ok-trace.ensures.good fault is)
