@@ -26,6 +26,13 @@ impl Hearing {
         }
     }
 
+    /// Room for so many items more.
+    pub(crate) fn reserve(&mut self, count: usize) -> Result<(), Memory>
+        ensures { (before : List Item) → HasLogged before self.old → HasLogged before self.new }
+    {
+        self.log.reserve(count)
+    }
+
     /// What was said behind what was heard so far. Its cost is that of the items. After Memory nothing is known, and it
     /// is to be dropped.
     #[tactic(auto, using(crate::proofs::HeardItems::heard_on))]

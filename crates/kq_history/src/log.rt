@@ -36,6 +36,14 @@ impl Log {
         }
     }
 
+    /// Room for so many items more.
+    pub fn reserve(&mut self, count: usize) -> Result<(), Memory>
+        ensures items { self.new.items.items ≡ self.old.items.items }
+        ensures shelves { self.new.shelves ≡ self.old.shelves }
+    {
+        self.items.reserve(count).map_err(|_| Memory)
+    }
+
     /// One item more.
     pub fn push(&mut self, item: Item) -> Result<(), Memory>
         ensures items { OnOk result (self.new.items.items ≡ self.old.items.items ++ item ∷ []) }

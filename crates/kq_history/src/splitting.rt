@@ -41,6 +41,8 @@ impl Splitting {
         ensures { OnOk result ((t : Traced) → length t.events ≡ before → IsSplitSoFar t self.old
             → IsSplitSoFar (record { version = t.version; events = t.events ++ events.now }) self.new) }
     {
+        // Most records say one thing to kqueues.
+        self.hearing.reserve(events.len())?;
         for (taken, event) in events.iter().enumerate() {
             self.watching.take_one(before + taken as u64 + 1, event)?;
             self.noting.take(&self.watching.seen.sights)?;

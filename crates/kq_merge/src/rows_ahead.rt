@@ -1,6 +1,6 @@
 //! Rows that are merged as they are taken.
 
-ghost use Rattle.std.specs.Prelude.{◌≡◌, ◌≤◌, ◌++◌, IfOk, List};
+ghost use Rattle.std.specs.Prelude.{◌≡◌, ◌≤◌, ◌++◌, IfOk, List, OnOk};
 ghost use Rattle.std.specs.List.{All, flat_map};
 ghost use Rattle.std.specs.List.Sorted.{IsPermutation};
 ghost use Rattle.kq_merge.specs.AtPlaces.{present, AreTaken, IsFirstPlace};
@@ -51,6 +51,11 @@ impl Merging {
         Ok(Merging {
             runs: Vec::from(runs),
         })
+    }
+
+    /// How many runs there are, or u32's most where there are more.
+    pub(crate) fn run_count(&self) -> u32 {
+        u32::try_from(self.runs.len()).unwrap_or(u32::MAX)
     }
 
     /// Takes the rows of the places that come first, of no more places than so many; none only where none is left.
@@ -105,7 +110,7 @@ fn last_place(runs: &[Run]) -> u64 {
     last
 }
 
-/// Takes the rows of these places out of the runs, and gives those that are left.
+/// Takes the rows of these places out of the runs, and gives those that have rows left.
 fn taken(alloc: Global, runs: Vec<Run>, places: &mut Places) -> Result<Vec<Run>, Memory>
     requires { All (λ row. places.old.from ≤ row.at) (flat_map (λ run. run) runs.items) }
     ensures { IfOk result (λ left.
@@ -115,7 +120,17 @@ fn taken(alloc: Global, runs: Vec<Run>, places: &mut Places) -> Result<Vec<Run>,
     let mut ahead = VecDeque::from(runs);
     'runs: while let Some(mut run) = ahead.pop_front() {
         run.give(places)?;
-        left.push(run).map_err(|_| Memory)?;
+        keep(&mut left, run)?;
     }
     Ok(left)
+}
+
+/// Keeps a run behind the others, if it has rows.
+fn keep(runs: &mut Vec<Run>, run: Run) -> Result<(), Memory>
+    ensures { OnOk result (flat_map (λ run. run) runs.new.items ≡ flat_map (λ run. run) runs.old.items ++ run) }
+{
+    if run.is_empty() {
+        return Ok(());
+    }
+    runs.push(run).map_err(|_| Memory)
 }

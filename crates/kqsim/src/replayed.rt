@@ -18,7 +18,7 @@ use std::thread::Threads;
 /// With fewer workers those that split would take time from those that read.
 const LEAST_FOR_THIRDS: u32 = 4;
 
-/// A trace, its rows, and what is to be let go of with it.
+/// A trace, its rows, and what the split kept, which is used no more.
 #[derive(Drop)]
 pub struct Replayed {
     pub trace: Trace,

@@ -1,5 +1,4 @@
 ghost use Rattle.std.specs.Prelude.{◌≡◌, ◌↔◌, IfErr, IfOk, IsErrOf};
-ghost use Rattle.kq_merge.specs.Merged.{IsReportByPlace};
 ghost use Rattle.kq_model.specs.Report.{report_of};
 ghost use Rattle.kqsim.specs.Replay.{AreRowsOf, IsFault, IsReport};
 ghost use Rattle.kqsim.specs.Workers.{IsWorkerCount};
@@ -7,12 +6,12 @@ ghost use Rattle.kqsim.specs.Workers.{IsWorkerCount};
 use crate::fault::Fault;
 use crate::replayed::Replayed;
 use crate::workers::is_worker_count;
-use kq_history::Spent;
 use kq_merge::{Merging, report_by_place};
-use kq_model::{Memory, Trace};
+use kq_model::Trace;
 use kq_replay::{Always, Gate, Open, Starts};
+use std::mem::forget;
 use std::sync::Wait;
-use std::thread::{Threads, join};
+use std::thread::Threads;
 
 /// The report of the trace that the bytes are, replayed by so many workers, 1 to 256; any other
 /// number is [`Fault::Usage`], before all else.
@@ -49,12 +48,13 @@ pub fn replay_with<R: AllocGlobal + Threads + Wait + Sync, G: Gate + Sync, S: St
     if !is_worker_count(workers) {
         return Err(Fault::Usage);
     }
-    let Replayed { trace, rows, spent } = Replayed::of(rt, bytes, workers, gate, starts)?;
-    written(rt, trace, rows, (spent, Vec::new(rt.alloc())), workers)
+    let Replayed { trace, rows, .. } = Replayed::of(rt, bytes, workers, gate, starts)?;
+    written(rt, &trace, rows, workers)
 }
 
-/// The same as [`replay`] of bytes that nobody else uses: they are let go of while the report is written.
-pub fn replay_owned<R: AllocGlobal + Threads + Wait + Sync>(
+/// The same as [`replay`], for a program that ends once the report is out: the bytes, the trace and what the split kept
+/// are left to the end of the process, which gives all memory back at once.
+pub fn replay_to_end<R: AllocGlobal + Threads + Wait + Sync>(
     rt: &R,
     bytes: Vec<u8>,
     workers: u32,
@@ -73,43 +73,23 @@ pub fn replay_owned<R: AllocGlobal + Threads + Wait + Sync>(
         &Open,
         &Always,
     )?;
-    written(rt, trace, rows, (spent, bytes), workers)
-}
-
-/// The report of a trace of which these are the rows; what is spent is let go of with the trace.
-fn written<R: AllocGlobal + Threads + Sync>(
-    rt: &R,
-    trace: Trace,
-    rows: Merging,
-    spent: (Spent, Vec<u8>),
-    threads: u32,
-) -> Result<Vec<u8>, Fault>
-    requires { AreRowsOf trace.version trace.events rows }
-    ensures report { IfOk result (λ text. text.items ≡ report_of trace.version trace.events) }
-    ensures fault { IfErr result (λ f. f ≡ Fault.Memory) }
-{
-    let records = trace.events.len() as u64;
-    let text = written_beside(rt, rows, records, (trace, spent), threads)?;
+    let text = written(rt, &trace, rows, workers)?;
+    forget((trace, spent, bytes));
     Ok(text)
 }
 
-/// Writes a report. By two threads or more one of them lets go of what is spent meanwhile.
-fn written_beside<R: AllocGlobal + Threads + Sync>(
+/// The report of a trace of which these are the rows, written by at most so many threads.
+fn written<R: AllocGlobal + Threads + Sync>(
     rt: &R,
+    trace: &Trace,
     rows: Merging,
-    records: u64,
-    spent: (Trace, (Spent, Vec<u8>)),
     threads: u32,
-) -> Result<Vec<u8>, Memory>
-    ensures { IfOk result (λ text. IsReportByPlace rows records text.items) }
+) -> Result<Vec<u8>, Fault>
+    requires { AreRowsOf trace.now.version trace.now.events rows }
+    ensures report { IfOk result (λ text. text.items ≡ report_of trace.now.version trace.now.events) }
+    ensures fault { IfErr result (λ f. f ≡ Fault.Memory) }
 {
-    if threads < 2 {
-        return report_by_place(rt, rows, records, threads);
-    }
-    let write = move || -> Result<Vec<u8>, Memory>
-        ensures { IfOk result (λ text. IsReportByPlace rows records text.items) }
-    { report_by_place(rt, rows, records, threads) };
-    let let_go = move || { drop(spent) };
-    let (text, _) = join(rt, write, let_go);
-    text
+    let records = trace.events.len() as u64;
+    let text = report_by_place(rt, rows, records, threads)?;
+    Ok(text)
 }

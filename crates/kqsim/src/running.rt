@@ -7,7 +7,7 @@ use crate::input::read_in;
 use crate::living::{book_text, live_report};
 use crate::order::Order;
 use crate::output::write_out;
-use crate::replaying::replay_owned;
+use crate::replaying::replay_to_end;
 use crate::workers::{is_thread_count, is_worker_count};
 use std::io::{Read, Write};
 use std::sync::Wait;
@@ -83,7 +83,7 @@ fn output_of<R: AllocGlobal + Threads + Wait + Sync>(
     ensures fault { IfErr result (IsOutputFault order.now bytes.items) }
 {
     match order {
-        Order::Replay { workers, .. } => replay_owned(rt, bytes, *workers),
+        Order::Replay { workers, .. } => replay_to_end(rt, bytes, *workers),
         Order::Live { threads, .. } => live_report(rt, bytes.as_slice(), *threads),
         Order::Book { threads, .. } => book_text(rt, bytes.as_slice(), *threads),
     }

@@ -23,6 +23,12 @@ const FIRST_PLACES: u32 = 8_192;
 /// The later ones have no more: their rows are a few megabytes.
 const MOST_PLACES: u32 = 131_072;
 
+/// The rounds of one thread have no fewer.
+const LEAST_PLACES: u32 = 2_048;
+
+/// The rounds of one thread have so many for each kqueue that has rows.
+const PLACES_EACH: u32 = 4;
+
 /// A report that is being written.
 #[derive(Drop)]
 pub struct Writing {
@@ -122,15 +128,25 @@ fn take_and_let_go<R: AllocGlobal + Threads + Sync>(
     round
 }
 
+/// The places of a round of one thread: few, so that what is written was just taken, but not so few that looking at each
+/// kqueue for each round costs more than that.
+fn places_alone(left: &Merging) -> u32 {
+    left.run_count()
+        .saturating_mul(PLACES_EACH)
+        .clamp(LEAST_PLACES, MOST_PLACES)
+}
+
 /// The lines of all rows by place, and what the last line counts of them, by the calling thread.
 fn text_alone(alloc: Global, rows: Merging) -> Result<ReportText, Memory>
     ensures { IfOk result (AreWrittenByPlace rows) }
 {
     let mut text = ReportText::new(alloc);
-    let mut round = rows.next_round(alloc, MOST_PLACES)?;
+    let places = places_alone(&rows);
+    let mut round = rows.next_round(alloc, places)?;
     'rounds: while !have_no_row(round.slots.as_slice()) {
         text = with_slots(text, round.slots.as_slice())?;
-        round = round.left.next_round(alloc, MOST_PLACES)?;
+        let places = places_alone(&round.left);
+        round = round.left.next_round(alloc, places)?;
     }
     Ok(text)
 }

@@ -36,12 +36,12 @@ runs-preserved c =
     let run = c.in-Some.run' in
     let given = c.give.new.self in
     let rest = c.pop_front.new.self.items in
-    let grown : c.push.new.self.items ≡ left ++ given ∷ [] = search rules in
     let past = subst (λ l. All (λ row. from ≤ row.at) (flat l)) c.in-Some.ensures.items c.runs.invariant.3 in
+    let kept : flat c.keep.new.runs.items ≡ flat left ++ given = search rules in
     let more = taken_more c.args.places.now c.runs.places c.give.new.places (flat done) (flat left) run given c.runs.invariant.2 c.in_ok-give.ensures in (
       done ++ run ∷ [],
       c.runs.invariant.1 ∙ ap (λ l. done ++ l) c.in-Some.ensures.items ∙ sym (append_assoc done (run ∷ []) rest),
-      subst (λ l. AreTaken c.args.places.now c.give.new.places (flat (done ++ run ∷ [])) l) (sym (ap flat grown ∙ flat_push left given))
+      subst (λ l. AreTaken c.args.places.now c.give.new.places (flat (done ++ run ∷ [])) l) (sym kept)
           (subst (λ l. AreTaken c.args.places.now c.give.new.places l (flat left ++ given)) (sym (flat_push done run)) more),
       (all_apart (λ row. from ≤ row.at) run (flat rest) past).1,
     )

@@ -11,7 +11,13 @@ use Rattle.kq_history.proofs.splitting.Splitting.take.Goals as goal
 pub loop-taken-init : goal.loop-taken-init
 loop-taken-init c =
     λ (t : Traced) (at : length t.events ≡ c.args.before) (so_far : IsSplitSoFar t c.args.self.now).
-    subst (λ (xs : List Event). IsSplitSoFar (record { version = t.version; events = xs }) c.args.self.now) (sym (none-follow t c.args.events.now)) so_far
+    let given = c.args.self.now in
+    let thirds = so_far.thirds in
+    let roomy : Splitting = record { watching = given.watching; noting = given.noting; hearing = c.reserve.new.self } in
+    subst (λ (xs : List Event). IsSplitSoFar (record { version = t.version; events = xs }) roomy) (sym (none-follow t c.args.events.now)) (record {
+      thirds = (thirds.0, thirds.1, thirds.2, c.reserve.ensures thirds.1 thirds.3, thirds.4);
+      handed_over = so_far.handed_over;
+    })
 
 pub take_one-requires : goal.take_one-requires
 take_one-requires c =
