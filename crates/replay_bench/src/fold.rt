@@ -1,5 +1,8 @@
 //! One fold of the whole system, on the calling thread.
 
+ghost use Rattle.std.specs.Prelude.{◌≡◌, IfOk};
+ghost use Rattle.kq_model.specs.Report.{report_of};
+
 use crate::watch::Watch;
 use kq_merge::{ReportText, report_text};
 use kq_model::limits::MOST_RECORDS;
@@ -27,7 +30,10 @@ pub fn fold<R: AllocGlobal + Clock + CpuClock + Threads + Sync, O: Write, W: Wri
 }
 
 /// The report of a trace.
-fn folded(alloc: Global, trace: &Trace) -> Result<Vec<u8>, Memory> {
+#[tactic(auto, unfolding(kq_model::specs::Report::report_of))]
+fn folded(alloc: Global, trace: &Trace) -> Result<Vec<u8>, Memory>
+    ensures { IfOk result (λ text. text.items ≡ report_of trace.now.version trace.now.events) }
+{
     let rows = System::run(alloc, trace)?;
     report_text(alloc, rows.as_slice(), trace.events.len() as u64)
 }
