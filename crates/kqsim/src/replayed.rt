@@ -7,6 +7,7 @@ ghost use Rattle.kqsim.specs.Workers.{IsWorkerCount};
 use crate::fault::Fault;
 use crate::splitter::Splitter;
 use crate::thirds::ThirdsSplitter;
+use crate::workers::{MANY_WORKERS, threads_of};
 use kq_history::{Spent, Split};
 use kq_merge::{Merging, copied};
 use kq_model::Trace;
@@ -14,9 +15,6 @@ use kq_replay::{Gate, RunFault, Starts, replay_all_with};
 use kq_trace::read_trace_told;
 use std::sync::Wait;
 use std::thread::Threads;
-
-/// With fewer workers those that split would take time from those that read.
-const LEAST_FOR_THIRDS: u32 = 4;
 
 /// A trace, its rows, and what the split kept, which is used no more.
 #[derive(Drop)]
@@ -41,7 +39,7 @@ impl Replayed {
         ensures replayed { IfOk result (IsReplayed bytes.now) }
         ensures fault { IfErr result (IsFault bytes.now workers) }
     {
-        if workers < LEAST_FOR_THIRDS {
+        if workers < MANY_WORKERS {
             by_one_pass(rt, bytes, workers, gate, starts)
         } else {
             by_thirds(rt, bytes, workers, gate, starts)
@@ -71,7 +69,7 @@ fn by_one_pass<R: AllocGlobal + Threads + Wait + Sync, G: Gate + Sync, S: Starts
     Ok(Replayed { trace, rows, spent })
 }
 
-/// Three threads split it, so that there are two more than workers until the trace is read.
+/// Three threads split it, and as many as workers read, so that there are three more until the trace is read.
 #[tactic(auto, using(crate::proofs::ReplayedTraces::replay_fault, crate::proofs::ReplayedTraces::no_usage, crate::proofs::ReplayedTraces::read_fault))]
 fn by_thirds<R: AllocGlobal + Threads + Wait + Sync, G: Gate + Sync, S: Starts>(
     rt: &R,
@@ -86,7 +84,7 @@ fn by_thirds<R: AllocGlobal + Threads + Wait + Sync, G: Gate + Sync, S: Starts>(
     ensures fault { IfErr result (IsFault bytes.now workers) }
 {
     let mut splitter = ThirdsSplitter::new(rt)?;
-    let trace = read_trace_told(rt, bytes, workers, &mut splitter)?;
+    let trace = read_trace_told(rt, bytes, threads_of(workers), &mut splitter)?;
     let split = splitter.end(&trace)?;
     let rows = rows_of(rt, &split, workers, gate, starts)?;
     let spent = split.spend();

@@ -5,7 +5,7 @@ ghost use Rattle.kqsim.specs.Workers.{IsWorkerCount};
 
 use crate::fault::Fault;
 use crate::replayed::Replayed;
-use crate::workers::is_worker_count;
+use crate::workers::{is_worker_count, threads_of};
 use kq_merge::{Merging, report_by_place};
 use kq_model::Trace;
 use kq_replay::{Always, Gate, Open, Starts};
@@ -78,18 +78,18 @@ pub fn replay_to_end<R: AllocGlobal + Threads + Wait + Sync>(
     Ok(text)
 }
 
-/// The report of a trace of which these are the rows, written by at most so many threads.
+/// The report of a trace of which these are the rows.
 fn written<R: AllocGlobal + Threads + Sync>(
     rt: &R,
     trace: &Trace,
     rows: Merging,
-    threads: u32,
+    workers: u32,
 ) -> Result<Vec<u8>, Fault>
     requires { AreRowsOf trace.now.version trace.now.events rows }
     ensures report { IfOk result (λ text. text.items ≡ report_of trace.now.version trace.now.events) }
     ensures fault { IfErr result (λ f. f ≡ Fault.Memory) }
 {
     let records = trace.events.len() as u64;
-    let text = report_by_place(rt, rows, records, threads)?;
+    let text = report_by_place(rt, rows, records, threads_of(workers))?;
     Ok(text)
 }
