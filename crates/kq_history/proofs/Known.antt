@@ -1,10 +1,9 @@
 -- What comes to sources that stand each once: nothing, one that was there, one that was not, and one part after the other.
-use Rattle.std.proofs.Common.{◌≡◌, ◌||◌, ℕ, ◌+◌, ◌≤◌, Bool, true, false, cond, min, List, [], ◌∷◌, ◌++◌, drop, take, length, refl, sym, ap, subst, arith, ◌∙◌}
+use Rattle.std.proofs.Common.{◌≡◌, ◌||◌, ℕ, ◌+◌, ◌≤◌, Bool, true, false, cond, min, None, List, [], ◌∷◌, ◌++◌, drop, take, length, refl, sym, ap, subst, arith, rules, ◌∙◌}
 use Rattle.std.proofs.Math.ListN.{drop_of_length-le}
 use Rattle.std.proofs.lemmas.Grind.{common_steps}
 use Rattle.std.proofs.lemmas.List.{drop-append-le, length-append, take-append-drop}
 use Rattle.std.specs.Cmp.{IsEquivalence}
-use Rattle.std.specs.HashSet.{contains}
 use Rattle.std.specs.List.{list_any, IsDistinct}
 use Rattle.std.proofs.lemmas.List.Folds.{list_any-append}
 use Rattle.std.proofs.lemmas.Map.Keys.{IsDistinct-push}
@@ -12,7 +11,7 @@ use Rattle.std.proofs.lemmas.Map.Steps.{list_any_congr}
 use Rattle.kq_history.specs.declared.item.Source.{Source}
 use Rattle.kq_history.specs.declared.sources.Sources.{Sources}
 use Rattle.kq_history.specs.Items.{has_source, source_eq}
-use Rattle.kq_history.specs.Sources.{few_sources, AreKnown, Grows}
+use Rattle.kq_history.specs.Sources.{few_sources, is_known, AreKnown, Grows}
 
 or_nothing : (b : Bool) → (b || false) ≡ b
 or_nothing true = refl
@@ -25,6 +24,16 @@ or_true false = refl
 or_regrouped : (a b c : Bool) → ((a || b) || c) ≡ (a || (b || c))
 or_regrouped true b c = refl
 or_regrouped false b c = refl
+
+-- of no source, with no set
+pub none-known : (s : Sources) → s.list.items ≡ [] → s.known ≡ None → AreKnown s
+unfolding IsDistinct
+none-known s none unset = record {
+  distinct = subst (IsDistinct source_eq) (sym none) (search rules);
+  same = λ x.
+      ap (λ known. is_known known x) unset
+      ∙ sym (ap (λ items. has_source (drop few_sources items) x) none);
+}
 
 pub grows-nothing : (s : Sources) → Grows [] s s
 grows-nothing s = record { known = λ is. is; sources = λ is x. sym (or_nothing (has_source s.list.items x)) }
@@ -59,7 +68,7 @@ module _ (laws : IsEquivalence source_eq) where
   -- the source stands behind the others, and so in the set where these are not a few
   pub grows-by : (old new : Sources) (source : Source) → (AreKnown old → has_source old.list.items source ≡ false)
       → new.list.items ≡ old.list.items ++ source ∷ []
-      → (AreKnown old → (x : Source) → contains source_eq new.known x ≡ has_source (drop few_sources new.list.items) x)
+      → (AreKnown old → (x : Source) → is_known new.known x ≡ has_source (drop few_sources new.list.items) x)
       → Grows (source ∷ []) old new
   grows-by old new source absent pushed put =
       let has : (x : Source) → has_source new.list.items x ≡ (has_source old.list.items x || has_source (source ∷ []) x) =
@@ -76,20 +85,20 @@ module _ (laws : IsEquivalence source_eq) where
   -- one of the first few more: none is behind them
   pub first-more : (old new : Sources) (source : Source) → AreKnown old → new.list.items ≡ old.list.items ++ source ∷ []
       → length new.list.items ≤ few_sources → new.known ≡ old.known
-      → (x : Source) → contains source_eq new.known x ≡ has_source (drop few_sources new.list.items) x
+      → (x : Source) → is_known new.known x ≡ has_source (drop few_sources new.list.items) x
   first-more old new source is pushed few same x =
       let longer : length new.list.items ≡ length old.list.items + 1 =
       ap length pushed ∙ length-append old.list.items (source ∷ []) in
       let shorter : length old.list.items ≤ few_sources = omega (arith, few, longer) in
-      ap (λ known. contains source_eq known x) same ∙ is.same x
+      ap (λ known. is_known known x) same ∙ is.same x
       ∙ ap (λ items. has_source items x) (drop_of_length-le old.list.items shorter)
       ∙ ap (λ items. has_source items x) (sym (drop_of_length-le new.list.items few))
 
   -- one more behind the first few
   pub behind-more : (old new : Sources) (source : Source) → AreKnown old → new.list.items ≡ old.list.items ++ source ∷ []
       → few_sources ≤ length old.list.items
-      → ((x : Source) → contains source_eq new.known x ≡ cond (source_eq source x) true (contains source_eq old.known x))
-      → (x : Source) → contains source_eq new.known x ≡ has_source (drop few_sources new.list.items) x
+      → ((x : Source) → is_known new.known x ≡ cond (source_eq source x) true (is_known old.known x))
+      → (x : Source) → is_known new.known x ≡ has_source (drop few_sources new.list.items) x
   behind-more old new source is pushed many put x =
       let behind = drop few_sources old.list.items in
       let longer : drop few_sources new.list.items ≡ behind ++ source ∷ [] =
@@ -112,13 +121,13 @@ module _ (laws : IsEquivalence source_eq) where
   -- who looks through the first few and asks the set has looked through all
   pub looked-through : (s : Sources) (source : Source) (few : ℕ) → AreKnown s
       → few ≡ min (length s.list.items) few_sources
-      → (list_any (λ y. source_eq y source) (take few s.list.items) || contains source_eq s.known source)
+      → (list_any (λ y. source_eq y source) (take few s.list.items) || is_known s.known source)
       ≡ has_source s.list.items source
   looked-through s source few is is_min =
       let first = take few_sources s.list.items in
       let behind = drop few_sources s.list.items in
-      ap (λ xs. list_any (λ y. source_eq y source) xs || contains source_eq s.known source) (as-many s.list.items few is_min)
-      ∙ ap (λ b. b || contains source_eq s.known source) (turned source first)
+      ap (λ xs. list_any (λ y. source_eq y source) xs || is_known s.known source) (as-many s.list.items few is_min)
+      ∙ ap (λ b. b || is_known s.known source) (turned source first)
       ∙ ap (λ b. has_source first source || b) (is.same source)
       ∙ sym (list_any-append (source_eq source) first behind)
       ∙ ap (λ items. has_source items source) (take-append-drop few_sources s.list.items)

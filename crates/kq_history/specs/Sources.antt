@@ -1,6 +1,6 @@
 -- Sources, each once; and those of what the changes of a kqueue name.
-use Rattle.std.specs.Prelude.{◌≡◌, ◌||◌, ℕ, Bool, List, [], ◌∷◌, ◌++◌, drop, Option, Some, None, if◌then◌else◌}
-use Rattle.std.specs.HashSet.{contains}
+use Rattle.std.specs.Prelude.{◌≡◌, ◌||◌, ℕ, Bool, false, Box, List, [], ◌∷◌, ◌++◌, drop, Option, Some, None, if◌then◌else◌}
+use Rattle.std.specs.HashSet.{contains, HashSet}
 use Rattle.std.specs.List.{IsDistinct, flat_map}
 use Rattle.kq_model.specs.declared.change.Change.{Change}
 use Rattle.kq_model.specs.declared.object.Target.{Target}
@@ -16,10 +16,15 @@ use Rattle.kq_history.specs.Items.{has_source, source_eq}
 abbrev pub few_sources : ℕ
 few_sources = 8
 
+-- in a set, if there is one
+abbrev pub is_known : {S A : Type 0} → Option (Box (HashSet Source S) A) → Source → Bool
+is_known None x = false
+is_known (Some set) x = contains source_eq set.value x
+
 -- a list without doubles, and the set of those behind the first few
 pub record AreKnown (s : Sources) : Type 0 where
   pub distinct : IsDistinct source_eq s.list.items
-  pub same : (x : Source) → contains source_eq s.known x ≡ has_source (drop few_sources s.list.items) x
+  pub same : (x : Source) → is_known s.known x ≡ has_source (drop few_sources s.list.items) x
 
 -- these came to those that there were
 pub record Grows (extra : List Source) (old new : Sources) : Type 0 where

@@ -28,11 +28,12 @@ pub struct Item {
 
 /// What an item comes from. A kqueue is concerned by the items of the sources that its changes
 /// name, and by its own calls.
-#[derive(Debug, Drop, Clone, Copy, PartialEq, Eq)]
+#[derive(Debug, Drop, Clone, Copy, PartialEq, Eq, Default)]
 pub enum Source {
     /// A number of a process, as an ident of its changes.
     Number { pid: u32, number: u64 },
     Of(Target),
+    #[default]
     Clock,
     Kqueue(u64),
 }

@@ -14,6 +14,9 @@ use crate::weave::woven;
 use kq_model::Memory;
 use std::alloc::Global;
 
+/// There is room for no more sources than so many before they come.
+const MANY_SOURCES: usize = 8_192;
+
 /// All that the records of a trace say to kqueues, in order. The shelves say where the items of
 /// each source stand (`AreShelved`), but after Memory.
 #[derive(Drop)]
@@ -36,12 +39,14 @@ impl Log {
         }
     }
 
-    /// Room for so many items more.
+    /// Room for so many items more, and for their sources, if these are not very many.
     pub fn reserve(&mut self, count: usize) -> Result<(), Memory>
         ensures items { self.new.items.items ≡ self.old.items.items }
-        ensures shelves { self.new.shelves ≡ self.old.shelves }
+        ensures shelved { AreShelved self.old.items.items self.old.shelves.table
+            → AreShelved self.new.items.items self.new.shelves.table }
     {
-        self.items.reserve(count).map_err(|_| Memory)
+        self.items.reserve(count).map_err(|_| Memory)?;
+        self.shelves.reserve(count.min(MANY_SOURCES))
     }
 
     /// One item more.

@@ -2,6 +2,7 @@ ghost use Rattle.std.specs.Prelude.{◌≡◌, ◌++◌, ◌∷◌, [], IfOk, On
 ghost use Rattle.kq_history.specs.Shelves.{shelf_at, shelved};
 
 use kq_model::Memory;
+use smallvec::SmallVec;
 use std::alloc::Global;
 use std::collections::HashMap;
 use std::hash::Hash;
@@ -14,10 +15,13 @@ pub struct Shelves<K: Copy + Eq + Hash> {
     alloc: Global,
 }
 
+/// Most shelves have no more numbers, and need no memory for them.
+const FEW_NUMBERS: usize = 2;
+
 /// Numbers in the order in which they came.
 #[derive(Drop)]
 pub struct Shelf {
-    numbers: Vec<usize>,
+    numbers: SmallVec<usize, FEW_NUMBERS>,
 }
 
 impl Model for Shelf {
@@ -33,7 +37,7 @@ impl Shelf {
     fn one(alloc: Global, number: usize) -> Result<Self, Memory>
         ensures { IfOk result (λ s. s ≡ number ∷ []) }
     {
-        let mut numbers = Vec::new(alloc);
+        let mut numbers = SmallVec::new(alloc);
         numbers.push(number).map_err(|_| Memory)?;
         Ok(Shelf { numbers })
     }
@@ -61,6 +65,13 @@ impl<K: Copy + Eq + Hash> Shelves<K> {
             table: HashMap::new(alloc),
             alloc,
         }
+    }
+
+    /// Room for so many keys more.
+    pub fn reserve(&mut self, keys: usize) -> Result<(), Memory>
+        ensures { (key : K) → shelf_at K.eq self.new.table key ≡ shelf_at K.eq self.old.table key }
+    {
+        self.table.reserve(keys).map_err(|_| Memory)
     }
 
     /// The numbers under a key.

@@ -1,5 +1,7 @@
-ghost use Rattle.std.specs.Prelude.{◌≡◌, ◌++◌, ◌∷◌, [], false, IfOk, OnOk};
-ghost use Rattle.kq_history.specs.Items.{has_source};
+ghost use Rattle.std.specs.Prelude.{◌≡◌, ◌++◌, ◌∷◌, [], cond, false, true, IfOk, OnOk};
+ghost use Rattle.kq_history.specs.Items.{has_source, source_eq};
+ghost use Rattle.kq_history.specs.Sources.{is_known};
+ghost use Rattle.kq_history.specs.declared.item.Source.{Source as declared_source};
 ghost use Rattle.kq_model.specs.Knote.{is_timer, watches_number};
 ghost use Rattle.kq_model.specs.References.{named_target, unless_file};
 
@@ -7,8 +9,12 @@ use crate::item::Source;
 use kq_filters::Views;
 use kq_kevent::target_of;
 use kq_model::{Change, Filter, Memory, Target};
+use smallvec::SmallVec;
 use std::alloc::Global;
 use std::collections::HashSet;
+
+/// Most kqueues have no more, and need no memory for them: one for their calls, and one for what they watch.
+const SOURCES_OF_MOST: usize = 2;
 
 /// So many are looked through; only those behind them need a set.
 const FEW_SOURCES: usize = 8;
@@ -17,9 +23,9 @@ const FEW_SOURCES: usize = 8;
 /// need no set.
 #[derive(Drop)]
 pub struct Sources {
-    pub(crate) list: Vec<Source>,
-    /// Those behind the first few.
-    pub(crate) known: HashSet<Source>,
+    pub(crate) list: SmallVec<Source, SOURCES_OF_MOST>,
+    /// Those behind the first few, if there are any.
+    pub(crate) known: Option<Box<HashSet<Source>>>,
 }
 
 impl Sources {
@@ -32,8 +38,8 @@ impl Sources {
         ensures known { AreKnown result }
     {
         Sources {
-            list: Vec::new(alloc),
-            known: HashSet::new(alloc),
+            list: SmallVec::new(alloc),
+            known: None,
         }
     }
 
@@ -69,7 +75,7 @@ impl Sources {
     {
         let few = self.list.len().min(FEW_SOURCES);
         let (first, _) = self.list.as_slice().split_at(few);
-        first.contains(source) || (self.list.len() > FEW_SOURCES && self.known.contains(source))
+        first.contains(source) || is_known(&self.known, source)
     }
 
     /// One source more, which is not there.
@@ -80,7 +86,8 @@ impl Sources {
     {
         self.list.push(source).map_err(|_| Memory)?;
         if self.list.len() > FEW_SOURCES {
-            self.known.insert(source).map_err(|_| Memory)?;
+            let alloc = *self.list.allocator();
+            put_known(alloc, &mut self.known, source)?;
         }
         Ok(())
     }
@@ -140,6 +147,38 @@ impl Sources {
         }
         Ok(())
     }
+}
+
+/// Whether a source is among those behind the first few.
+fn is_known(known: &Option<Box<HashSet<Source>>>, source: &Source) -> bool
+    ensures { result ≡ is_known known.now source.now }
+{
+    match known {
+        None => false,
+        Some(set) => set.contains(source),
+    }
+}
+
+/// One more behind the first few. After Memory nothing is known.
+fn put_known(
+    alloc: Global,
+    known: &mut Option<Box<HashSet<Source>>>,
+    source: Source,
+) -> Result<(), Memory>
+    ensures { OnOk result ((other : declared_source)
+        → is_known known.new other ≡ cond (source_eq source other) true (is_known known.old other)) }
+{
+    match known {
+        Some(set) => {
+            set.insert(source).map_err(|_| Memory)?;
+        }
+        None => {
+            let mut set = HashSet::new(alloc);
+            set.insert(source).map_err(|_| Memory)?;
+            *known = Some(Box::new(alloc, set).map_err(|_| Memory)?);
+        }
+    }
+    Ok(())
 }
 
 /// Whether a filter watches what a number names.

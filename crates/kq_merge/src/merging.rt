@@ -30,7 +30,8 @@ pub fn runs_of(alloc: Global, kqueues: Vec<Rows>, plain: Vec<Row>) -> Result<Vec
     requires plain { NeverFall plain.items }
     ensures { IfOk result (λ runs. flat_map (λ run. run) runs.items ≡ rows_in kqueues.items plain.items) }
 {
-    let mut runs = VecDeque::new(alloc);
+    let room = kqueues.len().saturating_add(1);
+    let mut runs = VecDeque::with_capacity(alloc, room).map_err(|_| Memory)?;
     for kqueue in kqueues {
         let run = Run::from_vec(kqueue.rows.into_vec());
         runs.push_back(run).map_err(|_| Memory)?;

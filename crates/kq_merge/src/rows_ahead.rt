@@ -58,6 +58,15 @@ impl Merging {
         u32::try_from(self.runs.len()).unwrap_or(u32::MAX)
     }
 
+    /// How many rows there are, or usize's most where there are more.
+    pub(crate) fn row_count(&self) -> usize {
+        let mut count: usize = 0;
+        for run in &self.runs {
+            count = count.saturating_add(run.len());
+        }
+        count
+    }
+
     /// Takes the rows of the places that come first, of no more places than so many; none only where none is left.
     pub(crate) fn next_round(self, alloc: Global, most: u32) -> Result<Round, Memory>
         ensures { IfOk result (λ round. IsRound self (present round.slots.items) round.left) }

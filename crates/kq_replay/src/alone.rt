@@ -48,20 +48,21 @@ impl<'s, 'a> Model for Alone<'s, 'a> {
 }
 
 impl<'s, 'a> Alone<'s, 'a> {
-    /// A kqueue of this process, before the first record.
-    pub fn new(split: &'s Split<'a>, owner: u32) -> Self
-        ensures { result ≡ unborn split.now owner }
+    /// A kqueue of this process, before the first record, with room for the rows of so many calls.
+    pub fn new(split: &'s Split<'a>, owner: u32, calls: usize) -> Result<Self, Memory>
+        ensures { IfOk result (λ a. a ≡ unborn split.now owner) }
     {
         let alloc = split.allocator();
         let version = split.version();
         prove!(version == 1);
-        Alone {
+        let rows = Vec::with_capacity(alloc, calls).map_err(|_| Memory)?;
+        Ok(Alone {
             split,
             place: 0,
             kq: Kq::new(alloc, owner),
             told: Vec::new(alloc),
-            rows: Vec::new(alloc),
-        }
+            rows,
+        })
     }
 
     /// The kqueue after these items more.
@@ -197,9 +198,17 @@ pub fn rows_alone(split: &Split, owner: u32, items: &[Item]) -> Result<Series<Ro
     requires { All (IsRecorded split.now) items.now }
     ensures { IfOk result (λ rows. rows ≡ (after_items items.now (unborn split.now owner)).rows) }
 {
-    let mut alone = Alone::new(split, owner);
+    let mut alone = Alone::new(split, owner, calls_in(items))?;
     alone.go_over(items)?;
     Ok(alone.into_rows())
+}
+
+/// How many of these items are calls. Most of them give a row.
+fn calls_in(items: &[Item]) -> usize {
+    let calls = items
+        .iter()
+        .filter(|item| matches!(item.what, What::Called { .. }));
+    calls.count()
 }
 
 /// Adds the row of the reply to the record at a place, if it has one.

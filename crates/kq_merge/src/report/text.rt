@@ -38,6 +38,15 @@ impl ReportText {
         }
     }
 
+    /// No row yet, and room for so many bytes.
+    pub(crate) fn with_room(alloc: Global, bytes: usize) -> Result<Self, Memory>
+        ensures { IfOk result (λ text. text ≡ nothing_written) }
+    {
+        let mut text = ReportText::new(alloc);
+        text.lines.reserve(bytes).map_err(|_| Memory)?;
+        Ok(text)
+    }
+
     /// The text with the row of the reply to the record at a place; a record that was only done has
     /// no row.
     pub fn with_row(mut self, at: u64, reply: &Reply) -> Result<Self, Memory>

@@ -10,7 +10,7 @@ use Rattle.kq_merge.proofs.report.rounds.text_alone.Goals as goal
 pub rounds-init : goal.rounds-init
 rounds-init c =
     let round = c.in_ok-round.round in
-    ([], c.new-text.ensures ∙ nothing_is, first_round c.args.rows (present round.slots.items) round.left c.in_ok-round.ensures)
+    ([], c.in_ok-text.ensures ∙ nothing_is, first_round c.args.rows (present round.slots.items) round.left c.in_ok-round.ensures)
 
 pub rounds-smaller : goal.rounds-smaller
 rounds-smaller c =
@@ -25,7 +25,7 @@ rounds-preserved c =
     let next = c.in_ok-round-2.round in
     let slots : c.as_slice-in-rounds.result.now ≡ round.slots.items = search rules in (
       before ++ present round.slots.items,
-      c.in_ok-text.ensures before c.rounds.invariant.1 ∙ ap (λ l. written (before ++ present l)) slots,
+      c.in_ok-text-2.ensures before c.rounds.invariant.1 ∙ ap (λ l. written (before ++ present l)) slots,
       round_more c.args.rows before (present round.slots.items) round.left (present next.slots.items) next.left c.rounds.invariant.2
           c.in_ok-round-2.ensures,
     )
