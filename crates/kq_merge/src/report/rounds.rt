@@ -26,9 +26,6 @@ const MOST_PLACES: u32 = 131_072;
 /// The rounds of one thread have no fewer.
 const LEAST_PLACES: u32 = 2_048;
 
-/// The bytes of the line of a call that returned one event, or none.
-const SHORT_LINE: usize = 64;
-
 /// A report that is being written.
 #[derive(Drop)]
 pub struct Writing {
@@ -134,16 +131,11 @@ fn places_alone(left: &Merging) -> u32 {
     left.run_count().clamp(LEAST_PLACES, MOST_PLACES)
 }
 
-/// Room for the lines of these rows, in bytes, if most of them are short.
-fn room_for(rows: &Merging) -> usize {
-    rows.row_count().saturating_mul(SHORT_LINE)
-}
-
 /// The lines of all rows by place, and what the last line counts of them, by the calling thread.
 fn text_alone(alloc: Global, rows: Merging) -> Result<ReportText, Memory>
     ensures { IfOk result (AreWrittenByPlace rows) }
 {
-    let mut text = ReportText::with_room(alloc, room_for(&rows))?;
+    let mut text = ReportText::with_room(alloc, rows.row_count())?;
     let places = places_alone(&rows);
     let mut round = rows.next_round(alloc, places)?;
     'rounds: while !have_no_row(round.slots.as_slice()) {

@@ -43,7 +43,8 @@ pub fn with_slots(text: ReportText, slots: &[Option<Row>]) -> Result<ReportText,
 fn text_in(alloc: Global, slots: &[Option<Row>]) -> Result<ReportText, Memory>
     ensures { IfOk result (λ text. text ≡ written (present slots.now)) }
 {
-    with_slots(ReportText::new(alloc), slots)
+    let text = ReportText::with_room(alloc, slots.len())?;
+    with_slots(text, slots)
 }
 
 /// Writes the rows in these slots in parts, by at most so many threads and by no more than suit the processors. A part

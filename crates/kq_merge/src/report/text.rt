@@ -7,6 +7,9 @@ use kq_model::{Memory, Reply};
 use std::alloc::Global;
 use std::marker::Model;
 
+/// The bytes of the line of a call that returned an event.
+const USUAL_LINE: usize = 96;
+
 /// The text of a report as it grows, for who has one row after the other and keeps none.
 #[derive(Drop)]
 pub struct ReportText {
@@ -38,11 +41,12 @@ impl ReportText {
         }
     }
 
-    /// No row yet, and room for so many bytes.
-    pub(crate) fn with_room(alloc: Global, bytes: usize) -> Result<Self, Memory>
+    /// No row yet, and room for the lines of so many, if they are of the usual length.
+    pub(crate) fn with_room(alloc: Global, rows: usize) -> Result<Self, Memory>
         ensures { IfOk result (λ text. text ≡ nothing_written) }
     {
         let mut text = ReportText::new(alloc);
+        let bytes = rows.saturating_mul(USUAL_LINE);
         text.lines.reserve(bytes).map_err(|_| Memory)?;
         Ok(text)
     }
