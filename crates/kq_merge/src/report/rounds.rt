@@ -20,7 +20,7 @@ use std::thread::{Threads, join};
 /// The first round has no more places, since nothing is written while it is taken.
 const FIRST_PLACES: u32 = 8_192;
 
-/// The later ones have no more: their rows are a few megabytes.
+/// None has more: its rows are a few megabytes.
 const MOST_PLACES: u32 = 131_072;
 
 /// The rounds of one thread have no fewer.
@@ -69,11 +69,12 @@ impl Writing {
                 → IfOk result (λ longer. longer ≡ written (before ++ later)) }
         { put_behind(text, parts) };
         let now = slots.as_slice();
+        let most = places_behind(now);
         let write_and_take = move || -> (Result<Vec<Part>, Memory>, Result<Round, Memory>)
             requires { IsSync R.row }
             ensures { IfOk result.0 (λ parts. AreWritten (present now.entry.now) parts.items)
                 × IfOk result.1 (λ round. IsRound left (present round.slots.items) round.left) }
-        { write_and_take(rt, now, spent, left, threads) };
+        { write_and_take(rt, now, spent, left, most, threads) };
         let (text, (parts, round)) = join(rt, put, write_and_take);
         Ok(Writing {
             text: text?,
@@ -84,13 +85,23 @@ impl Writing {
     }
 }
 
-/// Writes the rows of a round by at most so many threads, and meanwhile takes the next ones by one and lets go of those
-/// that are spent by another.
+/// How many places the round behind one may have: twice as many, so that taking it is not much more work than writing
+/// this one.
+fn places_behind(slots: &[Option<Row>]) -> u32 {
+    u32::try_from(slots.len())
+        .unwrap_or(MOST_PLACES)
+        .saturating_mul(2)
+        .clamp(FIRST_PLACES, MOST_PLACES)
+}
+
+/// Writes the rows of a round by at most so many threads, and meanwhile takes the next ones, of at most so many places,
+/// by one and lets go of those that are spent by another.
 fn write_and_take<R: AllocGlobal + Threads + Sync>(
     rt: &R,
     slots: &[Option<Row>],
     spent: Vec<Option<Row>>,
     left: Merging,
+    most: u32,
     threads: u32,
 ) -> (Result<Vec<Part>, Memory>, Result<Round, Memory>)
     ensures written { IfOk result.0 (λ parts. AreWritten (present slots.now) parts.items) }
@@ -104,22 +115,23 @@ fn write_and_take<R: AllocGlobal + Threads + Sync>(
     let take = move || -> Result<Round, Memory>
         requires { IsSync R.row }
         ensures { IfOk result (λ round. IsRound left (present round.slots.items) round.left) }
-    { take_and_let_go(rt, spent, left) };
+    { take_and_let_go(rt, spent, left, most) };
     join(rt, write, take)
 }
 
-/// Takes the next round, and meanwhile lets go of the rows that are spent.
+/// Takes the next round, of at most so many places, and meanwhile lets go of the rows that are spent.
 fn take_and_let_go<R: AllocGlobal + Threads + Sync>(
     rt: &R,
     spent: Vec<Option<Row>>,
     left: Merging,
+    most: u32,
 ) -> Result<Round, Memory>
     ensures { IfOk result (λ round. IsRound left (present round.slots.items) round.left) }
 {
     let alloc = rt.alloc();
     let take = move || -> Result<Round, Memory>
         ensures { IfOk result (λ round. IsRound left (present round.slots.items) round.left) }
-    { left.next_round(alloc, MOST_PLACES) };
+    { left.next_round(alloc, most) };
     let let_go = move || { drop(spent) };
     let (round, _) = join(rt, take, let_go);
     round
