@@ -20,7 +20,7 @@ use std::sync::Wait;
 use std::thread::Threads;
 
 /// So many bytes are read together at least, and the line that they end in: enough that it is worth threads.
-const LEAST_PART_BYTES: usize = 1_048_576;
+const LEAST_PART_BYTES: usize = 262_144;
 
 /// And at most so many.
 const MOST_PART_BYTES: usize = 4_194_304;

@@ -17,7 +17,7 @@ use std::sync::Wait;
 use std::thread::Threads;
 
 /// So many bytes are decoded together, and the line that they end in.
-const PIECE_BYTES: usize = 131_072;
+const PIECE_BYTES: usize = 65_536;
 
 /// Cuts a text into pieces of so many bytes or more, up to the end of a line.
 fn pieces_of<'a>(alloc: Global, text: &'a [u8], bytes: usize) -> Result<Vec<&'a [u8]>, Memory>
