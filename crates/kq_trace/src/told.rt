@@ -192,7 +192,7 @@ fn tell_and_read<'a, R: Threads + Wait + Sync, L: Listener>(
     (heard, next)
 }
 
-/// Moves the last part behind the others, and reads the next one.
+/// Reads the next part, and meanwhile moves the last one behind the others on a thread of its own.
 fn settle_and_read<'a, R: Threads + Wait + Sync>(
     rt: &R,
     told: &mut Told,
@@ -204,6 +204,16 @@ fn settle_and_read<'a, R: Threads + Wait + Sync>(
     ensures version { reader.new.version ≡ reader.old.version }
     ensures bad { IfErr result (IsFaultAhead reader.old.meaning) }
 {
-    told.settle()?;
-    reader.next_part(rt, threads)
+    let mut settle = ||
+        ensures { OnOk result (told_events told.exit.now ≡ told_events told.entry.now) }
+    { told.settle() };
+    let mut read = ||
+        requires { IsSync R.row }
+        ensures { IfOk result (λ next. IsPart next reader.entry.now reader.exit.now)
+            × (reader.exit.now.version ≡ reader.entry.now.version)
+            × IfErr result (IsFaultAhead reader.entry.now.meaning) }
+    { reader.next_part(rt, threads) };
+    let (settled, next) = join_mut(rt, &mut settle, &mut read);
+    settled?;
+    next
 }
