@@ -19,3 +19,7 @@ pub mod PartRead
 pub mod LinesCut
 pub mod PieceLines
 pub mod ToldParts
+pub mod BlockLines
+pub mod BlockRecords
+pub mod BlockSoFar
+pub mod BlocksRead

@@ -1,7 +1,8 @@
 -- A text is cut behind one of its line feeds.
-use Rattle.std.proofs.Common.{◌≡◌, ℕ, zero, suc, ◌<◌, Bool, true, false, ◌==◌, cond, List, [], ◌∷◌, ◌++◌, length, take, drop, get_or, refl, sym, ap, ◌∙◌, append-nil, arith}
+use Rattle.std.proofs.Common.{◌≡◌, ℕ, zero, suc, ◌<◌, Bool, true, false, ◌==◌, cond, List, [], ◌∷◌, ◌++◌, length, take, drop, get_or, refl, sym, ap, ◌∙◌, append_assoc, append-nil, arith}
 use Rattle.std.proofs.lemmas.List.{take-append-drop}
 use Rattle.kq_model.specs.Lines.{onto_first, pieces_of, without_empty_end}
+use Rattle.kq_trace.specs.Blocks.{EndsLine}
 use Rattle.kq_trace.specs.Rest.{lines_behind}
 use Rattle.kq_trace.proofs.Cuts.{some_piece}
 
@@ -77,3 +78,22 @@ cut_lines text k lt here =
 -- and with nothing behind it
 pub uncut_lines : (text : List ℕ) → lines_behind text ≡ lines_behind text ++ lines_behind []
 uncut_lines text = sym (ap (λ l. lines_behind text ++ l) no_lines ∙ append-nil (lines_behind text))
+
+-- ---- a text that a line ends, with what follows it
+
+pieces_closed : (front later : List ℕ) → pieces_of (front ++ 10 ∷ later) ≡ closed front ++ pieces_of later
+unfolding pieces_of closed
+pieces_closed [] later = refl
+pieces_closed (b ∷ bs) later =
+    ap (λ ps. cond (b == 10) ([] ∷ ps) (onto_first b ps)) (pieces_closed bs later) ∙ onto_some (b == 10) b bs (pieces_of later)
+
+closed_lines : (front later : List ℕ) → lines_behind (front ++ 10 ∷ later) ≡ closed front ++ lines_behind later
+unfolding lines_behind
+closed_lines front later = ap without_empty_end (pieces_closed front later) ∙ closed_then front later
+
+pub line_then : (text later : List ℕ) → EndsLine text → lines_behind (text ++ later) ≡ lines_behind text ++ lines_behind later
+line_then text later (front, is) =
+    let whole : lines_behind text ≡ closed front =
+    ap lines_behind is ∙ closed_lines front [] ∙ ap (λ l. closed front ++ l) no_lines ∙ append-nil (closed front) in
+    ap (λ t. lines_behind (t ++ later)) is ∙ ap lines_behind (append_assoc front (10 ∷ []) later) ∙ closed_lines front later
+    ∙ ap (λ l. l ++ lines_behind later) (sym whole)

@@ -51,6 +51,18 @@ pub opened : (bytes line : List ℕ) (more : List (List ℕ)) (version : ℕ)
 unfolding reading read_lines behind_header
 opened bytes line more version cut is = rw (cut, is) refl
 
+-- the same with lines behind these
+
+pub bad_then : (lines : List (List ℕ)) (line : List ℕ) (more later : List (List ℕ)) (fault : LineFault)
+    → lines ≡ line ∷ more → version_on line ≡ Err fault → read_lines (lines ++ later) ≡ Bad 1 fault
+unfolding read_lines behind_header
+bad_then lines line more later fault cut is = rw (cut, is) refl
+
+pub opened_then : (lines : List (List ℕ)) (line : List ℕ) (more later : List (List ℕ)) (version : ℕ)
+    → lines ≡ line ∷ more → version_on line ≡ Ok version → read_lines (lines ++ later) ≡ read_records version 2 (more ++ later)
+unfolding read_lines behind_header
+opened_then lines line more later version cut is = rw (cut, is) refl
+
 -- ---- a later line
 
 pub later_bad : (rest line : List ℕ) (more : List (List ℕ)) (version number : ℕ) (fault : LineFault)

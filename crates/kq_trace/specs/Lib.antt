@@ -1,5 +1,6 @@
 pub mod Again
 pub mod Batches
+pub mod Blocks
 pub mod Faults
 pub mod Parts
 pub mod Rest

@@ -2,7 +2,7 @@
 use Rattle.std.specs.Prelude.{◌≡◌, ℕ, ◌+◌, ◌≤◌, List, [], ◌++◌, length, Option, Some, None}
 use Rattle.kq_model.specs.declared.event.Event.{Event}
 use Rattle.kq_model.specs.Limits.{most_records}
-use Rattle.kq_model.specs.Reading.{Outcome, Good, Bad, with_event}
+use Rattle.kq_model.specs.Reading.{Outcome, Good, Bad, read_records, with_event}
 use Rattle.kq_trace.specs.declared.fault.TraceError.{TraceError}
 use Rattle.kq_trace.specs.declared.fault.TraceError.TheVariants.{Memory, Bad as BadTrace}
 
@@ -42,3 +42,15 @@ pub record IsPart (events : List Event) (old new : Unread) : Type 0 where
 abbrev pub IsFaultAhead : Outcome → TraceError → Type 0
 IsFaultAhead meaning Memory = Unit {0}
 IsFaultAhead meaning (BadTrace line fault) = meaning ≡ Bad line fault
+
+-- Numbered from here, these lines are these records, whatever lines follow.
+pub record AreRecordsFrom (number : ℕ) (lines : List (List ℕ)) (events : List Event) : Type 0 where
+  pub meaning : (version : ℕ) (later : List (List ℕ))
+      → read_records version number (lines ++ later) ≡ behind_events events (read_records version (number + length events) later)
+  pub count : length events ≡ length lines
+  pub limit : number + length events ≤ 2 + most_records
+
+-- Numbered from here, one of these lines is the first bad one, whatever lines follow.
+abbrev pub IsFaultFrom : ℕ → List (List ℕ) → TraceError → Type 0
+IsFaultFrom number lines error =
+    (version : ℕ) (later : List (List ℕ)) → IsFaultAhead (read_records version number (lines ++ later)) error

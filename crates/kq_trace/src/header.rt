@@ -1,11 +1,13 @@
 //! The first line of a trace.
 
-ghost use Rattle.std.specs.Prelude.{◌≡◌, IfErr, IfOk, IfSome, OnOk, Some, codes, option_and_then};
+ghost use Rattle.std.specs.Prelude.{◌≡◌, ◌++◌, ℕ, IfErr, IfOk, IfSome, List, OnOk, Some, codes, option_and_then};
 ghost use Rattle.serde_json.specs.Find.{get};
 ghost use Rattle.serde_json.specs.View.{view};
-ghost use Rattle.kq_model.specs.Reading.{header_version, json_of, read_records, reading, version_in};
+ghost use Rattle.kq_model.specs.Lines.{lines_of};
+ghost use Rattle.kq_model.specs.Reading.{header_version, json_of, read_lines, read_records, reading, version_in};
 ghost use Rattle.kq_trace.specs.Faults.{IsFault};
 ghost use Rattle.kq_trace.specs.Rest.{lines_behind};
+ghost use Rattle.kq_trace.specs.Unread.{IsFaultAhead};
 
 use crate::TraceError;
 use crate::line::first_line;
@@ -81,6 +83,11 @@ pub fn opened(alloc: Global, bytes: &[u8]) -> Result<(u32, &[u8]), TraceError>
     ensures meaning { IfOk result (λ r. reading bytes.now ≡ read_records r.0 2 (lines_behind r.1.now)) }
     ensures known { IfOk result (λ r. r.0 ≡ 1) }
     ensures bad { IfErr result (IsFault bytes.now) }
+    // The same where more lines follow.
+    ensures longer { IfOk result (λ r. (later : List (List ℕ))
+        → read_lines (lines_of bytes.now ++ later) ≡ read_records r.0 2 (lines_behind r.1.now ++ later)) }
+    ensures bad_longer { IfErr result (λ e. (later : List (List ℕ))
+        → IsFaultAhead (read_lines (lines_of bytes.now ++ later)) e) }
 {
     let (header, rest) = first_line(bytes);
     if header.len() > MOST_LINE_BYTES {

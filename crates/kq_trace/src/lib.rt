@@ -2,12 +2,16 @@
 #![tactic(auto)]
 
 mod batches;
+mod block_part;
+mod blocks;
 mod change;
 mod changes;
+mod chunk;
 mod decoding;
 mod event;
 mod fault;
 mod header;
+mod input_error;
 mod line;
 mod member;
 mod members;
@@ -20,13 +24,16 @@ mod record;
 mod record_line;
 mod shape;
 mod spell;
+mod stream;
 mod told;
 mod trace_reader;
 mod values;
 mod write;
 
 pub use fault::TraceError;
+pub use input_error::InputError;
 pub use read::{read_trace, read_trace_by_values, read_trace_with};
+pub use stream::read_input_told;
 pub use told::{Listener, read_trace_told};
 pub use trace_reader::TraceReader;
 pub use write::write_trace;

@@ -94,7 +94,7 @@ fn read_and_tell<R: AllocGlobal + Threads + Sync, L: Listener>(
 
 /// The records that the listener was told of.
 #[derive(Drop)]
-struct Told {
+pub(crate) struct Told {
     alloc: Global,
     events: Vec<Event>,
     /// Those of the last part, which are moved behind the others while the next part is read.
@@ -102,7 +102,7 @@ struct Told {
 }
 
 impl Told {
-    fn new(alloc: Global) -> Self
+    pub(crate) fn new(alloc: Global) -> Self
         ensures { told_events result ≡ [] }
     {
         Told {
@@ -113,7 +113,7 @@ impl Told {
     }
 
     /// How many they are.
-    fn count(&self) -> u64
+    pub(crate) fn count(&self) -> u64
         requires { length (told_events self.now) < 2 ^ 31 }
         ensures { result ≡ length (told_events self.now) }
     {
@@ -121,7 +121,7 @@ impl Told {
     }
 
     /// Moves the last part behind the others.
-    fn settle(&mut self) -> Result<(), Memory>
+    pub(crate) fn settle(&mut self) -> Result<(), Memory>
         ensures same { OnOk result (told_events self.new ≡ told_events self.old) }
         ensures settled { OnOk result (self.new.last ≡ []) }
     {
@@ -130,7 +130,7 @@ impl Told {
     }
 
     /// A part of which the listener was told.
-    fn add(&mut self, part: Part) -> Result<(), Memory>
+    pub(crate) fn add(&mut self, part: Part) -> Result<(), Memory>
         ensures { OnOk result (told_events self.new ≡ told_events self.old ++ part) }
     {
         self.settle()?;
@@ -138,7 +138,7 @@ impl Told {
         Ok(())
     }
 
-    fn end(mut self) -> Result<Vec<Event>, Memory>
+    pub(crate) fn end(mut self) -> Result<Vec<Event>, Memory>
         ensures { IfOk result (λ events. events.items ≡ told_events self) }
     {
         self.settle()?;
@@ -148,7 +148,7 @@ impl Told {
 }
 
 /// Tells the listener of a part, where it was told of so many records before.
-fn tell<L: Listener>(listener: &mut L, before: u64, part: &Part) -> Result<(), Memory>
+pub(crate) fn tell<L: Listener>(listener: &mut L, before: u64, part: &Part) -> Result<(), Memory>
     requires before { HasHeard L.heard before listener.old }
     requires few { before + length part.now < 2 ^ 31 }
     ensures { OnOk result ((so_far : List Event) → length so_far ≡ before → L.heard listener.old so_far

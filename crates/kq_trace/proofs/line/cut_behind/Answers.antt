@@ -1,5 +1,5 @@
 -- The first line feed at or behind so many bytes.
-use Rattle.std.proofs.Common.{◌≡◌, ◌<◌, ◌+◌, ◌==◌, true, length, drop, get_or, ap, sym, ◌∙◌, add-one, rules, arith}
+use Rattle.std.proofs.Common.{◌≡◌, ◌<◌, ◌+◌, ◌==◌, true, length, drop, get_or, ap, sym, ◌∙◌, add-one, arith}
 use Rattle.std.proofs.lemmas.List.{get_or-drop, length-drop}
 use Rattle.kq_trace.proofs.Cuts.{behind, nothing_behind}
 use Rattle.kq_trace.proofs.LinesCut.{cut_lines, uncut_lines}

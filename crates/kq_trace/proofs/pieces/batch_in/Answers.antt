@@ -1,5 +1,5 @@
 -- No line is left, since no list of lines is so long.
-use Rattle.std.proofs.Common.{Bor, ◌≡◌, ℕ, ◌<◌, ◌++◌, [], length, rules, tests, sym, ap, subst, ◌∙◌, append-nil, arith}
+use Rattle.std.proofs.Common.{◌≡◌, ◌++◌, [], rules, sym, ap, subst, ◌∙◌, append-nil, arith}
 use Rattle.kq_trace.specs.Batches.{IsReadAs}
 use Rattle.kq_trace.specs.Rest.{lines_behind, texts}
 use Rattle.kq_trace.proofs.LinesCut.{no_lines}

@@ -1,5 +1,5 @@
 -- The next batch goes behind those so far.
-use Rattle.std.proofs.Common.{rules, tests, ◌≡◌, ◌++◌, ◌∷◌, [], ◌≤◌, ◌+◌, ◌-◌, length, sym, ap, subst, ◌∙◌, arith, length-append}
+use Rattle.std.proofs.Common.{rules, tests, ◌≡◌, ◌++◌, ◌∷◌, [], ◌≤◌, ◌-◌, length, sym, ap, subst, ◌∙◌, arith, length-append}
 use Rattle.kq_trace.specs.declared.batches.Batch.TheVariants as batch
 use Rattle.kq_trace.specs.Batches.{AreReadAs}
 use Rattle.kq_trace.proofs.PieceLines.{IsGathered, all_gathered, none_gathered, one_gathered}

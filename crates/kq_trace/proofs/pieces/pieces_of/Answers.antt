@@ -1,6 +1,6 @@
 -- A piece more, or none.
-use Rattle.std.proofs.Common.{◌≡◌, ◌++◌, ◌∷◌, [], length, rules, tests, ap, ◌∙◌, append-nil}
-use Rattle.kq_trace.specs.Rest.{lines_behind, lines_in}
+use Rattle.std.proofs.Common.{◌≡◌, length, rules, tests}
+use Rattle.kq_trace.specs.Rest.{lines_behind}
 use Rattle.kq_trace.proofs.PieceLines.{all_cut, piece_cut}
 use Rattle.kq_trace.proofs.TraceLines.{empty_list}
 use Rattle.kq_trace.proofs.pieces.pieces_of.Goals as goal
