@@ -1,13 +1,17 @@
 -- The fault of a run, by the bytes that its trace was read from.
-use Rattle.std.specs.Prelude.{◌≡◌, ℕ, List, Result, IfErr}
+use Rattle.std.specs.Prelude.{◌≡◌, ℕ, List, Option, Result, IfErr}
 use Rattle.std.proofs.lemmas.Result.{IfErr-weaker}
 use Rattle.kq_model.specs.declared.event.Event.{Event}
 use Rattle.kq_model.specs.Reading.{Good, reading}
 use Rattle.kq_trace.specs.Faults.{IsFault}
 use Rattle.kq_trace.specs.declared.fault.TraceError.{TraceError}
 use Rattle.kq_trace.specs.declared.fault.TraceError.TheVariants as error
+use Rattle.kq_trace.specs.Blocks.{WereGiven}
 use Rattle.kqsim.specs.Fault.{fault_of}
 use Rattle.kqsim.specs.Living.{IsLiveFault, IsRunFault}
+use Rattle.kqsim.specs.Run.{IsOutputFault, IsReaderFault}
+use Rattle.kqsim.specs.Workers.{IsThreadCount}
+use Rattle.kqsim.specs.declared.order.Order.{Order}
 use Rattle.kqsim.specs.declared.fault.Fault.{Fault}
 use Rattle.kqsim.specs.declared.fault.Fault.TheVariants.{Usage, Read, Trace, Memory, Spawn, Write}
 
@@ -29,3 +33,14 @@ run_fault bytes threads version events r good =
 pub read_fault : (bytes : List ℕ) (threads : ℕ) (error : TraceError) → IsFault bytes error → IsLiveFault bytes threads (fault_of error)
 read_fault bytes threads error.Memory is = tt
 read_fault bytes threads (error.Bad line fault) is = is
+
+-- a fault of bytes that a reader had
+pub live_fault_given : (o : Order) (threads : ℕ) (given : Option (List ℕ)) (bytes : List ℕ) → WereGiven given bytes → IsThreadCount threads
+    → ((fault : Fault) → IsLiveFault bytes threads fault → IsOutputFault o bytes fault)
+    → (fault : Fault) → IsLiveFault bytes threads fault → IsReaderFault o given fault
+live_fault_given o threads given bytes had is of Usage h = h is
+live_fault_given o threads given bytes had is of Read h = tt
+live_fault_given o threads given bytes had is of (Trace line fault) h = (bytes, had, of (Trace line fault) h)
+live_fault_given o threads given bytes had is of Memory h = tt
+live_fault_given o threads given bytes had is of Spawn h = (bytes, had, of Spawn h)
+live_fault_given o threads given bytes had is of Write h = absurd h

@@ -1,5 +1,5 @@
 -- The report of a trace whose kqueues were replayed alone, and its faults.
-use Rattle.std.proofs.Common.{◌≡◌, ◌∙◌, ℕ, ◌≤◌, ◌<◌, ◌⊎◌, List, length, Result, Ok, Err, IfErr, IfOk, IsErrOf, MatchResult, ap, sym, subst, arith, ⊎_elim}
+use Rattle.std.proofs.Common.{◌≡◌, ◌∙◌, ℕ, ◌≤◌, ◌<◌, ◌⊎◌, List, length, Option, Result, Ok, Err, IfErr, IfOk, IsErrOf, MatchResult, ap, sym, subst, arith, ⊎_elim}
 use Rattle.std.proofs.lemmas.List.{length-map}
 use Rattle.std.proofs.lemmas.List.Elements.{All-weaker}
 use Rattle.std.proofs.lemmas.Result.{IfErr-at_err, IfErr-weaker}
@@ -23,8 +23,11 @@ use Rattle.kq_replay.specs.Replayed.{AreReplayed}
 use Rattle.kq_trace.specs.Faults.{IsFault as IsTraceFault}
 use Rattle.kq_trace.specs.declared.fault.TraceError.{TraceError}
 use Rattle.kq_trace.specs.declared.fault.TraceError.TheVariants as error
-use Rattle.kqsim.specs.Fault.{fault_of}
-use Rattle.kqsim.specs.Replay.{AreRowsOf, IsFault, IsReplayFault}
+use Rattle.kq_trace.specs.Blocks.{IsInputFault as IsTraceInputFault}
+use Rattle.kq_trace.specs.declared.input_error.InputError.{InputError}
+use Rattle.kq_trace.specs.declared.input_error.InputError.TheVariants as input
+use Rattle.kqsim.specs.Fault.{fault_of, input_fault_of}
+use Rattle.kqsim.specs.Replay.{AreRowsOf, Had, IsFault, IsInputFault, IsReplayFault}
 use Rattle.kqsim.specs.Workers.{IsWorkerCount}
 use Rattle.kqsim.specs.declared.fault.Fault.{Fault}
 use Rattle.kqsim.specs.declared.fault.Fault.TheVariants.{Usage, Read, Trace, Memory, Spawn, Write}
@@ -100,3 +103,31 @@ replay_fault bytes workers version events r good =
 pub fault_passed : {A : Type 0} (r : Result A Fault) (fault : Fault) (P : Fault → Type 0) → IsErrAnd r (λ f. f ≡ fault) → P fault → IfErr r P
 fault_passed (Ok x) fault P is holds = tt
 fault_passed (Err f) fault P is holds = subst P (sym is) holds
+
+-- ---- the same of an input
+
+pub read_input_fault : (given : Option (List ℕ)) (limit workers : ℕ) (error : InputError) → IsTraceInputFault limit given error
+    → IsInputFault given limit workers (input_fault_of error)
+read_input_fault given limit workers input.Read is = tt
+read_input_fault given limit workers (input.Trace error.Memory) is = tt
+read_input_fault given limit workers (input.Trace (error.Bad line fault)) (bytes, had, few, is) = (bytes, (had, few), is)
+
+pub input_fault_of_replay : (given : Option (List ℕ)) (limit workers version : ℕ) (events : List Event) (bytes : List ℕ) → Had given limit bytes
+    → reading bytes ≡ Good version events → (fault : Fault) → IsReplayFault version events workers fault → IsInputFault given limit workers fault
+input_fault_of_replay given limit workers version events bytes had good Usage h = absurd h
+input_fault_of_replay given limit workers version events bytes had good Read h = absurd h
+input_fault_of_replay given limit workers version events bytes had good (Trace line fault) h = absurd h
+input_fault_of_replay given limit workers version events bytes had good Memory h = tt
+input_fault_of_replay given limit workers version events bytes had good Spawn h =
+    (bytes, had, fault_of_replay bytes workers version events good Spawn h)
+input_fault_of_replay given limit workers version events bytes had good Write h = absurd h
+
+-- a fault of bytes that the input had
+pub fault_of_given : (given : Option (List ℕ)) (limit workers : ℕ) (bytes : List ℕ) → Had given limit bytes → IsWorkerCount workers
+    → (fault : Fault) → IsFault bytes workers fault → IsInputFault given limit workers fault
+fault_of_given given limit workers bytes had is Usage h = h is
+fault_of_given given limit workers bytes had is Read h = tt
+fault_of_given given limit workers bytes had is (Trace line fault) h = (bytes, had, h)
+fault_of_given given limit workers bytes had is Memory h = tt
+fault_of_given given limit workers bytes had is Spawn h = (bytes, had, h)
+fault_of_given given limit workers bytes had is Write h = h

@@ -2,6 +2,8 @@
 use Rattle.std.specs.Prelude.{ℕ}
 use Rattle.kq_trace.specs.declared.fault.TraceError.{TraceError}
 use Rattle.kq_trace.specs.declared.fault.TraceError.TheVariants as error
+use Rattle.kq_trace.specs.declared.input_error.InputError.{InputError}
+use Rattle.kq_trace.specs.declared.input_error.InputError.TheVariants as input
 use Rattle.kqsim.specs.declared.fault.Fault.{Fault}
 use Rattle.kqsim.specs.declared.fault.Fault.TheVariants.{Usage, Read, Trace, Memory, Spawn, Write}
 
@@ -16,3 +18,7 @@ status_of Write = 7
 abbrev pub fault_of : TraceError → Fault
 fault_of error.Memory = Memory
 fault_of (error.Bad line fault) = Trace line fault
+
+abbrev pub input_fault_of : InputError → Fault
+input_fault_of input.Read = Read
+input_fault_of (input.Trace error) = fault_of error

@@ -1,6 +1,6 @@
 -- What `replay` promises: the report of one fold of the whole system over the trace that the bytes are,
 -- or a fault that was met.
-use Rattle.std.specs.Prelude.{◌≡◌, ◌≤◌, ℕ, List, length}
+use Rattle.std.specs.Prelude.{◌≡◌, ◌≤◌, ℕ, List, length, Option}
 use Rattle.std.specs.List.Sorted.{IsPermutation}
 use Rattle.kq_model.specs.declared.event.Event.{Event}
 use Rattle.kq_model.specs.declared.row.Row.{Row}
@@ -10,6 +10,7 @@ use Rattle.kq_model.specs.Projection.{kqueues}
 use Rattle.kq_model.specs.Reading.{Good, Bad, reading}
 use Rattle.kq_model.specs.Report.{report_of}
 use Rattle.kq_model.specs.System.{rows}
+use Rattle.kq_trace.specs.Blocks.{WereGiven}
 use Rattle.kqsim.specs.Workers.{IsWorkerCount}
 use Rattle.kqsim.specs.declared.replayed.Replayed.{Replayed}
 use Rattle.kqsim.specs.declared.fault.Fault.{Fault}
@@ -60,3 +61,17 @@ AreRowsOf version events found = IsPermutation found (rows version events) × Ri
 abbrev pub IsReplayed : List ℕ → Replayed → Type 0
 IsReplayed bytes r =
     (reading bytes ≡ Good r.trace.version r.trace.events) × AreRowsOf r.trace.version r.trace.events r.rows
+
+-- an input of no more bytes than so many had these bytes, where it is known what it had
+abbrev pub Had : Option (List ℕ) → ℕ → List ℕ → Type 0
+Had given limit bytes = WereGiven given bytes × (length bytes ≤ limit)
+
+-- the fault can come from such an input and so many workers
+abbrev pub IsInputFault : Option (List ℕ) → ℕ → ℕ → Fault → Type 0
+IsInputFault given limit workers Usage = ⊥
+IsInputFault given limit workers Read = Unit {0}
+IsInputFault given limit workers (Trace line fault) =
+    (bytes : List ℕ) × Had given limit bytes × IsFault bytes workers (Trace line fault)
+IsInputFault given limit workers Memory = Unit {0}
+IsInputFault given limit workers Spawn = (bytes : List ℕ) × Had given limit bytes × IsFault bytes workers Spawn
+IsInputFault given limit workers Write = ⊥

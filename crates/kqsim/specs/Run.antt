@@ -1,6 +1,7 @@
 -- What a run of the program leaves, by the bytes that its reader had and those that its writer got.
-use Rattle.std.specs.Prelude.{◌≡◌, ◌⊎◌, ℕ, List, ◌++◌, Option, IfSome, string_bytes}
+use Rattle.std.specs.Prelude.{◌≡◌, ◌⊎◌, ℕ, List, ◌++◌, Option, string_bytes}
 use Rattle.std.specs.Io.KnownBytes.{Appends, Keeps}
+use Rattle.kq_trace.specs.Blocks.{WereGiven}
 use Rattle.kqsim.specs.Fault.{status_of}
 use Rattle.kqsim.specs.Living.{IsBookText, IsLiveFault, IsLiveReport}
 use Rattle.kqsim.specs.Replay.{IsFault, IsReport}
@@ -33,9 +34,14 @@ IsOutputFault (order.Replay workers file) bytes fault = IsFault bytes workers fa
 IsOutputFault (order.Live threads file) bytes fault = IsLiveFault bytes threads fault
 IsOutputFault (order.Book threads file) bytes fault = IsLiveFault bytes threads fault
 
--- these bytes are what the reader had, where that is known
-abbrev pub WereGiven : Option (List ℕ) → List ℕ → Type 0
-WereGiven given bytes = IfSome given (λ xs. bytes ≡ xs)
+-- the fault can come from what a reader has, if that is in range
+abbrev pub IsReaderFault : Order → Option (List ℕ) → Fault → Type 0
+IsReaderFault o given Usage = ⊥
+IsReaderFault o given Read = Unit {0}
+IsReaderFault o given (Trace line fault) = (bytes : List ℕ) × WereGiven given bytes × IsOutputFault o bytes (Trace line fault)
+IsReaderFault o given Memory = Unit {0}
+IsReaderFault o given Spawn = (bytes : List ℕ) × WereGiven given bytes × IsOutputFault o bytes Spawn
+IsReaderFault o given Write = ⊥
 
 -- what the order makes of the reader's bytes was written
 abbrev pub WritesOutput : Order → Option (List ℕ) → Option (List ℕ) → Option (List ℕ) → Type 0

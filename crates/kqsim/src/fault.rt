@@ -1,7 +1,7 @@
 ghost use Rattle.std.specs.Prelude.{◌≡◌};
 
 use kq_model::{LineFault, Memory};
-use kq_trace::TraceError;
+use kq_trace::{InputError, TraceError};
 use thiserror::Error;
 
 /// Why there is no report, or not the whole of it. Its text is the line that the program prints on
@@ -65,6 +65,19 @@ impl From<TraceError> for Fault {
         match error {
             TraceError::Memory => Fault::Memory,
             TraceError::Bad { line, fault } => Fault::Trace { line, fault },
+        }
+    }
+}
+
+impl From<InputError> for Fault {
+    ghost use Rattle.kqsim.specs.Fault.{input_fault_of};
+
+    ghost from_gives = { λ error fault. fault ≡ input_fault_of error };
+
+    fn from(error: InputError) -> Fault {
+        match error {
+            InputError::Read => Fault::Read,
+            InputError::Trace(error) => Fault::from(error),
         }
     }
 }

@@ -1,7 +1,7 @@
 //! The rows of a trace: it is read, split meanwhile or behind that, and each of its kqueues is replayed alone.
 
-ghost use Rattle.std.specs.Prelude.{IfErr, IfOk, IsErrOf};
-ghost use Rattle.kqsim.specs.Replay.{AreRowsOf, IsFault, IsReplayed, IsReplayFault};
+ghost use Rattle.std.specs.Prelude.{ℕ, IfErr, IfOk, IsErrOf, List};
+ghost use Rattle.kqsim.specs.Replay.{AreRowsOf, Had, IsFault, IsInputFault, IsReplayed, IsReplayFault};
 ghost use Rattle.kqsim.specs.Workers.{IsWorkerCount};
 
 use crate::fault::Fault;
@@ -11,8 +11,9 @@ use crate::workers::{MANY_WORKERS, threads_of};
 use kq_history::{Spent, Split};
 use kq_merge::{Merging, copied};
 use kq_model::Trace;
-use kq_replay::{Gate, RunFault, Starts, replay_all_with};
-use kq_trace::read_trace_told;
+use kq_replay::{Always, Gate, Open, RunFault, Starts, replay_all_with};
+use kq_trace::{read_input_told, read_trace_told};
+use std::io::Read;
 use std::sync::Wait;
 use std::thread::Threads;
 
@@ -43,6 +44,26 @@ impl Replayed {
             by_one_pass(rt, bytes, workers, gate, starts)
         } else {
             by_thirds(rt, bytes, workers, gate, starts)
+        }
+    }
+
+    /// The same of the trace that an input has, which is no more bytes than so many, and which is read and split while it
+    /// comes. A read that fails, an interrupted one too, and an input of more bytes are [`Fault::Read`].
+    pub fn of_input<R: AllocGlobal + Threads + Wait + Sync, I: Read + Send>(
+        rt: &R,
+        input: &mut I,
+        limit: usize,
+        workers: u32,
+    ) -> Result<Self, Fault>
+        requires { IsWorkerCount workers }
+        ensures replayed { IfOk result (λ r. (bytes : List ℕ) × Had (I.remaining input.old) limit bytes
+            × IsReplayed bytes r) }
+        ensures fault { IfErr result (IsInputFault (I.remaining input.old) limit workers) }
+    {
+        if workers < MANY_WORKERS {
+            input_by_one_pass(rt, input, limit, workers)
+        } else {
+            input_by_thirds(rt, input, limit, workers)
         }
     }
 }
@@ -87,6 +108,46 @@ fn by_thirds<R: AllocGlobal + Threads + Wait + Sync, G: Gate + Sync, S: Starts>(
     let trace = read_trace_told(rt, bytes, threads_of(workers), &mut splitter)?;
     let split = splitter.end(&trace)?;
     let rows = rows_of(rt, &split, workers, gate, starts)?;
+    let spent = split.spend();
+    Ok(Replayed { trace, rows, spent })
+}
+
+/// One thread splits the trace that comes while others read it.
+fn input_by_one_pass<R: AllocGlobal + Threads + Wait + Sync, I: Read + Send>(
+    rt: &R,
+    input: &mut I,
+    limit: usize,
+    workers: u32,
+) -> Result<Replayed, Fault>
+    requires { IsWorkerCount workers }
+    ensures replayed { IfOk result (λ r. (bytes : List ℕ) × Had (I.remaining input.old) limit bytes
+        × IsReplayed bytes r) }
+    ensures fault { IfErr result (IsInputFault (I.remaining input.old) limit workers) }
+{
+    let mut splitter = Splitter::new(rt.alloc())?;
+    let trace = read_input_told(rt, input, limit, workers, &mut splitter)?;
+    let split = splitter.end(&trace);
+    let rows = rows_of(rt, &split, workers, &Open, &Always)?;
+    let spent = split.spend();
+    Ok(Replayed { trace, rows, spent })
+}
+
+/// Three threads split it.
+fn input_by_thirds<R: AllocGlobal + Threads + Wait + Sync, I: Read + Send>(
+    rt: &R,
+    input: &mut I,
+    limit: usize,
+    workers: u32,
+) -> Result<Replayed, Fault>
+    requires { IsWorkerCount workers }
+    ensures replayed { IfOk result (λ r. (bytes : List ℕ) × Had (I.remaining input.old) limit bytes
+        × IsReplayed bytes r) }
+    ensures fault { IfErr result (IsInputFault (I.remaining input.old) limit workers) }
+{
+    let mut splitter = ThirdsSplitter::new(rt)?;
+    let trace = read_input_told(rt, input, limit, threads_of(workers), &mut splitter)?;
+    let split = splitter.end(&trace)?;
+    let rows = rows_of(rt, &split, workers, &Open, &Always)?;
     let spent = split.spend();
     Ok(Replayed { trace, rows, spent })
 }

@@ -1,14 +1,16 @@
-ghost use Rattle.std.specs.Prelude.{◌≡◌, ◌↔◌, IfErr, IfOk, IsErrOf};
+ghost use Rattle.std.specs.Prelude.{◌≡◌, ◌↔◌, ℕ, IfErr, IfOk, IsErrOf, List};
 ghost use Rattle.kq_model.specs.Report.{report_of};
-ghost use Rattle.kqsim.specs.Replay.{AreRowsOf, IsFault, IsReport};
+ghost use Rattle.kqsim.specs.Replay.{AreRowsOf, Had, IsFault, IsInputFault, IsReport};
 ghost use Rattle.kqsim.specs.Workers.{IsWorkerCount};
 
 use crate::fault::Fault;
+use crate::input::read_in;
 use crate::replayed::Replayed;
 use crate::workers::{is_worker_count, threads_of};
 use kq_merge::{Merging, report_by_place};
 use kq_model::Trace;
 use kq_replay::{Always, Gate, Open, Starts};
+use std::io::Read;
 use std::mem::forget;
 use std::sync::Wait;
 use std::thread::Threads;
@@ -52,20 +54,44 @@ pub fn replay_with<R: AllocGlobal + Threads + Wait + Sync, G: Gate + Sync, S: St
     written(rt, &trace, rows, workers)
 }
 
-/// The same as [`replay`], for a program that ends once the report is out: the bytes, the trace and what the split kept
-/// are left to the end of the process, which gives all memory back at once.
-pub fn replay_to_end<R: AllocGlobal + Threads + Wait + Sync>(
+/// The report of the trace that an input has, which is no more bytes than so many, as [`replay`] gives it, by so many
+/// workers, 1 to 256. By two and more it is read while it comes. A read that fails, an interrupted one too, and an input
+/// of more bytes are [`Fault::Read`], whatever the trace.
+///
+/// It is for a program that ends once the report is out: the trace and what the split kept are left to the end of the
+/// process, which gives all memory back at once.
+pub fn replay_input<R: AllocGlobal + Threads + Wait + Sync, I: Read + Send>(
+    rt: &R,
+    input: &mut I,
+    limit: usize,
+    workers: u32,
+) -> Result<Vec<u8>, Fault>
+    requires { IsWorkerCount workers }
+    ensures report { IfOk result (λ text. (bytes : List ℕ) × Had (I.remaining input.old) limit bytes
+        × IsReport bytes text.items) }
+    ensures fault { IfErr result (IsInputFault (I.remaining input.old) limit workers) }
+{
+    if workers < 2 {
+        let bytes = read_in(rt.alloc(), input, limit)?;
+        return replay_to_end(rt, bytes, workers);
+    }
+    let Replayed { trace, rows, spent } = Replayed::of_input(rt, input, limit, workers)?;
+    let text = written(rt, &trace, rows, workers)?;
+    forget((trace, spent));
+    Ok(text)
+}
+
+/// The report of the trace that the bytes are. They too are left to the end of the process.
+fn replay_to_end<R: AllocGlobal + Threads + Wait + Sync>(
     rt: &R,
     bytes: Vec<u8>,
     workers: u32,
 ) -> Result<Vec<u8>, Fault>
-    ensures workers { IsErrOf result Fault.Usage ↔ ¬ IsWorkerCount workers }
+    requires { IsWorkerCount workers }
+    ensures usage { ¬ IsErrOf result Fault.Usage }
     ensures report { IfOk result (λ text. IsReport bytes.items text.items) }
     ensures fault { IfErr result (IsFault bytes.items workers) }
 {
-    if !is_worker_count(workers) {
-        return Err(Fault::Usage);
-    }
     let Replayed { trace, rows, spent } = Replayed::of(
         rt,
         bytes.as_slice(),

@@ -1,13 +1,14 @@
-ghost use Rattle.std.specs.Prelude.{◌≡◌, ◌↔◌, IfErr, IfOk, IsErrOf, IsTrue, OnOk};
+ghost use Rattle.std.specs.Prelude.{◌≡◌, ◌↔◌, ℕ, IfErr, IfOk, IsErrOf, IsTrue, List, OnOk};
 ghost use Rattle.std.specs.Io.KnownBytes.{Keeps};
-ghost use Rattle.kqsim.specs.Run.{EndsBy, IsInRange, IsOutput, IsOutputFault, LeavesBy, WritesOutput};
+ghost use Rattle.kq_trace.specs.Blocks.{WereGiven};
+ghost use Rattle.kqsim.specs.Run.{EndsBy, IsInRange, IsOutput, IsReaderFault, LeavesBy, WritesOutput};
 
 use crate::fault::Fault;
 use crate::input::read_in;
 use crate::living::{book_text, live_report};
 use crate::order::Order;
 use crate::output::write_out;
-use crate::replaying::replay_to_end;
+use crate::replaying::replay_input;
 use crate::workers::{is_thread_count, is_worker_count};
 use std::io::{Read, Write};
 use std::sync::Wait;
@@ -21,7 +22,7 @@ const MOST_BYTES: usize = 268435456;
 ///
 /// An order whose number of workers or threads is out of range is [`Fault::Usage`] before anything is read.
 /// After the statuses 2 to 6 nothing was written to `out`, after 7 a prefix. A failing `err` changes no status.
-pub fn run_order<R: AllocGlobal + Threads + Wait + Sync, I: Read, O: Write, E: Write>(
+pub fn run_order<R: AllocGlobal + Threads + Wait + Sync, I: Read + Send, O: Write, E: Write>(
     rt: &R,
     order: &Order,
     reader: &mut I,
@@ -41,7 +42,7 @@ pub fn run_order<R: AllocGlobal + Threads + Wait + Sync, I: Read, O: Write, E: W
     }
 }
 
-fn carry_out<R: AllocGlobal + Threads + Wait + Sync, I: Read, O: Write>(
+fn carry_out<R: AllocGlobal + Threads + Wait + Sync, I: Read + Send, O: Write>(
     rt: &R,
     order: &Order,
     reader: &mut I,
@@ -57,8 +58,7 @@ fn carry_out<R: AllocGlobal + Threads + Wait + Sync, I: Read, O: Write>(
     if !is_in_range(order) {
         return Err(Fault::Usage);
     }
-    let bytes = read_in(rt.alloc(), reader, MOST_BYTES)?;
-    let text = output_of(rt, order, bytes)?;
+    let text = output_of(rt, order, reader)?;
     write_out(text.as_slice(), out)
 }
 
@@ -72,20 +72,27 @@ fn is_in_range(order: &Order) -> bool
     }
 }
 
-/// What the order makes of the bytes of a trace.
-fn output_of<R: AllocGlobal + Threads + Wait + Sync>(
+/// What the order makes of the trace that a reader has.
+fn output_of<R: AllocGlobal + Threads + Wait + Sync, I: Read + Send>(
     rt: &R,
     order: &Order,
-    bytes: Vec<u8>,
+    reader: &mut I,
 ) -> Result<Vec<u8>, Fault>
-    ensures usage { IsErrOf result Fault.Usage ↔ ¬ IsInRange order.now }
-    ensures output { IfOk result (λ text. IsOutput order.now bytes.items text.items) }
-    ensures fault { IfErr result (IsOutputFault order.now bytes.items) }
+    requires { IsInRange order.now }
+    ensures output { IfOk result (λ text. (bytes : List ℕ) × WereGiven (I.remaining reader.old) bytes
+        × IsOutput order.now bytes text.items) }
+    ensures fault { IfErr result (IsReaderFault order.now (I.remaining reader.old)) }
 {
     match order {
-        Order::Replay { workers, .. } => replay_to_end(rt, bytes, *workers),
-        Order::Live { threads, .. } => live_report(rt, bytes.as_slice(), *threads),
-        Order::Book { threads, .. } => book_text(rt, bytes.as_slice(), *threads),
+        Order::Replay { workers, .. } => replay_input(rt, reader, MOST_BYTES, *workers),
+        Order::Live { threads, .. } => {
+            let bytes = read_in(rt.alloc(), reader, MOST_BYTES)?;
+            live_report(rt, bytes.as_slice(), *threads)
+        }
+        Order::Book { threads, .. } => {
+            let bytes = read_in(rt.alloc(), reader, MOST_BYTES)?;
+            book_text(rt, bytes.as_slice(), *threads)
+        }
     }
 }
 

@@ -1,5 +1,5 @@
 -- What was seen and said before is noted and heard, and the one with a world took the records that follow.
-use Rattle.std.proofs.Common.{rules, ◌≡◌, ◌++◌, List, Result, Ok, Err, OnOk, length}
+use Rattle.std.proofs.Common.{rules, ◌++◌, List, Result, Ok, Err, OnOk, length}
 use Rattle.kq_history.specs.declared.item.Item.{Item}
 use Rattle.kq_trace.proofs.ToldParts.{events_in}
 use Rattle.kq_history.specs.Sights.{and_then, NotedViews}
