@@ -11,8 +11,8 @@ use crate::said::hear_kqueue;
 use kq_model::{Event, Memory};
 use kq_process::{Effect, World};
 
-/// The birth of a kqueue by the record of a place, or its call of one, where it was possible: what the changes of a call
-/// name concerns the kqueue. The world is that after the record.
+/// The birth of a kqueue by the record of a place, or its call of one, where it was possible: what the changes of a
+/// call name concerns the kqueue. The world is that after the record.
 pub fn name_kqueue(
     kqueues: &mut Kqueues,
     place: u64,

@@ -67,7 +67,8 @@ impl<'a> Split<'a> {
     }
 
     /// The same from three thirds, of which the one that watches took all records of the trace: what was not handed
-    /// over yet is noted and heard here. Its cost is that, and that of dropping the world. Memory: a growth was refused.
+    /// over yet is noted and heard here. Its cost is that, and that of dropping the world. Memory: a growth was
+    /// refused.
     #[tactic(auto, using(crate::proofs::ThirdsSplit::left_to_note, crate::proofs::ThirdsSplit::is_split))]
     pub fn of_thirds(
         trace: &'a Trace,

@@ -43,8 +43,8 @@ abbrev pub AreOutside : ℕ → ℕ → ℕ → List Knote → Type 0
 AreOutside from low high ks =
     AllByRecursion (λ k. (first_of from k ≤ low) ⊎ (high ≤ first_of from k)) ks
 
--- What the clock does from `from` to `to`, for a user: each knote has its expirations and stays as it is otherwise, none comes
--- or goes, and the queue keeps what it has and may have more behind it.
+-- What the clock does from `from` to `to`, for a user: each knote has its expirations and stays as it is otherwise,
+-- none comes or goes, and the queue keeps what it has and may have more behind it.
 pub record IsClocked (from to : ℕ) (old new : Kqueue) : Type 0 where
   pub knotes : (key : Key) → find_knote key new.knotes ≡ option_map (rung from to) (find_knote key old.knotes)
   pub more : List Key

@@ -13,8 +13,8 @@ use Rattle.kq_model.specs.TimerWalk.{in_order}
 abbrev pub next_of : ℕ → Knote → ℕ
 next_of since k = next_tick (expires_at k) since
 
--- those that expire after `from` and not after `to`, in the order of their first expirations, of two at one moment the one
--- first that was registered first
+-- those that expire after `from` and not after `to`, in the order of their first expirations, of two at one moment the
+-- one first that was registered first
 abbrev pub expiring : ℕ → ℕ → List Knote → List Knote
 expiring from to knotes = in_order (next_of from) (filter (λ k. nat_le (next_of from k) to) knotes)
 
@@ -36,11 +36,13 @@ AreAlarmed since entries knotes = AllByRecursion (λ k. IsAlarmed entries (next_
 
 -- each that expires first after `from` at `low` or later has an alarm then
 abbrev pub AreWaiting : ℕ → ℕ → List Entry → List Knote → Type 0
-AreWaiting from low entries knotes = AllByRecursion (λ k. low ≤ next_of from k → IsAlarmed entries (next_of from k) k) knotes
+AreWaiting from low entries knotes =
+    AllByRecursion (λ k. low ≤ next_of from k → IsAlarmed entries (next_of from k) k) knotes
 
 -- each of these keys has an alarm when it expires first after `to`
 abbrev pub AreArmed : ℕ → List Key → List Entry → List Knote → Type 0
-AreArmed to keys entries knotes = AllByRecursion (λ k. has_key k.key keys ≡ true → IsAlarmed entries (next_of to k) k) knotes
+AreArmed to keys entries knotes =
+    AllByRecursion (λ k. has_key k.key keys ≡ true → IsAlarmed entries (next_of to k) k) knotes
 
 -- what was there is still there
 abbrev pub AreKept : List Entry → List Entry → Type 0

@@ -16,4 +16,5 @@ AreWrittenByPlace all text = (rows : List Row) × IsPermutation all rows × Neve
 
 -- the report of all these rows, each once, by place
 abbrev pub IsReportByPlace : List Row → ℕ → List ℕ → Type 0
-IsReportByPlace all records text = (rows : List Row) × IsPermutation all rows × NeverFall rows × (text ≡ report rows records)
+IsReportByPlace all records text =
+    (rows : List Row) × IsPermutation all rows × NeverFall rows × (text ≡ report rows records)

@@ -41,8 +41,9 @@ pub fn report_text_with<R: AllocGlobal + Threads + Sync>(
 }
 
 /// The report of rows by place, which are put in order as they are written. By two threads or more, all but one of them
-/// write, while one puts the rows ahead in order, one puts together what was written before, and one lets go of the rows
-/// of that; by 0 and 1 the calling one does all. `rt` gives the memory and the threads; a thread that does not start is no error.
+/// write, while one puts the rows ahead in order, one puts together what was written before, and one lets go of the
+/// rows of that; by 0 and 1 the calling one does all. `rt` gives the memory and the threads; a thread that does not
+/// start is no error.
 pub fn report_by_place<R: AllocGlobal + Threads + Sync>(
     rt: &R,
     rows: Merging,

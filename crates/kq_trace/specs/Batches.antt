@@ -13,7 +13,9 @@ use Rattle.kq_trace.specs.Unread.{IsFaultAhead}
 abbrev pub AreRecordsAnywhere : List (List ℕ) → List Event → Type 0
 AreRecordsAnywhere lines events =
     (length events ≡ length lines)
-    × ((version first : ℕ) → first + length lines ≤ 2 + most_records → read_records version first lines ≡ Good version events)
+    × ((version first : ℕ)
+    → first + length lines ≤ 2 + most_records
+    → read_records version first lines ≡ Good version events)
 
 -- These lines are read so wherever they stand among those that may be records: a record off each, or the first bad one.
 -- That memory is short says nothing of them.
@@ -21,7 +23,9 @@ abbrev pub IsReadAs : List (List ℕ) → Batch → Type 0
 IsReadAs lines (Records events) = AreRecordsAnywhere lines events.items
 IsReadAs lines (Bad place fault) =
     (place < length lines)
-    × ((version first : ℕ) → first + length lines ≤ 2 + most_records → read_records version first lines ≡ BadLine (first + place) fault)
+    × ((version first : ℕ)
+    → first + length lines ≤ 2 + most_records
+    → read_records version first lines ≡ BadLine (first + place) fault)
 IsReadAs lines Memory = Unit {0}
 
 -- The lines were cut into parts, and each part is read as the batch at its place.

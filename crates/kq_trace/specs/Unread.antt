@@ -46,7 +46,8 @@ IsFaultAhead meaning (BadTrace line fault) = meaning ≡ Bad line fault
 -- Numbered from here, these lines are these records, whatever lines follow.
 pub record AreRecordsFrom (number : ℕ) (lines : List (List ℕ)) (events : List Event) : Type 0 where
   pub meaning : (version : ℕ) (later : List (List ℕ))
-      → read_records version number (lines ++ later) ≡ behind_events events (read_records version (number + length events) later)
+      → read_records version number (lines ++ later)
+      ≡ behind_events events (read_records version (number + length events) later)
   pub count : length events ≡ length lines
   pub limit : number + length events ≤ 2 + most_records
 

@@ -17,7 +17,8 @@ use std::sync::Wait;
 use std::thread::Threads;
 
 /// The records on the lines of a block, of which the first has this number, by at most so many threads, of which the
-/// calling one is the first. On `Bad` that line is the first that has a fault; a thread that does not start is no error.
+/// calling one is the first. On `Bad` that line is the first that has a fault; a thread that does not start is no
+/// error.
 pub fn part_of<R: AllocGlobal + Threads + Wait + Sync>(
     rt: &R,
     number: u64,

@@ -103,8 +103,8 @@ impl Blocks {
     }
 }
 
-/// Puts bytes that came behind a block; where it has so many already, only up to the end of a line among them, and those
-/// behind that wait. Whether they end it.
+/// Puts bytes that came behind a block; where it has so many already, only up to the end of a line among them, and
+/// those behind that wait. Whether they end it.
 fn put(
     came: &[u8],
     least: usize,

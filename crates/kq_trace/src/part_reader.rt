@@ -103,8 +103,8 @@ impl<'a> PartReader<'a> {
         }
     }
 
-    /// How many bytes the next part has. The first parts and the last ones are small, for there is nothing to be told of
-    /// while the first one is read, and nothing to read while one is told of the last.
+    /// How many bytes the next part has. The first parts and the last ones are small, for there is nothing to be told
+    /// of while the first one is read, and nothing to read while one is told of the last.
     fn part_bytes(&self) -> usize
         ensures { (0 < result) × (result ≤ MOST_PART_BYTES) }
     {

@@ -24,12 +24,12 @@ use std::sync::Wait;
 use std::thread::{Threads, join_mut};
 
 /// Reads the trace that an input has, which is no more bytes than so many, while it comes. The calling thread tells the
-/// listener of a part of the records, while as many threads as are asked for but one decode what came behind it, and one
-/// more reads on; so no more of the text is held than two blocks of it. A thread that does not start is no error.
+/// listener of a part of the records, while as many threads as are asked for but one decode what came behind it, and
+/// one more reads on; so no more of the text is held than two blocks of it. A thread that does not start is no error.
 ///
 /// [`InputError::Read`]: a read failed, an interrupted one too, or there are more bytes; whatever is wrong with those
-/// that came. `Bad`: the first line that has a fault, once all was read. `Memory` also comes where the listener answered
-/// it. After an error nothing is known of the listener, and part of the input is used up.
+/// that came. `Bad`: the first line that has a fault, once all was read. `Memory` also comes where the listener
+/// answered it. After an error nothing is known of the listener, and part of the input is used up.
 pub fn read_input_told<R: AllocGlobal + Threads + Wait + Sync, I: Read + Send, L: Listener>(
     rt: &R,
     input: &mut I,

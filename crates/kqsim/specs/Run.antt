@@ -38,7 +38,8 @@ IsOutputFault (order.Book threads file) bytes fault = IsLiveFault bytes threads 
 abbrev pub IsReaderFault : Order → Option (List ℕ) → Fault → Type 0
 IsReaderFault o given Usage = ⊥
 IsReaderFault o given Read = Unit {0}
-IsReaderFault o given (Trace line fault) = (bytes : List ℕ) × WereGiven given bytes × IsOutputFault o bytes (Trace line fault)
+IsReaderFault o given (Trace line fault) =
+    (bytes : List ℕ) × WereGiven given bytes × IsOutputFault o bytes (Trace line fault)
 IsReaderFault o given Memory = Unit {0}
 IsReaderFault o given Spawn = (bytes : List ℕ) × WereGiven given bytes × IsOutputFault o bytes Spawn
 IsReaderFault o given Write = ⊥

@@ -47,8 +47,8 @@ impl Replayed {
         }
     }
 
-    /// The same of the trace that an input has, which is no more bytes than so many, and which is read and split while it
-    /// comes. A read that fails, an interrupted one too, and an input of more bytes are [`Fault::Read`].
+    /// The same of the trace that an input has, which is no more bytes than so many, and which is read and split while
+    /// it comes. A read that fails, an interrupted one too, and an input of more bytes are [`Fault::Read`].
     pub fn of_input<R: AllocGlobal + Threads + Wait + Sync, I: Read + Send>(
         rt: &R,
         input: &mut I,

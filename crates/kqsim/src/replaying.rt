@@ -55,8 +55,8 @@ pub fn replay_with<R: AllocGlobal + Threads + Wait + Sync, G: Gate + Sync, S: St
 }
 
 /// The report of the trace that an input has, which is no more bytes than so many, as [`replay`] gives it, by so many
-/// workers, 1 to 256. By two and more it is read while it comes. A read that fails, an interrupted one too, and an input
-/// of more bytes are [`Fault::Read`], whatever the trace.
+/// workers, 1 to 256. By two and more it is read while it comes. A read that fails, an interrupted one too, and an
+/// input of more bytes are [`Fault::Read`], whatever the trace.
 ///
 /// It is for a program that ends once the report is out: the trace and what the split kept are left to the end of the
 /// process, which gives all memory back at once.

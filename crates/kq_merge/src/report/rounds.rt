@@ -159,8 +159,8 @@ fn text_alone(alloc: Global, rows: Merging) -> Result<ReportText, Memory>
 }
 
 /// The lines of all rows by place, and what the last line counts of them. By two threads or more, all but one of them
-/// write, while one puts the rows ahead in order, one puts together what was written before, and one lets go of the rows
-/// of that.
+/// write, while one puts the rows ahead in order, one puts together what was written before, and one lets go of the
+/// rows of that.
 pub fn text_by_place<R: AllocGlobal + Threads + Sync>(
     rt: &R,
     rows: Merging,
