@@ -11,12 +11,12 @@ use Rattle.kq_model.proofs.ReadingOpened.{reading_opened}
 
 -- ---- line 1
 
--- only version 1 is read
+-- versions 1 and 2 are read
 pub header_of_another_version : map reading (
     codes "{\"kqsim\":3}"
     ∷ codes "{\"kqsim\":0}"
     ∷ codes "{\"kqsim\":-1}"
-    ∷ codes "{\"kqsim\":2}\n{\"op\":\"proc\",\"pid\":1}\n" ∷ [])
+    ∷ codes "{\"kqsim\":3}\n{\"op\":\"proc\",\"pid\":1}\n" ∷ [])
     ≡ replicate 4 (Bad 1 Header)
 unfolding reading_opened
 header_of_another_version = refl
@@ -219,7 +219,7 @@ unfolding reading_opened
 least_bad_line = refl
 
 -- line 1 before all
-pub header_before_the_rest : reading (codes "{\"kqsim\":2}\n{\n")
+pub header_before_the_rest : reading (codes "{\"kqsim\":3}\n{\n")
     ≡ Bad 1 Header
 unfolding reading_opened
 header_before_the_rest = refl

@@ -4,14 +4,15 @@ use Rattle.std.proofs.Common.{◌≡◌, ℕ, Bool, true, false, cond, not, ◌&
 use Rattle.std.proofs.lemmas.List.Elements.{All-nil, All-cons}
 use Rattle.std.specs.Prelude.{All}
 use Rattle.kq_model.specs.Close.{Pair, is_closed, closed, IsNotClosed, has_pair}
+use Rattle.kq_model.specs.Following.{Fork, forks_in}
 use Rattle.kq_model.specs.Hearing.{Hearing}
 use Rattle.kq_model.specs.Knote.{Knote, watches_number}
 use Rattle.kq_model.specs.Kqueue.{Kqueue}
 use Rattle.kq_model.specs.Moment.{Moment, happened, after_call, kqueue_step}
-use Rattle.kq_model.specs.Subjects.{HasSubject, HaveSubjects}
+use Rattle.kq_model.specs.Subjects.{HasSubject, HaveSubjects, FollowsSubject}
 use Rattle.kq_model.specs.System.{Live, stepped, lived}
 use Rattle.kq_model.specs.World.{Call}
-use Rattle.kq_model.proofs.SubjectsCall.{notified-subjects, clocked-subjects}
+use Rattle.kq_model.proofs.SubjectsCall.{notified-subjects, followed-subjects, clocked-subjects}
 
 module _ {S : Type 0} (h : Hearing S) (owner : ℕ) (pairs : List Pair) where
   abbrev still_open : List (Knote h) → List (Knote h)
@@ -43,10 +44,16 @@ none-closed h owner (k ∷ ks) =
 module _ {S : Type 0} (h : Hearing S) (m : Moment) where
   -- the hints and the clock of the record bring none back
   pub happened-closed : (owner : ℕ) (kq : Kqueue h) → HaveSubjects (IsNotClosed owner m.closed) (happened owner m kq).knotes
-  unfolding happened
+  unfolding happened watches_number
   happened-closed owner kq =
       clocked-subjects h (IsNotClosed owner m.closed) m.clock _
-      (notified-subjects h (IsNotClosed owner m.closed) m.views m.hints _ (closed-gone h owner m.closed kq))
+      (followed-subjects h (IsNotClosed owner m.closed) m.version m.hints _ (follow-closed (forks_in m.version m.hints))
+      (notified-subjects h (IsNotClosed owner m.closed) m.views m.hints _ (closed-gone h owner m.closed kq)))
+    where
+      -- what is closed is watched by no process
+      follow-closed : (fs : List Fork) → All (FollowsSubject (IsNotClosed owner m.closed)) fs
+      follow-closed [] = All-nil (FollowsSubject (IsNotClosed owner m.closed))
+      follow-closed (f ∷ fs) = All-cons (FollowsSubject (IsNotClosed owner m.closed)) f fs (λ _. refl) (follow-closed fs)
 
   uncalled : (kqueue owner : ℕ) (kq : Kqueue h) (c : Option Call) → c ≡ None → after_call kqueue owner m c kq ≡ happened owner m kq
   unfolding after_call

@@ -8,7 +8,7 @@ use Rattle.kq_model.specs.declared.change.Change.{Change}
 use Rattle.kq_model.specs.declared.object.Named.{Named}
 use Rattle.kq_model.specs.declared.object.Named.TheVariants as named
 use Rattle.kq_model.specs.declared.why.Why.TheVariants.{UsedPid, UsedDescriptor, ClockBack, TooMany}
-use Rattle.kq_model.specs.Bits.{fork_note, exec_note, exit_note}
+use Rattle.kq_model.specs.Bits.{exec_note, exit_note}
 use Rattle.kq_model.specs.Close.{has_pair}
 use Rattle.kq_model.specs.CountedWorld.{place_named, NamesBelow, IsOwned, IsCountedWorld, Keeps, KeepsCounts}
 use Rattle.kq_model.specs.Descriptors.{Descriptor, IsRising, named_among, with_descriptor, with_descriptors, without_closed}
@@ -17,7 +17,7 @@ use Rattle.kq_model.specs.Holding.{hold, hold_doings, is_same, one_if, option_li
 use Rattle.kq_model.specs.Limits.{most_changes, most_room}
 use Rattle.kq_model.specs.Objects.{Objects, counted, all_done}
 use Rattle.kq_model.specs.Processes.{Process, Start, Exit, Disposition, ignored_by, ignores_none, is_live, process_of, was_used, with_disposition, with_process, with_start, without_process}
-use Rattle.kq_model.specs.ProcessPlans.{delivery, descriptors_of, hold_all, inherited, is_signal, names_of, noted, pairs_of, plan_clock, plan_clock_at, plan_exec, plan_exit, plan_fork, plan_proc, plan_sig, plan_sigset}
+use Rattle.kq_model.specs.ProcessPlans.{delivery, descriptors_of, forked, hold_all, inherited, is_signal, names_of, noted, pairs_of, plan_clock, plan_clock_at, plan_exec, plan_exit, plan_fork, plan_proc, plan_sig, plan_sigset}
 use Rattle.kq_model.specs.World.{World, Plan, Planned, Impossible, Possible, carried_out, clock_after, idle, named_by, with_kqueue}
 use Rattle.kq_model.proofs.CountedSteps.{below-here, further, impossible, one_higher, quiet, same_processes}
 use Rattle.kq_model.proofs.CountedTables.{inherited-all, inherited-new, inherited-owned, named_among-all, named_among-closed, named_among-none, one_pair, times-parts, times-with_descriptor, times-with_descriptors, times-without, with_descriptors-rising, without_closed-nothing, without_closed-process}
@@ -258,7 +258,7 @@ module _ (place pid child : ℕ) (w : World counted) where
   forks = Possible (record idle {
     opened = passed_on;
     doings = hold_all (names_of passed_on);
-    hints = noted pid fork_note ∷ [];
+    hints = forked pid child;
     started = Some start;
   })
 

@@ -1,7 +1,7 @@
 -- The kqueues that a trace makes have different places, so each place has one owner.
-use Rattle.std.proofs.Common.{◌≡◌, ℕ, ◌+◌, ◌<◌, ◌≤◌, Bool, true, eqb, List, [], ◌∷◌, ◌++◌, map, Option, Some, None, refl, sym, arith}
+use Rattle.std.proofs.Common.{◌≡◌, ℕ, ◌+◌, ◌≤◌, true, eqb, List, [], ◌∷◌, ◌++◌, map, Option, Some, None, refl, sym, arith}
 use Rattle.std.proofs.lemmas.Bool.{eq-eqb}
-use Rattle.std.proofs.lemmas.List.Elements.{All-nil, All-cons, All-tail, All-map, All-weaker, All-contains_itself}
+use Rattle.std.proofs.lemmas.List.Elements.{All-nil, All-cons, All-map, All-weaker, All-contains_itself}
 use Rattle.std.specs.List.{All, Contains, list_any}
 use Rattle.kq_model.specs.Births.{Birth, birth_at, birth_by, births_from}
 use Rattle.kq_model.specs.Close.{Pair}

@@ -1,19 +1,19 @@
 -- The rows of one kqueue in the fold of the whole system are those that it gives alone over all moments: it
 -- starts empty at the first record, is empty still where it is made, and no call is on it before or after.
 use Rattle.std.proofs.Common.{◌≡◌, ℕ, ◌+◌, ◌<◌, ◌≤◌, Bool, true, false, cond, not, eqb, ◌||◌, List, [], ◌∷◌, ◌++◌, map, filter, Option, Some, None, refl, sym, ap, ap₂, subst, ◌∙◌, arith}
-use Rattle.std.proofs.lemmas.Bool.{eqb-true, false≢true, cond-true, cond-false}
+use Rattle.std.proofs.lemmas.Bool.{eqb-true, false≢true}
 use Rattle.std.proofs.lemmas.List.{map-append}
 use Rattle.std.proofs.lemmas.List.Elements.{All-nil, All-cons, All-head, All-tail, All-append, All-filter, All-map, All-weaker, filter-append}
 use Rattle.std.specs.List.{All}
-use Rattle.kq_model.specs.declared.reply.Reply.{Reply}
 use Rattle.kq_model.specs.declared.reply.Reply.TheVariants as reply
 use Rattle.kq_model.specs.declared.row.Row.{Row}
 use Rattle.kq_model.specs.Births.{Birth, birth_at, birth_by, births_from}
-use Rattle.kq_model.specs.Clock.{Span, clocked}
+use Rattle.kq_model.specs.Clock.{clocked}
 use Rattle.kq_model.specs.Close.{Pair, has_pair, closed}
+use Rattle.kq_model.specs.Following.{Fork, forks_in, heir, with_heir, followed_each}
 use Rattle.kq_model.specs.Hearing.{Hearing}
 use Rattle.kq_model.specs.Hints.{knotes_noticing, queue_after_all, notified}
-use Rattle.kq_model.specs.Knote.{Knote}
+use Rattle.kq_model.specs.Knote.{find_knote}
 use Rattle.kq_model.specs.Kqueue.{Kqueue, empty_kqueue}
 use Rattle.kq_model.specs.LiveCalls.{call_of, is_live, OnLive, CallLive}
 use Rattle.kq_model.specs.Moment.{Moment, moment_of, happened, called_at, after_call, kqueue_step}
@@ -23,7 +23,7 @@ use Rattle.kq_model.specs.OwnedRows.{OwnedRow, same_kqueue, owned_by, owned_rows
 use Rattle.kq_model.specs.References.{Names}
 use Rattle.kq_model.specs.Replayed.{own_reply, rows_over}
 use Rattle.kq_model.specs.System.{Live, System, stepped, lived, born, answer, reply_to, kqueue_of, step_by, row_of}
-use Rattle.kq_model.specs.World.{World, Call, Plan, Planned, Impossible, Possible, carried_out}
+use Rattle.kq_model.specs.World.{Call, Planned, Impossible, Possible}
 use Rattle.kq_model.proofs.KnoteLaws.{by_test}
 use Rattle.kq_model.proofs.ListFilters.{All-left, All-right}
 use Rattle.kq_model.proofs.PrivateParts.{clock_stays}
@@ -59,9 +59,16 @@ module _ {S : Type 0} (h : Hearing S) (kqueue owner : ℕ) where
   abbrev no_names : Names
   no_names = record { number = λ n. false; target = λ t. false; timer = false }
 
+  -- it has no knote that follows
+  follows-nobody : (fs : List Fork) → followed_each fs nothing ≡ nothing
+  unfolding followed_each heir with_heir find_knote
+  follows-nobody [] = refl
+  follows-nobody (f ∷ fs) = follows-nobody fs
+
   happened-empty : (m : Moment) → happened owner m nothing ≡ nothing
   unfolding happened closed notified knotes_noticing queue_after_all
-  happened-empty m = clock_stays h no_names m.clock nothing (All-nil _)
+  happened-empty m =
+      ap (clocked m.clock) (follows-nobody (forks_in m.version m.hints)) ∙ clock_stays h no_names m.clock nothing (All-nil _)
 
   abbrev IsBefore : ℕ → Live h → Type 0
   IsBefore place l = l.place < place

@@ -1,5 +1,5 @@
 -- The rows of the fold: that they rise, whose they are, and which have no kqueue.
-use Rattle.std.proofs.Common.{◌≡◌, ℕ, ◌+◌, ◌<◌, ◌≤◌, Bool, true, false, cond, not, eqb, ◌||◌, List, [], ◌∷◌, ◌++◌, map, filter, Option, Some, None, refl, sym, ap, ap₂, subst, ◌∙◌, arith}
+use Rattle.std.proofs.Common.{◌≡◌, ℕ, ◌+◌, ◌<◌, ◌≤◌, true, cond, not, eqb, ◌||◌, List, [], ◌∷◌, ◌++◌, map, filter, Option, Some, None, refl, sym, ap, ap₂, subst, ◌∙◌, arith}
 use Rattle.std.proofs.lemmas.Bool.{eqb-true, false≢true}
 use Rattle.std.proofs.lemmas.List.{map-append}
 use Rattle.std.proofs.lemmas.List.Elements.{All-nil, All-cons, All-head, All-tail, All-append, All-filter, All-map, All-weaker}
@@ -18,7 +18,7 @@ use Rattle.kq_model.specs.Objects.{Keeping}
 use Rattle.kq_model.specs.OwnedRows.{OwnedRow, same_kqueue, owned_by, owned_in, owned_rows, rows_of, all_rows, plain_by, plain_from, Rise}
 use Rattle.kq_model.specs.Plans.{plan}
 use Rattle.kq_model.specs.System.{Live, System, stepped, lived, born, reply_to, kqueue_of, step_by, step, row_of, rows_after}
-use Rattle.kq_model.specs.World.{Call, Planned, Impossible, Possible, seen_world, carried_out}
+use Rattle.kq_model.specs.World.{Call, Planned, Impossible, Possible, seen_world}
 use Rattle.kq_model.proofs.Distinct.{IsOf}
 use Rattle.kq_model.proofs.FoldAlone.{rows_of-append, rows_of-none}
 use Rattle.kq_model.proofs.KnoteLaws.{by_test}

@@ -1,18 +1,18 @@
 -- A knote that is told hints one after the other becomes what the definition of a record's hints makes of it.
-use Rattle.std.proofs.Common.{◌≡◌, ◌≤◌, ◌+◌, ◌==◌, ℕ, min, Bool, true, false, cond, ◌&&◌, ◌||◌, List, [], ◌∷◌, map, filter, Option, Some, None, refl, sym, ap, ◌∙◌, subst, arith, if◌then◌else◌}
-use Rattle.std.proofs.lemmas.Bool.{cond_both, true≢false, eqb-true}
+use Rattle.std.proofs.Common.{◌≡◌, ◌+◌, ◌==◌, min, Bool, true, false, cond, ◌&&◌, ◌||◌, List, [], ◌∷◌, filter, Option, Some, None, refl, sym, ap, ◌∙◌, subst, arith, if◌then◌else◌}
+use Rattle.std.proofs.lemmas.Bool.{true≢false, eqb-true, and_parts}
 use Rattle.std.specs.List.{list_any}
+use Rattle.std.specs.Option.{is_none}
 use Rattle.kq_model.specs.declared.filter.Filter.{Filter}
 use Rattle.kq_model.specs.declared.filter.Filter.TheVariants.{Read, Write, Vnode, Proc, Signal, Timer, User, Aio, Lio, Fs, Procdesc, Sendfile, Empty}
 use Rattle.kq_model.specs.declared.key.Key.{Key}
 use Rattle.kq_model.specs.declared.object.Hint.{Hint}
-use Rattle.kq_model.specs.declared.object.Target.{Target}
 use Rattle.kq_model.specs.declared.object.View.{View}
 use Rattle.kq_model.specs.ChangedKnote.{activated}
 use Rattle.kq_model.specs.Hearing.{Hearing, Occurrence, Told, Tally, tallying, most_counted}
 use Rattle.kq_model.specs.Hints.{takes, kept, is_exit, is_done, added, heard_by, hears_exit, after_hint, hints_for, unless_silent, noticed}
-use Rattle.kq_model.specs.Knote.{Knote}
-use Rattle.kq_model.specs.Look.{Seen, look, look_by, look_user, mark_of}
+use Rattle.kq_model.specs.Knote.{Knote, has_nothing}
+use Rattle.kq_model.specs.Look.{Seen, look, look_by, look_user, mark_of, notice_or}
 use Rattle.kq_model.specs.Noticing.{heard_along, is_done_along, left_by}
 use Rattle.kq_model.specs.Targets.{Posted}
 use Rattle.kq_model.specs.Views.{Views}
@@ -164,17 +164,17 @@ module _ {S : Type 0} {h : Hearing S} where
 
   look-oneshot : (views : Views) (b : Bool) (k : Knote h) → look views (with_oneshot b k) ≡ look views k
   unfolding look
-  look-oneshot views b k = look_by-oneshot k.key.filter _ b k
+  look-oneshot views b k = ap (notice_or k.notice) (look_by-oneshot k.key.filter _ b k)
 
   activated-oneshot : (seen : Option Seen) (b : Bool) (k : Knote h) → activated seen (with_oneshot b k) ≡ with_oneshot b (activated seen k)
   unfolding activated
   activated-oneshot None b k = refl
   activated-oneshot (Some seen) b k = refl
 
-  activated-seen : (seen : Option Seen) (k : Knote h) → (activated seen k).seen ≡ k.seen
+  activated-nothing : (seen : Option Seen) (k : Knote h) → has_nothing (activated seen k) ≡ has_nothing k
   unfolding activated
-  activated-seen None k = refl
-  activated-seen (Some seen) k = refl
+  activated-nothing None k = refl
+  activated-nothing (Some seen) k = refl
 
   pub activated-key : (seen : Option Seen) (k : Knote h) → (activated seen k).key ≡ k.key
   unfolding activated
@@ -194,8 +194,8 @@ module _ {S : Type 0} {h : Hearing S} where
   exit_or_not views false b k is =
       ap (λ o. Some (activated (look views (with_oneshot o k)) (with_oneshot o k))) (is ∙ sym (or_false b))
   exit_or_not views true b k is =
-      ap (λ s. cond (h.is_empty s) None (Some (with_oneshot true (activated (look views k) k)))) (activated-seen (look views k) k)
-      ∙ ap (λ (x : Knote h). cond (h.is_empty k.seen) None (Some x))
+      ap (λ b. cond b None (Some (with_oneshot true (activated (look views k) k)))) (activated-nothing (look views k) k)
+      ∙ ap (λ (x : Knote h). cond (has_nothing k) None (Some x))
       (sym (activated-oneshot (look views k) true k) ∙ ap (λ o. activated o (with_oneshot true k)) (sym (look-oneshot views true k)))
       ∙ ap (λ o. left_by views true (with_oneshot o k)) (sym (or_true b))
 
@@ -205,24 +205,24 @@ module _ {S : Type 0} {h : Hearing S} where
   same_silent done e false x is = ap (λ b. cond b None x) (and_false done ∙ sym (and_false e))
 
   module _ (hears : (x : Occurrence) (s : S) → h.is_empty (h.heard x s) ≡ false) where
-    added-empty : (o : Option Hint) (k : Knote h) → h.is_empty (added o k).seen ≡ true → h.is_empty k.seen ≡ true
+    added-empty : (o : Option Hint) (k : Knote h) → has_nothing (added o k) ≡ true → has_nothing k ≡ true
     unfolding added
     added-empty None k e = e
-    added-empty (Some hint) k e = absurd (true≢false (sym e ∙ hears (Told hint) k.seen))
+    added-empty (Some hint) k e = absurd (true≢false (sym (and_parts (is_none k.notice) _ e).1 ∙ hears (Told hint) k.seen))
 
-    after-empty : (hint : Hint) (k : Knote h) → h.is_empty (after_hint hint k).seen ≡ true → h.is_empty k.seen ≡ true
+    after-empty : (hint : Hint) (k : Knote h) → has_nothing (after_hint hint k) ≡ true → has_nothing k ≡ true
     unfolding after_hint
     after-empty hint k =
-        by_test (λ b. h.is_empty (cond b (added (kept k.fflags hint) k) k).seen ≡ true → h.is_empty k.seen ≡ true) (takes k.key.filter hint)
+        by_test (λ b. has_nothing (cond b (added (kept k.fflags hint) k) k) ≡ true → has_nothing k ≡ true) (takes k.key.filter hint)
         (λ _. added-empty (kept k.fflags hint) k) (λ _ e. e)
 
     -- what was heard is not forgotten
-    along-empty : (hints : List Hint) (k : Knote h) → h.is_empty (heard_along hints k).seen ≡ true → h.is_empty k.seen ≡ true
+    along-empty : (hints : List Hint) (k : Knote h) → has_nothing (heard_along hints k) ≡ true → has_nothing k ≡ true
     unfolding heard_along
     along-empty [] k e = e
     along-empty (hint ∷ hints) k e = after-empty hint k (along-empty hints (after_hint hint k) e)
 
-    done-along : (hints : List Hint) (k : Knote h) → h.is_empty (heard_along hints k).seen ≡ true → is_done_along hints k ≡ hears_exit hints k
+    done-along : (hints : List Hint) (k : Knote h) → has_nothing (heard_along hints k) ≡ true → is_done_along hints k ≡ hears_exit hints k
     unfolding heard_along is_done_along is_done
     done-along [] k e = refl
     done-along (hint ∷ hints) k e =
@@ -239,7 +239,7 @@ module _ {S : Type 0} {h : Hearing S} where
         let n = heard_along (hint ∷ hints) k in
         exit_or_not views (hears_exit (hint ∷ hints) k) k.oneshot (heard_by (hint ∷ hints) k) (heard_by-same_oneshot (hint ∷ hints) k)
         ∙ ap (left_by views (hears_exit (hint ∷ hints) k)) (sym (heard_along-is (hint ∷ hints) k taken))
-        ∙ sym (same_silent (is_done_along (hint ∷ hints) k) (hears_exit (hint ∷ hints) k) (h.is_empty n.seen)
+        ∙ sym (same_silent (is_done_along (hint ∷ hints) k) (hears_exit (hint ∷ hints) k) (has_nothing n)
         (Some (activated (look views n) n)) (done-along (hint ∷ hints) k))
 
     -- what becomes of a knote that was told the hints for it

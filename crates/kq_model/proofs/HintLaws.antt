@@ -43,7 +43,7 @@ module _ {S : Type 0} {h : Hearing S} where
         ∙ noticing-absent key ks (find_knote-tail key k ks absent)
 
     -- the knote of a key is what is left of the one that it had
-    find_knote-noticing : (key : Key) (ks : List (Knote h)) → HaveOwnKeys ks
+    pub find_knote-noticing : (key : Key) (ks : List (Knote h)) → HaveOwnKeys ks
         → find_knote key (noticing ks) ≡ option_and_then left (find_knote key ks)
     unfolding knotes_noticing
     find_knote-noticing key [] own =

@@ -1,16 +1,15 @@
 -- What one more record at the end adds to the trace's plans, moments, kqueues and plain rows, and to its history.
-use Rattle.std.proofs.Common.{◌≡◌, ℕ, ◌+◌, ◌<◌, ◌≤◌, Bool, true, false, cond, ltb, length, List, [], ◌∷◌, ◌++◌, refl, sym, ap, subst, ◌∙◌, arith}
+use Rattle.std.proofs.Common.{◌≡◌, ℕ, ◌+◌, cond, ltb, length, List, [], ◌∷◌, ◌++◌, refl, sym, ap, ◌∙◌, arith}
 use Rattle.std.proofs.lemmas.Bool.{cond-true, lt-ltb, ltb-true}
 use Rattle.std.proofs.lemmas.List.{append_assoc, append-nil}
 use Rattle.kq_model.specs.declared.event.Event.{Event}
-use Rattle.kq_model.specs.declared.row.Row.{Row}
-use Rattle.kq_model.specs.Births.{Birth, birth_by, births_from}
+use Rattle.kq_model.specs.Births.{birth_by, births_from}
 use Rattle.kq_model.specs.Moment.{Moment}
 use Rattle.kq_model.specs.Moments.{world_by, plans_from, moment_by, moments_from, world_at, world_after}
 use Rattle.kq_model.specs.Objects.{Keeping}
 use Rattle.kq_model.specs.OwnedRows.{plain_by, plain_from}
 use Rattle.kq_model.specs.Plans.{plan}
-use Rattle.kq_model.specs.References.{Reference, references_in, references}
+use Rattle.kq_model.specs.References.{references_in, references}
 use Rattle.kq_model.specs.World.{World, Planned, seen_world}
 use Rattle.kq_model.proofs.KnoteLaws.{by_test}
 

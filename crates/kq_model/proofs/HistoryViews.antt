@@ -1,12 +1,11 @@
 -- What a moment's views answer is what the history of the trace answers at its place.
-use Rattle.std.proofs.Common.{◌≡◌, ℕ, ◌+◌, ◌<◌, ◌≤◌, Bool, true, false, cond, ltb, List, [], ◌∷◌, refl, sym, ap, ◌∙◌, arith}
+use Rattle.std.proofs.Common.{◌≡◌, ℕ, ◌+◌, ◌≤◌, ltb, List, [], ◌∷◌, refl, sym, ap, ◌∙◌, arith}
 use Rattle.std.proofs.lemmas.Bool.{cond-true, cond-false, lt-ltb, le-ltb}
-use Rattle.std.proofs.lemmas.List.Elements.{All-nil, All-cons, All-head, All-tail, All-weaker}
+use Rattle.std.proofs.lemmas.List.Elements.{All-nil, All-cons, All-weaker}
 use Rattle.std.specs.List.{All}
 use Rattle.kq_model.specs.Moment.{Moment, moment_of}
 use Rattle.kq_model.specs.Moments.{world_by, moments_from, moment_by, world_at, views_at}
 use Rattle.kq_model.specs.Objects.{Keeping}
-use Rattle.kq_model.specs.Views.{Views}
 use Rattle.kq_model.specs.World.{World, Planned, Impossible, Possible, seen_world, views_of, carried_out}
 
 module _ {A B C D : Type 0} {k : Keeping A B C D} (version : ℕ) where

@@ -5,12 +5,12 @@ pub mod KeyLists
 pub mod NoticedKnote
 pub mod HintLaws
 pub mod Subjects
+pub mod SameTarget
 pub mod SubjectsCall
 pub mod CloseLaw
 pub mod NamedTargets
 pub mod ListFilters
 pub mod QueueKeys
-pub mod SameTarget
 pub mod PrivateParts
 pub mod PrivateStep
 pub mod PrivateReplay
@@ -97,3 +97,13 @@ pub mod WatchedNumbers
 pub mod UntouchedTargets
 pub mod PrivateItems
 pub mod HistoryPushed
+pub mod AbsoluteTimers
+pub mod FollowingRows
+pub mod Descended
+pub mod SilentPlans
+pub mod BornFirst
+pub mod Following
+pub mod Quiet
+pub mod VersionOneChanges
+pub mod VersionOneKqueues
+pub mod VersionOne

@@ -13,7 +13,7 @@ use Rattle.kq_model.specs.declared.object.Named.{Named}
 use Rattle.kq_model.specs.declared.object.Named.TheVariants as named
 use Rattle.kq_model.specs.declared.why.Why.{Why}
 use Rattle.kq_model.specs.declared.why.Why.TheVariants.{UsedPid, UsedDescriptor, ClockBack, TooMany}
-use Rattle.kq_model.specs.Bits.{fork_note, exec_note, exit_note}
+use Rattle.kq_model.specs.Bits.{exec_note, exit_note}
 use Rattle.kq_model.specs.CountedWorld.{IsCountedWorld}
 use Rattle.kq_model.specs.Descriptors.{Descriptor, named_among, without_closed}
 use Rattle.kq_model.specs.DescriptorPlans.{close_doings, close_hints, closes, duplicated, plan_call, plan_close, plan_dup, plan_kevent, plan_kqueue}
@@ -25,7 +25,7 @@ use Rattle.kq_model.specs.ObjectRecordPlans.{descriptor, pipe_ends, plan_accept,
 use Rattle.kq_model.specs.Objects.{counted, all_done}
 use Rattle.kq_model.specs.Planning as object_planning
 use Rattle.kq_model.specs.Processes.{ignored_by, ignores_none, process_of, was_used}
-use Rattle.kq_model.specs.ProcessPlans.{delivery, descriptors_of, hold_all, inherited, is_signal, names_of, noted, pairs_of, plan_clock, plan_exec, plan_exit, plan_fork, plan_proc, plan_sig, plan_sigset}
+use Rattle.kq_model.specs.ProcessPlans.{delivery, descriptors_of, forked, hold_all, inherited, is_signal, names_of, noted, pairs_of, plan_clock, plan_exec, plan_exit, plan_fork, plan_proc, plan_sig, plan_sigset}
 use Rattle.kq_model.specs.World.{World, Planned, Impossible, Possible, carried_out, empty_world, idle, named_by}
 use Rattle.kq_model.proofs.CountedTables.{has_pair-one, inherited-all, one_pair, times-without}
 use Rattle.kq_model.proofs.CountedWorld.{hold_all-done}
@@ -178,7 +178,7 @@ listed-fork place pid child w =
     let forks : Planned = Possible (record idle {
       opened = ds;
       doings = hold_all (names_of ds);
-      hints = noted pid fork_note ∷ [];
+      hints = forked pid child;
       started = Some (record { pid = child; ignores = ignored_by (process_of pid w.processes) });
     }) in
     unless_gone (KeepsLists place w) (refused place w) w pid (if was_used child w.processes then Impossible UsedPid else forks)

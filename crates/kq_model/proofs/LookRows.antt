@@ -1,5 +1,5 @@
 -- What READ and WRITE see of sockets and pipes, and what the other filters show, by example.
-use Rattle.std.specs.Prelude.{◌≡◌, ⊤, ℕ, ℤ, pos, negsuc, Bool, true, false, List, [], ◌∷◌, Option, None, Some}
+use Rattle.std.specs.Prelude.{◌≡◌, ℕ, ℤ, pos, negsuc, Bool, true, false, List, [], ◌∷◌, Option, None, Some}
 use Rattle.std.proofs.Common.{refl}
 use Rattle.kq_model.specs.declared.act.Act.{Act}
 use Rattle.kq_model.specs.declared.act.Act.TheVariants.{Socket, Listen, Arrive, Connect, Receive, Shut, LowWater, Pipe, Read, Write}
@@ -10,14 +10,12 @@ use Rattle.kq_model.specs.declared.object.Named.{Named}
 use Rattle.kq_model.specs.declared.object.Named.TheVariants as on
 use Rattle.kq_model.specs.declared.object.Target.{Target}
 use Rattle.kq_model.specs.declared.object.Target.TheVariants as target
-use Rattle.kq_model.specs.declared.object.View.{View}
 use Rattle.kq_model.specs.declared.object.View.TheVariants as view
 use Rattle.kq_model.specs.declared.side.Side.TheVariants as side
 use Rattle.kq_model.specs.Bits.{lowat_note, exit_note, fork_note}
 use Rattle.kq_model.specs.Hearing.{Occurrence, Told, listed}
 use Rattle.kq_model.specs.Knote.{Knote}
 use Rattle.kq_model.specs.Look.{Seen, look_by}
-use Rattle.kq_model.specs.Objects as objects
 use Rattle.kq_model.proofs.ObjectBuilders.{objects_opened, after, seen}
 use Rattle.kq_model.specs.Holding.{all_released}
 use Rattle.kq_model.proofs.Opened.{system_opened}
@@ -40,6 +38,7 @@ knote f fflags datum heard = record {
   period = 0;
   bits = 0;
   triggered = false;
+  notice = None;
 }
 
 -- what a knote without parameters sees after these records

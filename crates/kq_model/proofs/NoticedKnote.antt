@@ -8,7 +8,7 @@ use Rattle.kq_model.specs.ChangedKnote.{activated}
 use Rattle.kq_model.specs.Hearing.{Hearing}
 use Rattle.kq_model.specs.HintLaws.{begins_to_wait}
 use Rattle.kq_model.specs.Hints.{kept, added, heard_by, hears_exit, unless_silent, noticed, if_there, queue_with, queue_noticing}
-use Rattle.kq_model.specs.Knote.{Knote, key_eq, has_key, without_key, find_knote}
+use Rattle.kq_model.specs.Knote.{Knote, has_nothing, key_eq, has_key, without_key, find_knote}
 use Rattle.kq_model.specs.Look.{Seen, look}
 use Rattle.kq_model.specs.Registration.{queue_for}
 use Rattle.kq_model.specs.RegistrationLaws.{keys_of}
@@ -75,7 +75,7 @@ module _ {S : Type 0} {h : Hearing S} where
   unless_silent-follows : (exits : Bool) (k x : Knote h) → Follows k (Some x) → Follows k (unless_silent exits x)
   unfolding unless_silent
   unless_silent-follows false k x follows = follows
-  unless_silent-follows true k x follows = cond_both (h.is_empty x.seen) _ _ (Follows k) (λ _. tt) (λ _. follows)
+  unless_silent-follows true k x follows = cond_both (has_nothing x) _ _ (Follows k) (λ _. tt) (λ _. follows)
 
   pub noticed-follows : (views : Views) (hints : List Hint) (k : Knote h) → Follows k (noticed views hints k)
   unfolding noticed

@@ -1,13 +1,11 @@
 -- The close of a number takes out three keys at most: those of READ, WRITE and VNODE.
-use Rattle.std.proofs.Common.{◌≡◌, ℕ, Bool, true, false, cond, not, ◌&&◌, ◌||◌, ◌==◌, List, [], ◌∷◌, filter, refl, sym, ap, ◌∙◌}
+use Rattle.std.proofs.Common.{◌≡◌, ℕ, Bool, true, false, cond, not, ◌&&◌, ◌==◌, List, [], ◌∷◌, filter, refl, ap, ◌∙◌}
 use Rattle.kq_model.specs.declared.filter.Filter.{Filter}
 use Rattle.kq_model.specs.declared.filter.Filter.TheVariants.{Read, Write, Vnode, Proc, Signal, Timer, User, Aio, Lio, Fs, Procdesc, Sendfile, Empty}
 use Rattle.kq_model.specs.declared.key.Key.{Key}
-use Rattle.kq_model.specs.Close.{Pair, is_of_number, is_closed, closed}
+use Rattle.kq_model.specs.Close.{is_of_number}
 use Rattle.kq_model.specs.Hearing.{Hearing}
 use Rattle.kq_model.specs.Knote.{Knote, key_eq, filter_eq, watches_number, without_knote, without_key}
-use Rattle.kq_model.specs.Kqueue.{Kqueue}
-use Rattle.kq_model.specs.Registration.{with_removed}
 use Rattle.kq_model.proofs.KnoteLaws.{by_test}
 
 -- two filters, one after the other, are one

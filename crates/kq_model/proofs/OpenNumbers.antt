@@ -1,19 +1,18 @@
 -- What a number that is open names, a record leaves as it was, unless it closes the number. For whatever it
 -- opens is new in the table, which stays in rising order.
-use Rattle.std.proofs.Common.{◌≡◌, ℕ, Bool, true, false, cond, ◌&&◌, ◌||◌, eqb, ltb, List, [], ◌∷◌, Option, Some, None, refl, sym, ◌∙◌, arith}
+use Rattle.std.proofs.Common.{◌≡◌, ℕ, true, false, cond, ◌&&◌, ◌||◌, eqb, ltb, List, [], ◌∷◌, Option, Some, None, refl, sym, ◌∙◌, arith}
 use Rattle.std.proofs.lemmas.Bool.{true≢false}
 use Rattle.std.proofs.lemmas.Bool.Decides.{nat_tests}
 use Rattle.std.proofs.lemmas.List.Elements.{All-nil, All-cons, All-head, All-tail}
 use Rattle.std.proofs.lemmas.Option.{none-some}
 use Rattle.std.specs.Prelude.{All}
 use Rattle.kq_model.specs.declared.object.Named.{Named}
-use Rattle.kq_model.specs.declared.object.Named.TheVariants as named
 use Rattle.kq_model.specs.Close.{Pair, has_pair}
 use Rattle.kq_model.specs.Descriptors.{Descriptor, IsRising, is_before, named_among, with_descriptor, with_descriptors, without_closed}
 use Rattle.kq_model.specs.Objects.{Keeping}
 use Rattle.kq_model.specs.World.{World, Plan, carried_out, with_kqueue}
 use Rattle.kq_model.proofs.KnoteLaws.{by_test}
-use Rattle.kq_model.proofs.UntouchedNumbers.{is_it, passed, other-closed, other-descriptor}
+use Rattle.kq_model.proofs.UntouchedNumbers.{is_it, other-closed, other-descriptor}
 
 -- ---- what held with one more held without it
 

@@ -5,14 +5,15 @@ use Rattle.serde_json.proofs.OnLiterals.{serde_json_on_literals}
 use Rattle.kq_model.specs.Names.{filter_among, filter_named, names_of}
 use Rattle.kq_model.specs.Hearing as hearing
 use Rattle.kq_model.specs.Knote.{watches_number, is_timer, find_knote}
-use Rattle.kq_model.specs.Look.{side_seen, amount_seen, read_seen, write_seen, status_of, process_seen, notes_seen, count_seen, mark_of, look_user, look_by, look, is_simulated}
+use Rattle.kq_model.specs.Look.{side_seen, amount_seen, read_seen, write_seen, status_of, process_seen, notes_seen, count_seen, mark_of, look_user, look_by, notice_or, look, is_simulated}
 use Rattle.kq_model.specs.Targets.{number_in, named_in, object_of, file_of, target_of, target_eq, is_target}
 use Rattle.kq_model.specs.Refusals.{invalid_if, is_readable, is_writable, is_file, is_live_process, process_in, process_refusal, own_refusal}
 use Rattle.kq_model.specs.ChangedKnote as knote
 use Rattle.kq_model.specs.Registration.{unless_refused, decided, decision, queue_for, carried_out, register}
-use Rattle.kq_model.specs.Retrieval.{event_flags, event_of, reset, rested, knotes_after, stays, back_after, turned_at_look, turned_at, turned, delivered, after_turn, retrieve, retrieval}
+use Rattle.kq_model.specs.Retrieval.{event_flags, event_of, reset, rested, knotes_after, stays, back_after, with_notice_told, settled, turned_at_look, turned_at, turned, delivered, after_turn, retrieve, retrieval}
 use Rattle.kq_model.specs.Call.{number_of, entry_of, is_answered, ended, after, process, returned, by_entries, by_answer, concluded, call}
 use Rattle.kq_model.specs.Hints.{takes, kept, is_exit, added, heard_by, unless_silent, noticed, if_there, knotes_noticing, queue_with, queue_noticing, queue_after_all, notified}
+use Rattle.kq_model.specs.Following.{forks_of, all_forks, heir, with_heir, followed_each}
 use Rattle.kq_model.specs.Close.{closed}
 use Rattle.kq_model.specs.Clock.{clock_from, clocked}
 use Rattle.kq_model.specs.Descriptors.{named_among, is_before, with_descriptor, with_descriptors}
@@ -33,13 +34,14 @@ unfoldable pub system_opened : ⊤
 unfolding serde_json_on_literals digits
     filter_among filter_named names_of
     hearing.notes_of hearing.is_none_of watches_number is_timer find_knote
-    side_seen amount_seen read_seen write_seen status_of process_seen notes_seen count_seen mark_of look_user look_by look is_simulated number_in named_in object_of file_of target_of target_eq is_target
+    side_seen amount_seen read_seen write_seen status_of process_seen notes_seen count_seen mark_of look_user look_by notice_or look is_simulated number_in named_in object_of file_of target_of target_eq is_target
     invalid_if is_readable is_writable is_file is_live_process process_in process_refusal own_refusal
-    knote.always_clears knote.period_in knote.controlled knote.fresh knote.started knote.begun knote.replaced knote.restarted knote.changed knote.switched knote.activated knote.attended knote.made knote.modified
+    knote.always_clears knote.start_in knote.period_in knote.has_come knote.controlled knote.fresh knote.started knote.begun knote.replaced knote.restarted knote.changed knote.switched knote.activated knote.attended knote.made knote.modified
     unless_refused decided decision queue_for carried_out register
-    event_flags event_of reset rested knotes_after stays back_after turned_at_look turned_at turned delivered after_turn retrieve retrieval
+    event_flags event_of reset rested knotes_after stays back_after with_notice_told settled turned_at_look turned_at turned delivered after_turn retrieve retrieval
     number_of entry_of is_answered ended after process returned by_entries by_answer concluded call
     takes kept is_exit added heard_by unless_silent noticed if_there knotes_noticing queue_with queue_noticing queue_after_all notified
+    forks_of all_forks heir with_heir followed_each
     closed clock_from clocked
     named_among is_before with_descriptor with_descriptors
     processes.was_used processes.is_live processes.process_of processes.ignored_by processes.with_start processes.with_process processes.without_process processes.with_disposition

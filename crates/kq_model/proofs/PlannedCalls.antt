@@ -1,9 +1,7 @@
 -- A record calls only a kqueue that a number names, and such a one is live; so each call of a trace is on a
 -- live kqueue.
-use Rattle.std.proofs.Common.{◌≡◌, ℕ, ℤ, pos, negsuc, ◌+◌, Bool, true, false, cond, not, ◌&&◌, ◌||◌, eqb, ltb, length, List, [], ◌∷◌, Option, Some, None, Ok, Err, refl, sym, ap, subst, ◌∙◌}
+use Rattle.std.proofs.Common.{◌≡◌, ℕ, ℤ, pos, negsuc, ◌+◌, Bool, true, false, cond, not, ◌||◌, eqb, ltb, length, List, [], ◌∷◌, Option, Some, None, Ok, Err, refl, sym, ap, subst, ◌∙◌}
 use Rattle.std.proofs.lemmas.Bool.{and_parts, eqb-true, eq-eqb}
-use Rattle.std.proofs.lemmas.List.Elements.{All-nil}
-use Rattle.std.specs.List.{list_any}
 use Rattle.std.specs.Option.{is_some}
 use Rattle.kq_model.specs.declared.act.Act.{Act}
 use Rattle.kq_model.specs.declared.act.Act.TheVariants as act
@@ -20,8 +18,8 @@ use Rattle.kq_model.specs.Descriptors.{Descriptor}
 use Rattle.kq_model.specs.Hearing.{Hearing}
 use Rattle.kq_model.specs.Limits.{most_changes, most_room}
 use Rattle.kq_model.specs.LiveCalls.{call_of, is_live, OnLive, CallLive}
-use Rattle.kq_model.specs.LiveKqueues.{is_live_as, has_live, NamesLive, AreAllLive}
-use Rattle.kq_model.specs.Moments.{world_by, plans_from}
+use Rattle.kq_model.specs.LiveKqueues.{is_live_as, has_live, AreAllLive}
+use Rattle.kq_model.specs.Moments.{plans_from}
 use Rattle.kq_model.specs.ObjectPlan as object
 use Rattle.kq_model.specs.ObjectRecordPlans.{with_objects, plan_act, plan_at, unless_open, if_live, descriptor, plan_socket, plan_accept, pipe_ends, plan_pipe, plan_open}
 use Rattle.kq_model.specs.Objects.{Keeping, counted}

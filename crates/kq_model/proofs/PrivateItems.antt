@@ -1,5 +1,5 @@
 -- The items of a private list are those of all items that concern the kqueue, in their order.
-use Rattle.std.proofs.Common.{◌≡◌, ℕ, Bool, true, false, cond, eqb, List, [], ◌∷◌, ◌++◌, map, filter, Option, Some, None, refl, sym, ap, ap₂, ◌∙◌}
+use Rattle.std.proofs.Common.{◌≡◌, ℕ, Bool, false, cond, eqb, List, [], ◌∷◌, ◌++◌, map, filter, Option, Some, None, refl, ap, ap₂, ◌∙◌}
 use Rattle.std.proofs.lemmas.List.Elements.{filter-append}
 use Rattle.std.specs.List.{flat_map}
 use Rattle.kq_model.specs.Clock.{Span}
@@ -7,7 +7,7 @@ use Rattle.kq_model.specs.Close.{Pair}
 use Rattle.kq_model.specs.Hearing.{listed}
 use Rattle.kq_model.specs.Items.{What, Closed, Told, Clocked, Called, Item, clock_whats, call_whats, whats, items_at, items_in, all_items, items_of, is_own}
 use Rattle.kq_model.specs.Moment.{Moment}
-use Rattle.kq_model.specs.PrivateList.{Concern, own_call, own_closed, own_hints, own_clock, concern_of, has_item, concerns, private_by}
+use Rattle.kq_model.specs.PrivateList.{Concern, own_call, own_closed, own_hints, own_clock, concern_of, concerns, private_by}
 use Rattle.kq_model.specs.References.{Names}
 use Rattle.kq_model.specs.Targets.{Posted}
 use Rattle.kq_model.specs.World.{Call}

@@ -1,30 +1,36 @@
 -- What a private list leaves out makes no difference to the kqueue: its knotes have subjects that its changes
 -- named, and closes, hints and the clock concern a knote by its subject alone.
-use Rattle.std.proofs.Common.{◌≡◌, ℕ, zero, suc, ◌+◌, ◌-◌, Bool, true, false, cond, not, ◌&&◌, eqb, List, [], ◌∷◌, ◌++◌, map, filter, Option, Some, None, refl, sym, ap, ap₂, subst, ◌∙◌}
+use Rattle.std.proofs.Common.{◌≡◌, ℕ, zero, suc, ◌+◌, ◌-◌, true, false, cond, not, ◌&&◌, eqb, List, [], ◌∷◌, ◌++◌, map, filter, Option, Some, None, refl, sym, ap, ap₂, subst, ◌∙◌}
 use Rattle.std.proofs.lemmas.Bool.{and_parts, and_from, and_left, and_right, both_ways, eqb-true, false_from_ne_true, false≢true, not_from_false}
-use Rattle.std.proofs.lemmas.List.Elements.{All-head, All-tail, All-weaker}
+use Rattle.std.proofs.lemmas.List.Elements.{All-nil, All-cons, All-head, All-tail, All-weaker}
+use Rattle.std.proofs.lemmas.Option.{same_Some}
 use Rattle.std.specs.List.{All}
 use Rattle.kq_model.specs.declared.filter.Filter.{Filter}
 use Rattle.kq_model.specs.declared.key.Key.{Key}
 use Rattle.kq_model.specs.declared.object.Hint.{Hint}
+use Rattle.kq_model.specs.declared.object.Hint.TheVariants.{Child}
 use Rattle.kq_model.specs.declared.object.Target.{Target}
+use Rattle.kq_model.specs.declared.object.Target.TheVariants.{Process}
 use Rattle.kq_model.specs.Clock.{Span, timers, expires_at, expired, waiting_of, kqueue_of_waiting, clock_from, clocked}
 use Rattle.kq_model.specs.Close.{Pair, has_pair, is_closed, closed}
+use Rattle.kq_model.specs.Following.{Fork, forks_of, all_forks, forks_in, process_key, follows, child_knote, heir, with_heir, followed_each, followed}
 use Rattle.kq_model.specs.Hearing.{Hearing}
 use Rattle.kq_model.specs.Hints.{takes, hints_for, noticed, if_there, knotes_noticing, queue_noticing, queue_after_all, notified}
-use Rattle.kq_model.specs.Knote.{Knote, watches_number, is_timer}
+use Rattle.kq_model.specs.Knote.{Knote, find_knote, watches_number, is_timer}
 use Rattle.kq_model.specs.Kqueue.{Kqueue}
 use Rattle.kq_model.specs.PrivateList.{own_closed, own_hints, own_clock}
 use Rattle.kq_model.specs.References.{Names}
-use Rattle.kq_model.specs.Subjects.{HasSubject, HaveSubjects}
+use Rattle.kq_model.specs.Subjects.{HasSubject, HaveSubjects, FollowsSubject}
 use Rattle.kq_model.specs.Targets.{Posted, is_target}
-use Rattle.kq_model.specs.Ticks.{expires}
 use Rattle.kq_model.specs.TimerWalk.{Waiting, rung_at, is_fresh, queue_at, walked}
 use Rattle.kq_model.specs.Views.{Views}
+use Rattle.kq_model.proofs.Following.{each-append}
 use Rattle.kq_model.proofs.KnoteLaws.{by_test}
-use Rattle.kq_model.proofs.ListFilters.{filter-same, filter-weaker, any-weaker, filter-all, all-where}
+use Rattle.kq_model.proofs.ListFilters.{filter-same, filter-weaker, any-weaker, filter-all, all-where, All-left, All-right}
 use Rattle.kq_model.proofs.QueueKeys.{Hold}
-use Rattle.kq_model.proofs.SameTarget.{same_target}
+use Rattle.kq_model.proofs.SameTarget.{same_target, watched_is}
+use Rattle.kq_model.proofs.Subjects.{find_knote-subject}
+use Rattle.kq_model.proofs.SubjectsCall.{IfIs, followed_each-subjects}
 
 -- a subject that was named
 abbrev pub IsReferred : Names → Filter → ℕ → Option Target → Type 0
@@ -127,6 +133,80 @@ module _ {S : Type 0} (h : Hearing S) (ns : Names) where
   pub notified-none : (views : Views) (kq : Kqueue h) → notified views [] kq ≡ kq
   unfolding notified
   notified-none views kq = ap₂ kqueue_with (knotes-none views kq.knotes) (queue-none views kq.knotes kq.queue)
+
+  -- ---- children
+
+  -- where the parent is named, the child is
+  abbrev pub IsClosedUnder : Fork → Type 0
+  IsClosedUnder f = ns.target (Process f.parent) ≡ true → ns.target (Process f.child) ≡ true
+
+  referred_child : (f : Fork) → IsClosedUnder f → FollowsSubject (IsReferred ns) f
+  unfolding watches_number is_timer
+  referred_child f closes parent = (
+    (λ watches. absurd (false≢true watches)),
+    (λ t is. subst (λ x. ns.target x ≡ true) (same_Some (Process f.child) t is) (closes (parent.1 (Process f.parent) refl))),
+    (λ timer. absurd (false≢true timer)),
+  )
+
+  pub referred_children : (fs : List Fork) → All IsClosedUnder fs → All (FollowsSubject (IsReferred ns)) fs
+  referred_children fs all = All-weaker IsClosedUnder (FollowsSubject (IsReferred ns)) referred_child fs all
+
+  -- a child is no number
+  pub numbered_children : (fs : List Fork) → All (FollowsSubject (λ f i t. IsNumbered ns f i)) fs
+  unfolding watches_number
+  numbered_children [] = All-nil (FollowsSubject (λ f i t. IsNumbered ns f i))
+  numbered_children (f ∷ fs) =
+      All-cons (FollowsSubject (λ f i t. IsNumbered ns f i)) f fs (λ _ watches. absurd (false≢true watches)) (numbered_children fs)
+
+  -- the knote of a process that is not named follows nobody, since it is not there
+  unnamed-heir : (f : Fork) (ks : List (Knote h)) (parent present : Option (Knote h)) → find_knote (process_key f.parent) ks ≡ parent
+      → IfIs h (IsReferred ns) parent → ns.target (Process f.parent) ≡ false → heir f parent present ≡ None
+  unfolding heir
+  unnamed-heir f ks (Some k) None found has unnamed =
+      by_test (λ b. cond b (Some (child_knote f k)) None ≡ None) (follows f.parent k)
+      (λ does. absurd (false≢true (sym unnamed ∙ has.1 (Process f.parent) (watched_is k.target (Process f.parent) (and_parts _ _ does).0))))
+      (λ _. refl)
+  unnamed-heir f ks None present found has unnamed = refl
+  unnamed-heir f ks (Some k) (Some x) found has unnamed = refl
+
+  unnamed-fork : (f : Fork) (kq : Kqueue h) → Are kq.knotes → ns.target (Process f.parent) ≡ false → followed_each (f ∷ []) kq ≡ kq
+  unfolding followed_each with_heir
+  unnamed-fork f kq all unnamed =
+      ap (λ n. with_heir n kq) (unnamed-heir f kq.knotes (find_knote (process_key f.parent) kq.knotes) (find_knote (process_key f.child) kq.knotes) refl
+      (find_knote-subject h (IsReferred ns) (process_key f.parent) kq.knotes all) unnamed)
+
+  unnamed-forks : (t : Target) (hint : Hint) (kq : Kqueue h) → Are kq.knotes → ns.target t ≡ false → followed_each (forks_of t hint) kq ≡ kq
+  unfolding forks_of followed_each
+  unnamed-forks (Process pid) (Child child) kq all unnamed = unnamed-fork (record { parent = pid; child = child }) kq all unnamed
+  unnamed-forks _ _ kq all unnamed = refl
+
+  each-own : (posted : List Posted) (kq : Kqueue h) → Are kq.knotes → All IsClosedUnder (all_forks posted)
+      → followed_each (all_forks (own_hints ns posted)) kq ≡ followed_each (all_forks posted) kq
+  unfolding all_forks
+  each-own [] kq all closes = refl
+  each-own (p ∷ posted) kq all closes =
+      let first = forks_of p.0 p.1 in
+      let rest = All-right IsClosedUnder first (all_forks posted) closes in
+      by_test (λ b. ns.target p.0 ≡ b → followed_each (all_forks (cond b (p ∷ own_hints ns posted) (own_hints ns posted))) kq
+      ≡ followed_each (first ++ all_forks posted) kq) (ns.target p.0)
+      (λ _ _. each-append first (all_forks (own_hints ns posted)) kq
+      ∙ each-own posted (followed_each first kq)
+      (followed_each-subjects h (IsReferred ns) first kq (referred_children first (All-left IsClosedUnder first (all_forks posted) closes)) all) rest
+      ∙ sym (each-append first (all_forks posted) kq))
+      (λ _ unnamed. each-own posted kq all rest
+      ∙ sym (each-append first (all_forks posted) kq ∙ ap (followed_each (all_forks posted)) (unnamed-forks p.0 p.1 kq all unnamed)))
+      refl
+
+  pub followed-own : (version : ℕ) (posted : List Posted) (kq : Kqueue h) → Are kq.knotes → All IsClosedUnder (forks_in version posted)
+      → followed version (own_hints ns posted) kq ≡ followed version posted kq
+  followed-own version posted kq all closes =
+      by_test (λ b. All IsClosedUnder (cond b [] (all_forks posted))
+      → followed_each (cond b [] (all_forks (own_hints ns posted))) kq ≡ followed_each (cond b [] (all_forks posted)) kq) (eqb version 1)
+      (λ _ _. refl) (λ _ given. each-own posted kq all given) closes
+
+  pub followed-none : (version : ℕ) (kq : Kqueue h) → followed version [] kq ≡ kq
+  unfolding all_forks followed_each
+  followed-none version kq = by_test (λ b. followed_each (cond b [] []) kq ≡ kq) (eqb version 1) (λ _. refl) (λ _. refl)
 
   -- ---- the clock, where no knote is a TIMER
 

@@ -1,42 +1,39 @@
 -- One moment of a kqueue, from what of it is in its private list: the same answer and the same kqueue after.
-use Rattle.std.proofs.Common.{◌≡◌, ℕ, Bool, true, false, cond, eqb, List, [], ◌∷◌, map, Option, Some, None, refl, sym, ap, subst, ◌∙◌}
-use Rattle.std.proofs.lemmas.Bool.{cond_both, cond-true, true≢false}
+use Rattle.std.proofs.Common.{◌≡◌, ℕ, true, false, cond, eqb, List, [], map, Option, Some, None, refl, sym, ap, subst, ◌∙◌}
+use Rattle.std.proofs.lemmas.Bool.{cond-true, true≢false}
 use Rattle.std.proofs.lemmas.List.Elements.{All-weaker}
-use Rattle.std.proofs.lemmas.Option.{none-some}
 use Rattle.std.specs.List.{All}
 use Rattle.kq_model.specs.declared.change.Change.{Change}
 use Rattle.kq_model.specs.declared.filter.Filter.{Filter}
 use Rattle.kq_model.specs.declared.filter.Filter.TheVariants.{Write}
 use Rattle.kq_model.specs.declared.object.Named.{Named}
 use Rattle.kq_model.specs.declared.object.Named.TheVariants as named
-use Rattle.kq_model.specs.declared.object.Target.{Target}
-use Rattle.kq_model.specs.declared.reply.Reply.{Reply}
 use Rattle.kq_model.specs.declared.reply.Reply.TheVariants.{Done}
 use Rattle.kq_model.specs.Call as kevent
 use Rattle.kq_model.specs.Caller.{Caller}
 use Rattle.kq_model.specs.ChangedKnote.{key_of}
 use Rattle.kq_model.specs.Clock.{Span, clocked}
 use Rattle.kq_model.specs.Close.{Pair, closed}
+use Rattle.kq_model.specs.Following.{forks_in, followed}
 use Rattle.kq_model.specs.Hearing.{Hearing}
 use Rattle.kq_model.specs.Hints.{notified}
-use Rattle.kq_model.specs.Knote.{Knote, find_knote}
+use Rattle.kq_model.specs.Knote.{find_knote}
 use Rattle.kq_model.specs.Kqueue.{Kqueue}
 use Rattle.kq_model.specs.Moment.{Moment, caller_at, happened, called_at, after_call, kqueue_step}
-use Rattle.kq_model.specs.PrivateList.{Concern, own_call, own_closed, own_hints, own_clock, concern_of, has_item, concerns}
+use Rattle.kq_model.specs.PrivateList.{own_call, own_hints, own_clock, concern_of, has_item}
 use Rattle.kq_model.specs.References.{Reference, Names, unless_file, named_target, reference_of, references_in}
-use Rattle.kq_model.specs.Refusals.{own_refusal, is_writable, invalid_if}
+use Rattle.kq_model.specs.Refusals.{own_refusal, is_writable}
 use Rattle.kq_model.specs.Registration.{Decision, Refuse, Remove, Make, Modify, decision}
 use Rattle.kq_model.specs.Replayed.{moment_with, own_reply}
-use Rattle.kq_model.specs.Subjects.{HasSubject, HaveSubjects, MakesSubject, MakeSubjects}
+use Rattle.kq_model.specs.Subjects.{HaveSubjects, MakesSubject, MakeSubjects}
 use Rattle.kq_model.specs.Targets.{Posted, object_of, target_of}
-use Rattle.kq_model.specs.Views.{Views}
 use Rattle.kq_model.specs.World.{Call}
 use Rattle.kq_model.proofs.KnoteLaws.{by_test}
 use Rattle.kq_model.proofs.ListFilters.{All-unmap}
 use Rattle.kq_model.proofs.NamedTargets.{valid, decision-unrefused}
-use Rattle.kq_model.proofs.PrivateParts.{IsReferred, IsNumbered, closed-own, closed-none, notified-own, notified-none, clocked-own, clocked-none}
+use Rattle.kq_model.proofs.PrivateParts.{IsReferred, IsNumbered, closed-own, closed-none, notified-own, notified-none, IsClosedUnder, referred_children, numbered_children, followed-own, followed-none, clocked-own, clocked-none}
 use Rattle.kq_model.proofs.QueueKeys.{Hold, call-hold, happened-hold}
-use Rattle.kq_model.proofs.SubjectsCall.{call-subjects, closed-subjects, notified-subjects, happened-subjects}
+use Rattle.kq_model.proofs.SubjectsCall.{call-subjects, closed-subjects, notified-subjects, followed-subjects, happened-subjects}
 
 -- ---- a knote is made only of a target that its change names
 
@@ -96,74 +93,86 @@ module _ {S : Type 0} (h : Hearing S) where
     abbrev pub Fits : Kqueue h → Type 0
     Fits kq = HaveSubjects (IsReferred ns) kq.knotes × Hold h (IsNumbered ns) kq
 
-    happened-fits : (m : Moment) (kq : Kqueue h) → Fits kq → Fits (happened owner m kq)
-    happened-fits m kq fits =
-        (happened-subjects h (IsReferred ns) owner m kq fits.0, happened-hold h (IsNumbered ns) owner m kq fits.1)
+    -- a child of a process that is named is named too
+    abbrev pub AreClosedAt : Moment → Type 0
+    AreClosedAt m = All (IsClosedUnder h ns) (forks_in m.version m.hints)
 
-    called-fits : (m : Moment) (c : Call) (kq : Kqueue h) → All IsAmong (map (reference_of m.views owner) c.changes) → Fits kq → Fits (called_at owner m c kq).kq
+    happened-fits : (m : Moment) (kq : Kqueue h) → AreClosedAt m → Fits kq → Fits (happened owner m kq)
+    happened-fits m kq closes fits =
+        let forks = forks_in m.version m.hints in (
+          happened-subjects h (IsReferred ns) owner m kq (referred_children h ns forks closes) fits.0,
+          happened-hold h (IsNumbered ns) owner m kq (numbered_children h ns forks) fits.1,
+        )
+
+    called-fits : (m : Moment) (c : Call) (kq : Kqueue h) → AreClosedAt m → All IsAmong (map (reference_of m.views owner) c.changes) → Fits kq → Fits (called_at owner m c kq).kq
     unfolding called_at
-    called-fits m c kq all fits =
-        let before = happened-fits m kq fits in
+    called-fits m c kq closes all fits =
+        let before = happened-fits m kq closes fits in
         let new = among-call m c all in (
           call-subjects h (IsReferred ns) (caller_at owner m) c.room c.changes (happened owner m kq) new before.0,
           call-hold h (IsNumbered ns) (caller_at owner m) c.room c.changes (happened owner m kq) (numbered-call m c new) before.1,
         )
 
-    after_call-fits : (m : Moment) (c : Option Call) (kq : Kqueue h) → All IsAmong (references_in kqueue owner m.views c) → Fits kq
+    after_call-fits : (m : Moment) (c : Option Call) (kq : Kqueue h) → AreClosedAt m → All IsAmong (references_in kqueue owner m.views c) → Fits kq
         → Fits (after_call kqueue owner m c kq)
     unfolding after_call references_in
-    after_call-fits m None kq all fits = happened-fits m kq fits
-    after_call-fits m (Some c) kq all fits =
+    after_call-fits m None kq closes all fits = happened-fits m kq closes fits
+    after_call-fits m (Some c) kq closes all fits =
         by_test (λ b. All IsAmong (cond b (map (reference_of m.views owner) c.changes) []) → Fits (cond b (called_at owner m c kq).kq (happened owner m kq)))
-        (eqb c.kqueue kqueue) (λ _ given. called-fits m c kq given fits) (λ _ _. happened-fits m kq fits) all
+        (eqb c.kqueue kqueue) (λ _ given. called-fits m c kq closes given fits) (λ _ _. happened-fits m kq closes fits) all
 
-    pub step-fits : (m : Moment) (kq : Kqueue h) → All IsAmong (references_in kqueue owner m.views m.call) → Fits kq → Fits (kqueue_step kqueue owner m kq)
+    pub step-fits : (m : Moment) (kq : Kqueue h) → AreClosedAt m → All IsAmong (references_in kqueue owner m.views m.call) → Fits kq → Fits (kqueue_step kqueue owner m kq)
     unfolding kqueue_step
-    step-fits m kq all fits = after_call-fits m m.call kq all fits
+    step-fits m kq closes all fits = after_call-fits m m.call kq closes all fits
 
     -- ---- what is left out makes no difference
 
     abbrev pub own_moment : Moment → Moment
     own_moment m = moment_with m.version m.views (concern_of kqueue owner ns m)
 
-    happened-own : (m : Moment) (kq : Kqueue h) → Fits kq → happened owner (own_moment m) kq ≡ happened owner m kq
+    happened-own : (m : Moment) (kq : Kqueue h) → AreClosedAt m → Fits kq → happened owner (own_moment m) kq ≡ happened owner m kq
     unfolding happened
-    happened-own m kq fits =
+    happened-own m kq closes fits =
         let shut = closed owner m.closed kq in
         let open_ones = closed-subjects h (IsReferred ns) owner m.closed kq fits.0 in
-        ap (λ (q : Kqueue h). clocked (own_clock ns m.clock) (notified m.views (own_hints ns m.hints) q)) (closed-own h ns owner m.closed kq fits.1)
-        ∙ ap (λ (q : Kqueue h). clocked (own_clock ns m.clock) q) (notified-own h ns m.views m.hints shut open_ones)
-        ∙ clocked-own h ns m.clock (notified m.views m.hints shut) (notified-subjects h (IsReferred ns) m.views m.hints shut open_ones)
+        let heard = notified m.views m.hints shut in
+        let hearers = notified-subjects h (IsReferred ns) m.views m.hints shut open_ones in
+        ap (λ (q : Kqueue h). clocked (own_clock ns m.clock) (followed m.version (own_hints ns m.hints) (notified m.views (own_hints ns m.hints) q)))
+        (closed-own h ns owner m.closed kq fits.1)
+        ∙ ap (λ (q : Kqueue h). clocked (own_clock ns m.clock) (followed m.version (own_hints ns m.hints) q)) (notified-own h ns m.views m.hints shut open_ones)
+        ∙ ap (λ (q : Kqueue h). clocked (own_clock ns m.clock) q) (followed-own h ns m.version m.hints heard hearers closes)
+        ∙ clocked-own h ns m.clock (followed m.version m.hints heard)
+        (followed-subjects h (IsReferred ns) m.version m.hints heard (referred_children h ns (forks_in m.version m.hints) closes) hearers)
 
-    called-own : (m : Moment) (c : Call) (kq : Kqueue h) → Fits kq → called_at owner (own_moment m) c kq ≡ called_at owner m c kq
+    called-own : (m : Moment) (c : Call) (kq : Kqueue h) → AreClosedAt m → Fits kq → called_at owner (own_moment m) c kq ≡ called_at owner m c kq
     unfolding called_at
-    called-own m c kq fits = ap (kevent.call (caller_at owner m) c.room c.changes) (happened-own m kq fits)
+    called-own m c kq closes fits = ap (kevent.call (caller_at owner m) c.room c.changes) (happened-own m kq closes fits)
 
-    after_call-own : (m : Moment) (c : Option Call) (kq : Kqueue h) → Fits kq
+    after_call-own : (m : Moment) (c : Option Call) (kq : Kqueue h) → AreClosedAt m → Fits kq
         → after_call kqueue owner (own_moment m) (own_call kqueue c) kq ≡ after_call kqueue owner m c kq
     unfolding after_call own_call
-    after_call-own m None kq fits = happened-own m kq fits
-    after_call-own m (Some c) kq fits =
+    after_call-own m None kq closes fits = happened-own m kq closes fits
+    after_call-own m (Some c) kq closes fits =
         by_test (λ b. after_call kqueue owner (own_moment m) (cond b (Some c) None) kq ≡ cond b (called_at owner m c kq).kq (happened owner m kq)) (eqb c.kqueue kqueue)
-        (λ own. cond-true (eqb c.kqueue kqueue) _ _ own ∙ ap (λ (r : kevent.Called h). r.kq) (called-own m c kq fits))
-        (λ _. happened-own m kq fits)
+        (λ own. cond-true (eqb c.kqueue kqueue) _ _ own ∙ ap (λ (r : kevent.Called h). r.kq) (called-own m c kq closes fits))
+        (λ _. happened-own m kq closes fits)
 
-    own_reply-own : (m : Moment) (c : Option Call) (kq : Kqueue h) → Fits kq
+    own_reply-own : (m : Moment) (c : Option Call) (kq : Kqueue h) → AreClosedAt m → Fits kq
         → own_reply kqueue owner (own_moment m) (own_call kqueue c) kq ≡ own_reply kqueue owner m c kq
     unfolding own_reply own_call
-    own_reply-own m None kq fits = refl
-    own_reply-own m (Some c) kq fits =
+    own_reply-own m None kq closes fits = refl
+    own_reply-own m (Some c) kq closes fits =
         by_test (λ b. own_reply kqueue owner (own_moment m) (cond b (Some c) None) kq ≡ cond b (called_at owner m c kq).reply Done) (eqb c.kqueue kqueue)
-        (λ own. cond-true (eqb c.kqueue kqueue) _ _ own ∙ ap (λ (r : kevent.Called h). r.reply) (called-own m c kq fits))
+        (λ own. cond-true (eqb c.kqueue kqueue) _ _ own ∙ ap (λ (r : kevent.Called h). r.reply) (called-own m c kq closes fits))
         (λ _. refl)
 
-    pub step-own : (m : Moment) (kq : Kqueue h) → Fits kq → kqueue_step kqueue owner (own_moment m) kq ≡ kqueue_step kqueue owner m kq
+    pub step-own : (m : Moment) (kq : Kqueue h) → AreClosedAt m → Fits kq → kqueue_step kqueue owner (own_moment m) kq ≡ kqueue_step kqueue owner m kq
     unfolding kqueue_step
-    step-own m kq fits = after_call-own m m.call kq fits
+    step-own m kq closes fits = after_call-own m m.call kq closes fits
 
-    pub reply-own : (m : Moment) (kq : Kqueue h) → Fits kq
+    pub reply-own : (m : Moment) (kq : Kqueue h) → AreClosedAt m → Fits kq
         → own_reply kqueue owner (own_moment m) (own_moment m).call kq ≡ own_reply kqueue owner m m.call kq
-    reply-own m kq fits = own_reply-own m m.call kq fits
+    reply-own m kq closes fits = own_reply-own m m.call kq closes fits
 
   -- ---- a moment without an item
 
@@ -180,9 +189,10 @@ module _ {S : Type 0} (h : Hearing S) where
   unfolding happened
   quiet-happened owner m kq quiet =
       let none = no_items m.closed m.hints m.clock m.call quiet in
-      ap (λ span. clocked span (notified m.views m.hints (closed owner m.closed kq))) none.2
-      ∙ clocked-none h ns_of_none (notified m.views m.hints (closed owner m.closed kq))
-      ∙ ap (λ posted. notified m.views posted (closed owner m.closed kq)) none.1
+      ap (λ span. clocked span (followed m.version m.hints (notified m.views m.hints (closed owner m.closed kq)))) none.2
+      ∙ clocked-none h ns_of_none (followed m.version m.hints (notified m.views m.hints (closed owner m.closed kq)))
+      ∙ ap (λ posted. followed m.version posted (notified m.views posted (closed owner m.closed kq))) none.1
+      ∙ followed-none h ns_of_none m.version (notified m.views [] (closed owner m.closed kq))
       ∙ notified-none h ns_of_none m.views (closed owner m.closed kq)
       ∙ ap (λ pairs. closed owner pairs kq) none.0
       ∙ closed-none h ns_of_none owner kq

@@ -1,7 +1,7 @@
 -- Projection: each kqueue of a trace, replayed alone from its private list and the history at its places, gives
 -- exactly its rows of the fold of the whole system; and these with the rows of impossible records are all rows,
 -- each once.
-use Rattle.std.proofs.Common.{◌≡◌, ℕ, ◌≤◌, List, [], ◌∷◌, ◌++◌, map, Option, Some, None, refl, sym, ap, ap₂, subst, ◌∙◌, arith}
+use Rattle.std.proofs.Common.{◌≡◌, ℕ, List, [], ◌∷◌, ◌++◌, Some, None, refl, sym, ap₂, subst, ◌∙◌}
 use Rattle.std.proofs.lemmas.List.Elements.{All-nil, All-head, All-tail, All-weaker}
 use Rattle.std.proofs.lemmas.List.Folds.{flat_map-map}
 use Rattle.std.specs.List.{All, flat_map}
@@ -13,14 +13,17 @@ use Rattle.kq_model.specs.Hearing.{Hearing}
 use Rattle.kq_model.specs.Kqueue.{empty_kqueue}
 use Rattle.kq_model.specs.LiveCalls.{CallLive}
 use Rattle.kq_model.specs.Moment.{Moment}
-use Rattle.kq_model.specs.Moments.{plans_from, moments_from, views_at}
+use Rattle.kq_model.specs.Moments.{moments_from, views_at}
 use Rattle.kq_model.specs.Objects.{Keeping}
 use Rattle.kq_model.specs.OwnedRows.{OwnedRow, owned_rows, rows_of, all_rows, plain_from, Rise}
 use Rattle.kq_model.specs.PrivateList.{private_list}
-use Rattle.kq_model.specs.Projection.{plans, moments, history, kqueues, plain_rows, replayed, folded, AreProjected, AreMerged, AreRising}
+use Rattle.kq_model.specs.Projection.{plans, kqueues, plain_rows, replayed, folded, AreProjected, AreMerged, AreRising}
 use Rattle.kq_model.specs.Replayed.{rows_alone, rows_over}
-use Rattle.kq_model.specs.System.{Live, System, empty_system, rows_by}
-use Rattle.kq_model.specs.World.{World, empty_world, Planned}
+use Rattle.kq_model.specs.References.{forks_at}
+use Rattle.kq_model.specs.System.{System, empty_system, rows_by}
+use Rattle.kq_model.specs.World.{empty_world, Planned}
+use Rattle.kq_model.proofs.BornFirst.{born-first}
+use Rattle.kq_model.proofs.Descended.{AreBornFirst}
 use Rattle.kq_model.proofs.Distinct.{places_of, births-rising, one-owner, each-of}
 use Rattle.kq_model.proofs.FoldAlone.{fold-alone}
 use Rattle.kq_model.proofs.FoldRows.{part-rises, fold-rises, fold-rows, fold-plain, fold-of}
@@ -37,7 +40,8 @@ flat-alike f g (x ∷ xs) alike =
 
 -- ---- for the plans of any trace whose calls are on live kqueues
 
-module _ {S A B C D : Type 0} (h : Hearing S) (k : Keeping A B C D) (version : ℕ) (qs : List Planned) where
+module _ {S A B C D : Type 0} (h : Hearing S) (k : Keeping A B C D) (version : ℕ) (qs : List Planned)
+    (forked : AreBornFirst (forks_at (moments_from version 1 (empty_world k) qs))) where
   abbrev start : System h k
   start = empty_system {h = h} {k = k} version
 
@@ -57,7 +61,7 @@ module _ {S A B C D : Type 0} (h : Hearing S) (k : Keeping A B C D) (version : �
   alone-over b =
       alone-all h b.place b.owner version (views_at 1 (empty_world k) qs) all_moments
       (All-weaker (IsAt version 1 (empty_world k) qs) (λ (m : Moment). (m.version ≡ version) × (m.views ≡ views_at 1 (empty_world k) qs m.place)) (λ m is. (is.1, is.2)) all_moments
-      (moments-at version 1 (empty_world k) qs))
+      (moments-at version 1 (empty_world k) qs)) forked
 
   alone-fold : CallLive 1 start qs → (b : Birth) → All (λ (x : Birth). x.place ≡ b.place → x.owner ≡ b.owner) births → alone b ≡ rows_of (Some b.place) owned
   alone-fold calls b one =
@@ -87,7 +91,7 @@ module _ {S A B C D : Type 0} (h : Hearing S) (k : Keeping A B C D) (version : �
 
   -- each kqueue alone
   pub projected : AreProjected k version h es
-  projected = plans-projected h k version (plans k version es) calls
+  projected = plans-projected h k version (plans k version es) (born-first k version es) calls
 
   all-rows : rows_by h k version es ≡ all_rows (folded k version h es)
   unfolding rows_by
@@ -97,7 +101,7 @@ module _ {S A B C D : Type 0} (h : Hearing S) (k : Keeping A B C D) (version : �
   pub merged : AreMerged k version h es
   merged = (
     subst (IsPermutation (flat_map (replayed k version h es) (kqueues k version es) ++ plain_rows k version es)) (sym all-rows)
-        (plans-merged h k version (plans k version es) calls),
+        (plans-merged h k version (plans k version es) (born-first k version es) calls),
     subst Rise (sym all-rows) (fold-rises 1 (empty_system {h = h} {k = k} version) (plans k version es)).1,
   )
 

@@ -1,11 +1,10 @@
 -- Every operation on one kqueue keeps what holds of the filter and ident of its knotes and of the keys in its
 -- queue, since only a knote's key comes into the queue.
-use Rattle.std.proofs.Common.{◌≡◌, ℕ, zero, suc, ◌+◌, ◌-◌, Bool, true, false, cond, not, ◌&&◌, ltb, length, List, [], ◌∷◌, ◌++◌, map, Option, Some, None, refl}
+use Rattle.std.proofs.Common.{◌≡◌, ℕ, zero, suc, ◌+◌, ◌-◌, not, ◌&&◌, ltb, length, List, [], ◌∷◌, ◌++◌, Option, Some, None, refl}
 use Rattle.std.proofs.lemmas.Bool.{cond_both}
-use Rattle.std.proofs.lemmas.List.Elements.{All-nil, All-head, All-tail, All-append, All-filter, All-push}
+use Rattle.std.proofs.lemmas.List.Elements.{All-nil, All-head, All-tail, All-append, All-cons, All-filter, All-push}
 use Rattle.std.specs.List.{All}
 use Rattle.kq_model.specs.declared.change.Change.{Change}
-use Rattle.kq_model.specs.declared.errno.Errno.{Errno}
 use Rattle.kq_model.specs.declared.filter.Filter.{Filter}
 use Rattle.kq_model.specs.declared.kevent.Kevent.{Kevent}
 use Rattle.kq_model.specs.declared.key.Key.{Key}
@@ -17,6 +16,7 @@ use Rattle.kq_model.specs.Caller.{Caller}
 use Rattle.kq_model.specs.ChangedKnote.{key_of, made, modified}
 use Rattle.kq_model.specs.Clock.{Span, timers, waiting_of, clock_from, clocked}
 use Rattle.kq_model.specs.Close.{Pair, is_closed, closed}
+use Rattle.kq_model.specs.Following.{Fork, with_heir, heir_in, forks_in, followed_each, followed}
 use Rattle.kq_model.specs.Hearing.{Hearing}
 use Rattle.kq_model.specs.Hints.{hints_for, noticed, queue_with, queue_noticing, queue_after_all, notified}
 use Rattle.kq_model.specs.Knote.{Knote, key_eq, has_key, without_key, queued, find_knote}
@@ -24,13 +24,13 @@ use Rattle.kq_model.specs.Kqueue.{Kqueue}
 use Rattle.kq_model.specs.Look.{Seen, look}
 use Rattle.kq_model.specs.Moment.{Moment, happened}
 use Rattle.kq_model.specs.Registration.{Decision, Refuse, Remove, Make, Modify, Registered, is_restart, without_restarted, queue_for, decision, carried_out, register}
-use Rattle.kq_model.specs.Retrieval.{Retrieved, stays, back_after, turned_at_look, turned_at, turned, delivered, after_turn, retrieve, retrieval}
-use Rattle.kq_model.specs.Subjects.{HasSubject, HaveSubjects, MakesSubject, MakeSubjects}
-use Rattle.kq_model.specs.Targets.{Posted, target_of}
+use Rattle.kq_model.specs.Retrieval.{Retrieved, stays, back_after, without_notice, with_notice_told, settled, turned_at_look, turned_at, turned, delivered, after_turn, retrieve, retrieval}
+use Rattle.kq_model.specs.Subjects.{HasSubject, HaveSubjects, MakesSubject, MakeSubjects, FollowsSubject, FollowSubjects}
+use Rattle.kq_model.specs.Targets.{Posted}
 use Rattle.kq_model.specs.TimerWalk.{Waiting, is_fresh, queue_at, walked}
 use Rattle.kq_model.specs.Views.{Views}
 use Rattle.kq_model.proofs.Subjects.{find_knote-subject, made-subject, modified-subject, decision-subject, register-subjects}
-use Rattle.kq_model.proofs.SubjectsCall.{turned-subjects, noticed-subject, walked-subjects, closed-subjects, notified-subjects, clocked-subjects}
+use Rattle.kq_model.proofs.SubjectsCall.{turned-subjects, noticed-subject, walked-subjects, closed-subjects, notified-subjects, clocked-subjects, heir_in-subject, followed_each-subjects}
 
 module _ {S : Type 0} (h : Hearing S) (R : Filter → ℕ → Type 0) where
   abbrev P : Filter → ℕ → Option Target → Type 0
@@ -109,15 +109,25 @@ module _ {S : Type 0} (h : Hearing S) (R : Filter → ℕ → Type 0) where
   unfolding back_after
   back_after-keys k back has all = cond_both (stays k) _ _ AreKeys (λ _. All-push IsKey back k.key all has) (λ _. all)
 
-  turned_at_look-keys : (k : Knote h) (kq : Kqueue h) (seen : Option Seen) → Is k → AreKeys kq.queue → AreKeys (turned_at_look k kq seen).kq.queue
+  with_told-keys : (k : Knote h) (kq : Kqueue h) (seen : Option Seen) → Is k → AreKeys kq.queue → AreKeys (with_notice_told k kq seen).queue
+  unfolding with_notice_told
+  with_told-keys k kq None has all = all
+  with_told-keys k kq (Some seen) has all = All-push IsKey kq.queue k.key all has
+
+  settled-keys : (views : Views) (k : Knote h) (kq : Kqueue h) (notice : Option ℕ) → Is k → AreKeys kq.queue → AreKeys (settled views k kq notice).queue
+  unfolding settled
+  settled-keys views k kq None has all = back_after-keys k kq.queue has all
+  settled-keys views k kq (Some parent) has all = with_told-keys (without_notice k) kq (look views (without_notice k)) has all
+
+  turned_at_look-keys : (views : Views) (k : Knote h) (kq : Kqueue h) (seen : Option Seen) → Is k → AreKeys kq.queue → AreKeys (turned_at_look views k kq seen).kq.queue
   unfolding turned_at_look
-  turned_at_look-keys k kq None has all = all
-  turned_at_look-keys k kq (Some seen) has all = back_after-keys k kq.queue has all
+  turned_at_look-keys views k kq None has all = all
+  turned_at_look-keys views k kq (Some seen) has all = settled-keys views k kq k.notice has all
 
   turned_at-keys : (views : Views) (kq : Kqueue h) (found : Option (Knote h)) → IfIs found → AreKeys kq.queue → AreKeys (turned_at views kq found).kq.queue
   unfolding turned_at
   turned_at-keys views kq None has all = all
-  turned_at-keys views kq (Some k) has all = turned_at_look-keys k kq (look views k) has all
+  turned_at-keys views kq (Some k) has all = turned_at_look-keys views k kq (look views k) has all
 
   turned-hold : (views : Views) (key : Key) (kq : Kqueue h) → Hold kq → Hold (turned views key kq).kq
   unfolding turned
@@ -215,6 +225,28 @@ module _ {S : Type 0} (h : Hearing S) (R : Filter → ℕ → Type 0) where
   notified-hold views posted kq held =
       (notified-subjects h P views posted kq held.0, queue_after_all-keys views posted kq.knotes kq.queue held.0 held.1)
 
+  -- a child's knote comes with its key
+  with_heir-keys : (heir : Option (Knote h)) (kq : Kqueue h) → IfIs heir → AreKeys kq.queue → AreKeys (with_heir heir kq).queue
+  unfolding with_heir
+  with_heir-keys None kq has all = all
+  with_heir-keys (Some k) kq has all = queue_for-keys k kq.queue has all
+
+  followed_each-keys : (fs : List Fork) (kq : Kqueue h) → All (FollowsSubject P) fs → Hold kq → AreKeys (followed_each fs kq).queue
+  unfolding followed_each
+  followed_each-keys [] kq passes held = held.1
+  followed_each-keys (f ∷ fs) kq passes held =
+      followed_each-keys fs (with_heir (heir_in f kq) kq) (All-tail (FollowsSubject P) f fs passes) (
+        followed_one-subjects f kq (All-head (FollowsSubject P) f fs passes) held.0,
+        with_heir-keys (heir_in f kq) kq (heir_in-subject h P f kq held.0 (All-head (FollowsSubject P) f fs passes)) held.1,
+      )
+    where
+      followed_one-subjects : (f : Fork) (kq : Kqueue h) → FollowsSubject P f → Are kq.knotes → Are (with_heir (heir_in f kq) kq).knotes
+      followed_one-subjects f kq passes all = followed_each-subjects h P (f ∷ []) kq (All-cons (FollowsSubject P) f [] passes (All-nil (FollowsSubject P))) all
+
+  followed-hold : (version : ℕ) (posted : List Posted) (kq : Kqueue h) → FollowSubjects P version posted → Hold kq → Hold (followed version posted kq)
+  followed-hold version posted kq passes held =
+      (followed_each-subjects h P (forks_in version posted) kq passes held.0, followed_each-keys (forks_in version posted) kq passes held)
+
   queue_at-keys : (moment : ℕ) (ks : List (Knote h)) (queue : List Key) → Are ks → AreKeys queue → AreKeys (queue_at timers moment ks queue)
   unfolding queue_at
   queue_at-keys moment [] queue have all = all
@@ -238,7 +270,8 @@ module _ {S : Type 0} (h : Hearing S) (R : Filter → ℕ → Type 0) where
   clocked-hold : (span : Option Span) (kq : Kqueue h) → Hold kq → Hold (clocked span kq)
   clocked-hold span kq held = (clocked-subjects h P span kq held.0, clocked-keys span kq held)
 
-  pub happened-hold : (owner : ℕ) (m : Moment) (kq : Kqueue h) → Hold kq → Hold (happened owner m kq)
+  pub happened-hold : (owner : ℕ) (m : Moment) (kq : Kqueue h) → FollowSubjects P m.version m.hints → Hold kq → Hold (happened owner m kq)
   unfolding happened
-  happened-hold owner m kq held =
-      clocked-hold m.clock _ (notified-hold m.views m.hints _ (closed-hold owner m.closed kq held))
+  happened-hold owner m kq passes held =
+      clocked-hold m.clock _ (followed-hold m.version m.hints _ passes
+      (notified-hold m.views m.hints _ (closed-hold owner m.closed kq held)))

@@ -8,10 +8,10 @@ use Rattle.kq_model.specs.declared.key.Key.{Key}
 use Rattle.kq_model.specs.declared.object.View.{View}
 use Rattle.kq_model.specs.Bits.{asks, add}
 use Rattle.kq_model.specs.Caller.{Caller}
-use Rattle.kq_model.specs.ChangedKnote.{fresh, started, begun, replaced, restarted, changed, switched, activated, attended, made, modified}
-use Rattle.kq_model.specs.Hearing.{Hearing}
+use Rattle.kq_model.specs.ChangedKnote.{has_come, timing_in, fresh, started, begun, replaced, restarted, changed, switched, activated, attended, made, modified}
+use Rattle.kq_model.specs.Hearing.{Hearing, Expired}
 use Rattle.kq_model.specs.Knote.{Knote, key_eq, find_knote, with_knote, without_knote}
-use Rattle.kq_model.specs.Look.{Seen, notes_seen, process_seen, status_of, count_seen, mark_of, look_user, look_by, look}
+use Rattle.kq_model.specs.Look.{Seen, notes_seen, process_seen, status_of, count_seen, mark_of, look_user, look_by, look, notice_or}
 use Rattle.kq_model.specs.Recast.{IsHearingMap, recast}
 use Rattle.kq_model.specs.Views.{Views}
 
@@ -69,7 +69,7 @@ module _ {S T : Type 0} {h : Hearing S} {g : Hearing T} {f : S → T} (is : IsHe
 
   pub look-recast : (views : Views) (k : Knote h) → look views (re k) ≡ look views k
   unfolding look
-  look-recast views k = look_by-recast k.key.filter (option_and_then views.view k.target) k
+  look-recast views k = ap (notice_or k.notice) (look_by-recast k.key.filter (option_and_then views.view k.target) k)
 
   -- ---- what a change makes of a knote
 
@@ -81,9 +81,19 @@ module _ {S T : Type 0} {h : Hearing S} {g : Hearing T} {f : S → T} (is : IsHe
   unfolding fresh
   fresh-recast caller c = ap (hearing (fresh {h = g} caller c)) (sym is.empty)
 
+  -- what it heard, with an expiration more where its moment has come
+  heard_by-recast : (come : Bool) (s : S) → cond come (g.heard Expired (f s)) (f s) ≡ f (cond come (h.heard Expired s) s)
+  heard_by-recast true s = sym (is.heard Expired s)
+  heard_by-recast false s = refl
+
+  started-recast : (caller : Caller) (c : Change) (k : Knote h) → started caller c (re k) ≡ re (started caller c k)
+  unfolding started
+  started-recast caller c k =
+      ap (hearing (re (started caller c k))) (heard_by-recast (has_come caller.views.now (timing_in caller c)) k.seen)
+
   begun-recast : (filter : Filter) (caller : Caller) (c : Change) (k : Knote h) → begun filter caller c (re k) ≡ re (begun filter caller c k)
-  unfolding begun started
-  begun-recast Timer caller c k = refl
+  unfolding begun
+  begun-recast Timer caller c k = started-recast caller c k
   begun-recast User caller c k = refl
   begun-recast _ caller c k = refl
 
@@ -92,10 +102,12 @@ module _ {S T : Type 0} {h : Hearing S} {g : Hearing T} {f : S → T} (is : IsHe
   replaced-recast c k = sym (cond-map re (asks c.flags add) _ _)
 
   restarted-recast : (filter : Filter) (caller : Caller) (c : Change) (k : Knote h) → restarted filter caller c (re k) ≡ re (restarted filter caller c k)
-  unfolding restarted started
+  unfolding restarted
   restarted-recast Timer caller c k =
-      ap (λ s. cond (asks c.flags add) (record (started caller c (re k)) { seen = s; active = false }) (re k)) (sym is.empty)
-      ∙ sym (cond-map re (asks c.flags add) _ _)
+      let anew : Knote h = record k { seen = h.empty; active = false } in
+      ap (λ s. cond (asks c.flags add) (started caller c (record (re k) { seen = s; active = false })) (re k)) (sym is.empty)
+      ∙ ap (λ n. cond (asks c.flags add) n (re k)) (started-recast caller c anew)
+      ∙ sym (cond-map re (asks c.flags add) (started caller c anew) k)
   restarted-recast _ caller c k = refl
 
   changed-recast : (filter : Filter) (c : Change) (k : Knote h) → changed filter c (re k) ≡ re (changed filter c k)

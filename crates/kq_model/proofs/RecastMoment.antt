@@ -1,22 +1,24 @@
 -- Closes, hints and the clock commute with a change of how what was heard is kept.
-use Rattle.std.proofs.Common.{◌≡◌, ℕ, zero, suc, ◌+◌, ◌-◌, Bool, true, false, cond, not, List, [], ◌∷◌, ◌++◌, map, filter, Option, Some, None, refl, sym, ap, ◌∙◌}
+use Rattle.std.proofs.Common.{◌≡◌, ℕ, zero, suc, ◌+◌, ◌-◌, Bool, true, false, cond, not, ◌&&◌, List, [], ◌∷◌, ◌++◌, map, filter, Option, Some, None, refl, sym, ap, ◌∙◌}
 use Rattle.std.proofs.lemmas.List.{map-append}
-use Rattle.std.specs.Option.{option_map}
+use Rattle.std.specs.Option.{is_none, option_map}
 use Rattle.kq_model.specs.declared.key.Key.{Key}
 use Rattle.kq_model.specs.declared.object.Hint.{Hint}
 use Rattle.kq_model.specs.ChangedKnote.{activated}
 use Rattle.kq_model.specs.Clock.{Span, timers, expires_at, expired, waiting_of, kqueue_of_waiting, clock_from, clocked}
 use Rattle.kq_model.specs.Close.{Pair, is_closed, closed}
+use Rattle.kq_model.specs.Following.{Fork, process_key, follows, child_knote, heir, with_heir, heir_in, forks_in, followed_each, followed}
 use Rattle.kq_model.specs.Hearing.{Hearing, Expired, Told}
 use Rattle.kq_model.specs.Hints.{kept, hints_for, added, heard_by, hears_exit, unless_silent, noticed, if_there, knotes_noticing, queue_with, queue_noticing, queue_after_all, notified}
-use Rattle.kq_model.specs.Knote.{Knote}
+use Rattle.kq_model.specs.Knote.{Knote, find_knote, has_nothing}
 use Rattle.kq_model.specs.Kqueue.{Kqueue}
 use Rattle.kq_model.specs.Look.{look}
+use Rattle.kq_model.specs.Registration.{queue_for}
 use Rattle.kq_model.specs.Recast.{IsHearingMap, recast, recast_kqueue}
 use Rattle.kq_model.specs.Targets.{Posted}
 use Rattle.kq_model.specs.TimerWalk.{Waiting, rung_at, queue_at, moment_step, walked}
 use Rattle.kq_model.specs.Views.{Views}
-use Rattle.kq_model.proofs.RecastKnote.{cond-map, filter-recast, activated-recast, look-recast}
+use Rattle.kq_model.proofs.RecastKnote.{cond-map, filter-recast, find_knote-recast, activated-recast, look-recast}
 use Rattle.kq_model.proofs.RecastRegistration.{queue_for-recast}
 
 module _ {S T : Type 0} {h : Hearing S} {g : Hearing T} {f : S → T} (is : IsHearingMap h g f) where
@@ -58,8 +60,8 @@ module _ {S T : Type 0} {h : Hearing S} {g : Hearing T} {f : S → T} (is : IsHe
   unfolding unless_silent
   unless_silent-recast false k = refl
   unless_silent-recast true k =
-      ap (λ b. cond b None (Some (re (record k { oneshot = true })))) (is.is_empty k.seen)
-      ∙ sym (cond-map (option_map re) (h.is_empty k.seen) None (Some (record k { oneshot = true })))
+      ap (λ b. cond (is_none k.notice && b) None (Some (re (record k { oneshot = true })))) (is.is_empty k.seen)
+      ∙ sym (cond-map (option_map re) (has_nothing k) None (Some (record k { oneshot = true })))
 
   noticed-recast : (views : Views) (hints : List Hint) (k : Knote h) → noticed views hints (re k) ≡ option_map re (noticed views hints k)
   unfolding noticed
@@ -111,6 +113,43 @@ module _ {S T : Type 0} {h : Hearing S} {g : Hearing T} {f : S → T} (is : IsHe
   notified-recast views posted kq =
       ap (λ ks. kqueue ks (queue_after_all views posted (map re kq.knotes) kq.queue)) (knotes_noticing-recast views posted kq.knotes)
       ∙ ap (kqueue (map re (knotes_noticing views posted kq.knotes))) (queue_after_all-recast views posted kq.knotes kq.queue)
+
+  -- ---- children
+
+  child_knote-recast : (f : Fork) (k : Knote h) → child_knote f (re k) ≡ re (child_knote f k)
+  child_knote-recast f k = ap (hearing (child_knote f (re k))) (sym is.empty)
+
+  heir-recast : (f : Fork) (parent present : Option (Knote h)) → heir f (option_map re parent) (option_map re present) ≡ option_map re (heir f parent present)
+  unfolding heir
+  heir-recast f (Some k) None =
+      ap (λ n. cond (follows f.parent k) (Some n) None) (child_knote-recast f k)
+      ∙ sym (cond-map (option_map re) (follows f.parent k) (Some (child_knote f k)) None)
+  heir-recast f None present = refl
+  heir-recast f (Some k) (Some x) = refl
+
+  heir_in-recast : (f : Fork) (kq : Kqueue h) → heir_in f (re_kq kq) ≡ option_map re (heir_in f kq)
+  heir_in-recast f kq =
+      ap (λ k. heir f k (find_knote (process_key f.child) (map re kq.knotes))) (find_knote-recast is (process_key f.parent) kq.knotes)
+      ∙ ap (heir f (option_map re (find_knote (process_key f.parent) kq.knotes))) (find_knote-recast is (process_key f.child) kq.knotes)
+      ∙ heir-recast f (find_knote (process_key f.parent) kq.knotes) (find_knote (process_key f.child) kq.knotes)
+
+  with_heir-recast : (heir : Option (Knote h)) (kq : Kqueue h) → with_heir (option_map re heir) (re_kq kq) ≡ re_kq (with_heir heir kq)
+  unfolding with_heir
+  with_heir-recast None kq = refl
+  with_heir-recast (Some k) kq =
+      ap (λ ks. kqueue ks (queue_for (re k) kq.queue)) (sym (map-append re kq.knotes (k ∷ [])))
+      ∙ ap (kqueue (map re (kq.knotes ++ k ∷ []))) (queue_for-recast is k kq.queue)
+
+  followed_each-recast : (fs : List Fork) (kq : Kqueue h) → followed_each fs (re_kq kq) ≡ re_kq (followed_each fs kq)
+  unfolding followed_each
+  followed_each-recast [] kq = refl
+  followed_each-recast (f ∷ fs) kq =
+      ap (λ n. followed_each fs (with_heir n (re_kq kq))) (heir_in-recast f kq)
+      ∙ ap (followed_each fs) (with_heir-recast (heir_in f kq) kq)
+      ∙ followed_each-recast fs (with_heir (heir_in f kq) kq)
+
+  pub followed-recast : (version : ℕ) (posted : List Posted) (kq : Kqueue h) → followed version posted (re_kq kq) ≡ re_kq (followed version posted kq)
+  followed-recast version posted kq = followed_each-recast (forks_in version posted) kq
 
   -- ---- the clock
 

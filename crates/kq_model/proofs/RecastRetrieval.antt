@@ -1,5 +1,5 @@
 -- A retrieval commutes with a change of how what was heard is kept, and gives the same events.
-use Rattle.std.proofs.Common.{◌≡◌, ℕ, zero, suc, false, cond, ◌||◌, List, [], ◌∷◌, map, Option, Some, None, refl, sym, ap, ◌∙◌}
+use Rattle.std.proofs.Common.{◌≡◌, ℕ, zero, suc, false, cond, ◌||◌, List, [], ◌∷◌, ◌++◌, map, Option, Some, None, refl, sym, ap, ◌∙◌}
 use Rattle.std.specs.Option.{option_map}
 use Rattle.kq_model.specs.declared.kevent.Kevent.{Kevent}
 use Rattle.kq_model.specs.declared.key.Key.{Key}
@@ -8,7 +8,7 @@ use Rattle.kq_model.specs.Knote.{Knote, find_knote, with_knote, without_knote}
 use Rattle.kq_model.specs.Kqueue.{Kqueue}
 use Rattle.kq_model.specs.Look.{Seen, look}
 use Rattle.kq_model.specs.Recast.{IsHearingMap, recast, recast_kqueue}
-use Rattle.kq_model.specs.Retrieval.{Retrieved, Turned, event_flags, event_of, reset, rested, knotes_after, stays, back_after, with_delivered, turned_at_look, turned_at, turned, delivered, after_turn, retrieve, retrieval}
+use Rattle.kq_model.specs.Retrieval.{Retrieved, Turned, event_flags, event_of, reset, rested, knotes_after, stays, back_after, with_delivered, turned_at_look, turned_at, turned, delivered, after_turn, retrieve, retrieval, without_notice, with_notice_told, settled}
 use Rattle.kq_model.specs.Views.{Views}
 use Rattle.kq_model.proofs.RecastKnote.{cond-map, find_knote-recast, with_knote-recast, without_knote-recast, look-recast}
 
@@ -64,16 +64,30 @@ module _ {S T : Type 0} {h : Hearing S} {g : Hearing T} {f : S → T} (is : IsHe
 
   -- ---- one turn
 
-  turned_at_look-recast : (k : Knote h) (kq : Kqueue h) (seen : Option Seen) → turned_at_look (re k) (re_kq kq) seen ≡ recast_turned (turned_at_look k kq seen)
+  with_told-recast : (k : Knote h) (kq : Kqueue h) (seen : Option Seen) → with_notice_told (re k) (re_kq kq) seen ≡ re_kq (with_notice_told k kq seen)
+  unfolding with_notice_told
+  with_told-recast k kq None = ap (λ ks. kqueue ks kq.queue) (with_knote-recast is (record k { active = false }) kq.knotes)
+  with_told-recast k kq (Some seen) = ap (λ ks. kqueue ks (kq.queue ++ k.key ∷ [])) (with_knote-recast is k kq.knotes)
+
+  settled-recast : (views : Views) (k : Knote h) (kq : Kqueue h) (notice : Option ℕ) → settled views (re k) (re_kq kq) notice ≡ re_kq (settled views k kq notice)
+  unfolding settled
+  settled-recast views k kq None =
+      ap (λ ks. kqueue ks (back_after (re k) kq.queue)) (knotes_after-recast k kq.knotes)
+      ∙ ap (kqueue (map re (knotes_after k kq.knotes))) (back_after-recast k kq.queue)
+  settled-recast views k kq (Some parent) =
+      ap (with_notice_told (re (without_notice k)) (re_kq kq)) (look-recast is views (without_notice k))
+      ∙ with_told-recast (without_notice k) kq (look views (without_notice k))
+
+  turned_at_look-recast : (views : Views) (k : Knote h) (kq : Kqueue h) (seen : Option Seen)
+      → turned_at_look views (re k) (re_kq kq) seen ≡ recast_turned (turned_at_look views k kq seen)
   unfolding turned_at_look
-  turned_at_look-recast k kq None = ap (λ ks. idle (kqueue ks kq.queue)) (with_knote-recast is (record k { active = false }) kq.knotes)
+  turned_at_look-recast views k kq None = ap (λ ks. idle (kqueue ks kq.queue)) (with_knote-recast is (record k { active = false }) kq.knotes)
     where
       idle : Kqueue g → Turned g
       idle left = record { kq = left; event = None }
-  turned_at_look-recast k kq (Some seen) =
-      ap (λ ks. given (kqueue ks (back_after (re k) kq.queue)) (event_of (re k) seen)) (knotes_after-recast k kq.knotes)
-      ∙ ap (λ back. given (kqueue (map re (knotes_after k kq.knotes)) back) (event_of (re k) seen)) (back_after-recast k kq.queue)
-      ∙ ap (given (re_kq (with_delivered k kq))) (event_of-recast k seen)
+  turned_at_look-recast views k kq (Some seen) =
+      ap (λ left. given left (event_of (re k) seen)) (settled-recast views k kq k.notice)
+      ∙ ap (given (re_kq (with_delivered views k kq))) (event_of-recast k seen)
     where
       given : Kqueue g → Kevent → Turned g
       given left event = record { kq = left; event = Some event }
@@ -82,7 +96,7 @@ module _ {S T : Type 0} {h : Hearing S} {g : Hearing T} {f : S → T} (is : IsHe
   unfolding turned_at
   turned_at-recast views kq None = refl
   turned_at-recast views kq (Some k) =
-      ap (turned_at_look (re k) (re_kq kq)) (look-recast is views k) ∙ turned_at_look-recast k kq (look views k)
+      ap (turned_at_look views (re k) (re_kq kq)) (look-recast is views k) ∙ turned_at_look-recast views k kq (look views k)
 
   turned-recast : (views : Views) (key : Key) (kq : Kqueue h) → turned views key (re_kq kq) ≡ recast_turned (turned views key kq)
   unfolding turned

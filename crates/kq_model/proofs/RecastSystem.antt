@@ -6,6 +6,7 @@ use Rattle.kq_model.specs.declared.reply.Reply.{Reply}
 use Rattle.kq_model.specs.Call.{Called, call}
 use Rattle.kq_model.specs.Clock.{clocked}
 use Rattle.kq_model.specs.Close.{Pair, has_pair, closed}
+use Rattle.kq_model.specs.Following.{followed}
 use Rattle.kq_model.specs.Hearing.{Hearing, tallying}
 use Rattle.kq_model.specs.Hints.{notified}
 use Rattle.kq_model.specs.Kqueue.{Kqueue}
@@ -17,7 +18,7 @@ use Rattle.kq_model.specs.Plans.{plan}
 use Rattle.kq_model.specs.World.{Call, Planned, Impossible, Possible, World, carried_out, seen_world}
 use Rattle.kq_model.proofs.RecastCall.{recast_called, call-recast}
 use Rattle.kq_model.proofs.RecastKnote.{cond-map}
-use Rattle.kq_model.proofs.RecastMoment.{closed-recast, notified-recast, clocked-recast}
+use Rattle.kq_model.proofs.RecastMoment.{closed-recast, notified-recast, followed-recast, clocked-recast}
 use Rattle.kq_model.proofs.RecastTally.{tally_of-map}
 use Rattle.kq_model.proofs.CountedObjects.{CountsAll, listed-counts}
 use Rattle.kq_model.proofs.SeenWorld.{seen-again, seen-carried_out, moment-seen}
@@ -35,9 +36,11 @@ module _ {S T : Type 0} {h : Hearing S} {g : Hearing T} {f : S → T} (is : IsHe
   unfolding happened
   happened-recast owner m kq =
       let left = closed owner m.closed kq in
-      ap (λ q. clocked m.clock (notified m.views m.hints q)) (closed-recast is owner m.closed kq)
-      ∙ ap (clocked m.clock) (notified-recast is m.views m.hints left)
-      ∙ clocked-recast is m.clock (notified m.views m.hints left)
+      let heard = notified m.views m.hints left in
+      ap (λ q. clocked m.clock (followed m.version m.hints (notified m.views m.hints q))) (closed-recast is owner m.closed kq)
+      ∙ ap (λ q. clocked m.clock (followed m.version m.hints q)) (notified-recast is m.views m.hints left)
+      ∙ ap (clocked m.clock) (followed-recast is m.version m.hints heard)
+      ∙ clocked-recast is m.clock (followed m.version m.hints heard)
 
   called_at-recast : (owner : ℕ) (m : Moment) (c : Call) (kq : Kqueue h) → called_at owner m c (re_kq kq) ≡ recast_called is (called_at owner m c kq)
   unfolding called_at

@@ -1,5 +1,5 @@
 -- Two targets that the test finds equal are one.
-use Rattle.std.proofs.Common.{◌≡◌, Bool, true, false, eqb, Option, Some, None, refl, ap, ap₂, subst, sym}
+use Rattle.std.proofs.Common.{◌≡◌, true, eqb, Option, Some, None, refl, ap, ap₂, subst, sym}
 use Rattle.std.proofs.lemmas.Bool.{and_parts, and_from, eqb-true, eq-eqb, false≢true}
 use Rattle.kq_model.specs.declared.object.Target.{Target}
 use Rattle.kq_model.specs.declared.object.Target.TheVariants.{Socket, Pipe, Open, File, Process, Signal, Own}
@@ -17,6 +17,12 @@ same_target (Signal pid a) (Signal other b) e =
     ap₂ Signal (eqb-true pid other parts.0) (eqb-true a b parts.1)
 same_target Own Own e = refl
 same_target _ _ e = absurd (false≢true e)
+
+-- what is watched, where it is this target
+pub watched_is : (watched : Option Target) (t : Target) → is_target watched t ≡ true → watched ≡ Some t
+unfolding is_target
+watched_is None t e = absurd (false≢true e)
+watched_is (Some w) t e = ap Some (same_target w t e)
 
 pub target_eq-refl : (t : Target) → target_eq t t ≡ true
 unfolding target_eq

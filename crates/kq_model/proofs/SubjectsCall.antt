@@ -1,31 +1,37 @@
 -- A whole call, and what comes before it, keeps what holds of the subjects of the knotes.
-use Rattle.std.proofs.Common.{ℕ, zero, suc, ◌+◌, ◌-◌, Bool, true, false, not, ◌||◌, ltb, length, List, [], ◌∷◌, ◌++◌, map, Option, Some, None}
-use Rattle.std.proofs.lemmas.Bool.{cond_both}
+use Rattle.std.proofs.Common.{◌≡◌, refl, sym, subst, ℕ, zero, suc, ◌+◌, ◌-◌, Bool, true, false, not, ◌||◌, ltb, length, List, [], ◌∷◌, ◌++◌, map, Option, Some, None}
+use Rattle.std.proofs.lemmas.Bool.{cond_both, and_parts}
+use Rattle.std.specs.List.{All}
 use Rattle.std.proofs.lemmas.List.Elements.{All-nil, All-cons, All-head, All-tail, All-append}
 use Rattle.kq_model.specs.declared.change.Change.{Change}
 use Rattle.kq_model.specs.declared.filter.Filter.{Filter}
+use Rattle.kq_model.specs.declared.filter.Filter.TheVariants.{Proc}
 use Rattle.kq_model.specs.declared.kevent.Kevent.{Kevent}
 use Rattle.kq_model.specs.declared.key.Key.{Key}
 use Rattle.kq_model.specs.declared.object.Hint.{Hint}
 use Rattle.kq_model.specs.declared.object.Target.{Target}
+use Rattle.kq_model.specs.declared.object.Target.TheVariants.{Process}
 use Rattle.kq_model.specs.declared.reply.Reply.{Reply}
 use Rattle.kq_model.specs.Call.{Processed, entry_of, is_answered, after, process, returned, by_entries, by_answer, concluded, call}
 use Rattle.kq_model.specs.Caller.{Caller}
 use Rattle.kq_model.specs.ChangedKnote.{activated}
 use Rattle.kq_model.specs.Clock.{Span, timers, expires_at, expired, waiting_of, clock_from, clocked}
 use Rattle.kq_model.specs.Close.{Pair, is_closed, closed}
+use Rattle.kq_model.specs.Following.{Fork, process_key, follows, child_knote, heir, with_heir, heir_in, forks_in, followed_each, followed}
 use Rattle.kq_model.specs.Hearing.{Hearing}
 use Rattle.kq_model.specs.Hints.{kept, hints_for, added, heard_by, hears_exit, unless_silent, noticed, if_there, knotes_noticing, notified}
-use Rattle.kq_model.specs.Knote.{Knote, find_knote}
+use Rattle.kq_model.specs.Knote.{Knote, has_nothing, find_knote}
 use Rattle.kq_model.specs.Kqueue.{Kqueue}
 use Rattle.kq_model.specs.Look.{Seen, look}
 use Rattle.kq_model.specs.Moment.{Moment, happened}
 use Rattle.kq_model.specs.Registration.{Registered, register}
-use Rattle.kq_model.specs.Retrieval.{Retrieved, reset, rested, knotes_after, turned_at_look, turned_at, turned, delivered, after_turn, retrieve, retrieval}
-use Rattle.kq_model.specs.Subjects.{HasSubject, HaveSubjects, MakesSubject, MakeSubjects}
+use Rattle.kq_model.specs.Retrieval.{Retrieved, reset, rested, knotes_after, without_notice, with_notice_told, settled, turned_at_look, turned_at, turned, delivered, after_turn, retrieve, retrieval}
+use Rattle.kq_model.specs.Subjects.{HasSubject, HaveSubjects, MakesSubject, MakeSubjects, FollowsSubject, FollowSubjects}
 use Rattle.kq_model.specs.Targets.{Posted}
 use Rattle.kq_model.specs.TimerWalk.{Waiting, rung_at, walked}
 use Rattle.kq_model.specs.Views.{Views}
+use Rattle.kq_model.proofs.KnoteLaws.{find_knote-key}
+use Rattle.kq_model.proofs.SameTarget.{watched_is}
 use Rattle.kq_model.proofs.Subjects.{with_knote-subjects, without_knote-subjects, filter-subjects, find_knote-subject, activated-subject, register-subjects}
 
 module _ {S : Type 0} (h : Hearing S) (P : Filter → ℕ → Option Target → Type 0) where
@@ -55,15 +61,25 @@ module _ {S : Type 0} (h : Hearing S) (P : Filter → ℕ → Option Target → 
       cond_both k.oneshot _ _ Are (λ _. without_knote-subjects h P k.key ks all)
       (λ _. cond_both (k.clear || k.dispatch) _ _ Are (λ _. with_knote-subjects h P (rested k) ks (rested-subject k has) all) (λ _. all))
 
-  turned_at_look-subjects : (k : Knote h) (kq : Kqueue h) (seen : Option Seen) → Is k → Are kq.knotes → Are (turned_at_look k kq seen).kq.knotes
+  with_told-subjects : (k : Knote h) (kq : Kqueue h) (seen : Option Seen) → Is k → Are kq.knotes → Are (with_notice_told k kq seen).knotes
+  unfolding with_notice_told
+  with_told-subjects k kq None has all = with_knote-subjects h P (record k { active = false }) kq.knotes has all
+  with_told-subjects k kq (Some seen) has all = with_knote-subjects h P k kq.knotes has all
+
+  settled-subjects : (views : Views) (k : Knote h) (kq : Kqueue h) (notice : Option ℕ) → Is k → Are kq.knotes → Are (settled views k kq notice).knotes
+  unfolding settled
+  settled-subjects views k kq None has all = knotes_after-subjects k kq.knotes has all
+  settled-subjects views k kq (Some parent) has all = with_told-subjects (without_notice k) kq (look views (without_notice k)) has all
+
+  turned_at_look-subjects : (views : Views) (k : Knote h) (kq : Kqueue h) (seen : Option Seen) → Is k → Are kq.knotes → Are (turned_at_look views k kq seen).kq.knotes
   unfolding turned_at_look
-  turned_at_look-subjects k kq None has all = with_knote-subjects h P (record k { active = false }) kq.knotes has all
-  turned_at_look-subjects k kq (Some seen) has all = knotes_after-subjects k kq.knotes has all
+  turned_at_look-subjects views k kq None has all = with_knote-subjects h P (record k { active = false }) kq.knotes has all
+  turned_at_look-subjects views k kq (Some seen) has all = settled-subjects views k kq k.notice has all
 
   turned_at-subjects : (views : Views) (kq : Kqueue h) (found : Option (Knote h)) → IfIs found → Are kq.knotes → Are (turned_at views kq found).kq.knotes
   unfolding turned_at
   turned_at-subjects views kq None has all = all
-  turned_at-subjects views kq (Some k) has all = turned_at_look-subjects k kq (look views k) has all
+  turned_at-subjects views kq (Some k) has all = turned_at_look-subjects views k kq (look views k) has all
 
   pub turned-subjects : (views : Views) (key : Key) (kq : Kqueue h) → Are kq.knotes → Are (turned views key kq).kq.knotes
   unfolding turned
@@ -148,7 +164,7 @@ module _ {S : Type 0} (h : Hearing S) (P : Filter → ℕ → Option Target → 
   unless_silent-subject : (exits : Bool) (k : Knote h) → Is k → IfIs (unless_silent exits k)
   unfolding unless_silent
   unless_silent-subject false k has = has
-  unless_silent-subject true k has = cond_both (h.is_empty k.seen) _ _ IfIs (λ _. tt) (λ _. has)
+  unless_silent-subject true k has = cond_both (has_nothing k) _ _ IfIs (λ _. tt) (λ _. has)
 
   pub noticed-subject : (views : Views) (hints : List Hint) (k : Knote h) → Is k → IfIs (noticed views hints k)
   unfolding noticed
@@ -176,6 +192,45 @@ module _ {S : Type 0} (h : Hearing S) (P : Filter → ℕ → Option Target → 
   unfolding notified
   notified-subjects views posted kq all = knotes_noticing-subjects views posted kq.knotes all
 
+  -- ---- children
+
+  -- the knote of a process, and one that follows
+  followed-subject : (f : Fork) (k : Knote h) → process_key f.parent ≡ k.key → follows f.parent k ≡ true → Is k
+      → P Proc f.parent (Some (Process f.parent))
+  followed-subject f k key does has =
+      subst (λ t. P Proc f.parent t) (watched_is k.target (Process f.parent) (and_parts _ _ does).0)
+      (subst (λ (o : Key). P o.filter o.ident k.target) (sym key) has)
+
+  heir-subject : (f : Fork) (ks : List (Knote h)) (parent present : Option (Knote h)) → find_knote (process_key f.parent) ks ≡ parent
+      → IfIs parent → FollowsSubject P f → IfIs (heir f parent present)
+  unfolding heir
+  heir-subject f ks (Some k) None found has passes =
+      cond_both (follows f.parent k) (Some (child_knote f k)) None IfIs
+      (λ does. passes (followed-subject f k (find_knote-key (process_key f.parent) ks k found) does has)) (λ _. tt)
+  heir-subject f ks None present found has passes = tt
+  heir-subject f ks (Some k) (Some x) found has passes = tt
+
+  pub heir_in-subject : (f : Fork) (kq : Kqueue h) → Are kq.knotes → FollowsSubject P f → IfIs (heir_in f kq)
+  heir_in-subject f kq all passes =
+      heir-subject f kq.knotes (find_knote (process_key f.parent) kq.knotes) (find_knote (process_key f.child) kq.knotes) refl
+      (find_knote-subject h P (process_key f.parent) kq.knotes all) passes
+
+  with_heir-subjects : (heir : Option (Knote h)) (kq : Kqueue h) → IfIs heir → Are kq.knotes → Are (with_heir heir kq).knotes
+  unfolding with_heir
+  with_heir-subjects None kq has all = all
+  with_heir-subjects (Some k) kq has all = All-append Is kq.knotes (k ∷ []) all (All-cons Is k [] has (All-nil Is))
+
+  pub followed_each-subjects : (fs : List Fork) (kq : Kqueue h) → All (FollowsSubject P) fs → Are kq.knotes → Are (followed_each fs kq).knotes
+  unfolding followed_each
+  followed_each-subjects [] kq passes all = all
+  followed_each-subjects (f ∷ fs) kq passes all =
+      followed_each-subjects fs (with_heir (heir_in f kq) kq) (All-tail (FollowsSubject P) f fs passes)
+      (with_heir-subjects (heir_in f kq) kq (heir_in-subject f kq all (All-head (FollowsSubject P) f fs passes)) all)
+
+  pub followed-subjects : (version : ℕ) (posted : List Posted) (kq : Kqueue h) → FollowSubjects P version posted → Are kq.knotes
+      → Are (followed version posted kq).knotes
+  followed-subjects version posted kq passes all = followed_each-subjects (forks_in version posted) kq passes all
+
   rung_at-subjects : (moment : ℕ) (ks : List (Knote h)) → Are ks → Are (map (rung_at timers moment) ks)
   rung_at-subjects moment [] all = All-nil Is
   rung_at-subjects moment (k ∷ ks) all =
@@ -195,7 +250,9 @@ module _ {S : Type 0} (h : Hearing S) (P : Filter → ℕ → Option Target → 
   clocked-subjects (Some span) kq all = walked-subjects span.from (span.to - span.from) (waiting_of kq) all
 
   -- all that comes before a call
-  pub happened-subjects : (owner : ℕ) (m : Moment) (kq : Kqueue h) → Are kq.knotes → Are (happened owner m kq).knotes
+  pub happened-subjects : (owner : ℕ) (m : Moment) (kq : Kqueue h) → FollowSubjects P m.version m.hints → Are kq.knotes
+      → Are (happened owner m kq).knotes
   unfolding happened
-  happened-subjects owner m kq all =
-      clocked-subjects m.clock _ (notified-subjects m.views m.hints _ (closed-subjects owner m.closed kq all))
+  happened-subjects owner m kq passes all =
+      clocked-subjects m.clock _ (followed-subjects m.version m.hints _ passes
+      (notified-subjects m.views m.hints _ (closed-subjects owner m.closed kq all)))

@@ -6,6 +6,7 @@ use Rattle.kq_model.specs.Call as call
 use Rattle.kq_model.specs.Caller.{Caller}
 use Rattle.kq_model.specs.Clock.{Span, clocked}
 use Rattle.kq_model.specs.Close.{Pair, closed}
+use Rattle.kq_model.specs.Following.{followed}
 use Rattle.kq_model.specs.Hearing.{listed, tallying}
 use Rattle.kq_model.specs.Hints.{notified}
 use Rattle.kq_model.specs.Kqueue.{Kqueue}
@@ -14,7 +15,7 @@ use Rattle.kq_model.specs.Registration.{register}
 use Rattle.kq_model.specs.Targets.{Posted}
 use Rattle.kq_model.specs.Views.{Views}
 use Rattle.kq_model.proofs.RecastCall.{call-recast}
-use Rattle.kq_model.proofs.RecastMoment.{closed-recast, notified-recast, clocked-recast}
+use Rattle.kq_model.proofs.RecastMoment.{closed-recast, notified-recast, followed-recast, clocked-recast}
 use Rattle.kq_model.proofs.RecastRegistration.{register-recast}
 use Rattle.kq_model.proofs.RecastTally.{tally_of-map}
 
@@ -40,6 +41,9 @@ module _ (kq : Kqueue tallying) (m : Kqueue listed) (same : kq ≡ tallied m) wh
 
   pub notified-tallied : (views : Views) (posted : List Posted) → notified views posted kq ≡ tallied (notified views posted m)
   notified-tallied views posted = ap (notified views posted) same ∙ notified-recast tally_of-map views posted m
+
+  pub followed-tallied : (version : ℕ) (posted : List Posted) → followed version posted kq ≡ tallied (followed version posted m)
+  followed-tallied version posted = ap (followed version posted) same ∙ followed-recast tally_of-map version posted m
 
   pub clocked-tallied : (span : Option Span) → clocked span kq ≡ tallied (clocked span m)
   clocked-tallied span = ap (clocked span) same ∙ clocked-recast tally_of-map span m

@@ -1,6 +1,6 @@
 -- A timer's ticks by division: what `kq_timer` computes counts the moments of the definition.
-use Rattle.std.proofs.Common.{◌≡◌, ◌≢◌, ℕ, zero, suc, ◌+◌, ◌-◌, ◌*◌, ◌/◌, ◌%◌, ◌<◌, ◌≤◌, true, false, cond, ◌⊎◌, inl, inr, refl, ◌∙◌, zero-add, add-zero, arith}
-use Rattle.std.proofs.lemmas.Bool.{eq-eqb, ne_eqb, or_right, or_left, or_from, cases_lt}
+use Rattle.std.proofs.Common.{◌≡◌, ◌≢◌, ℕ, zero, suc, ◌+◌, ◌-◌, ◌*◌, ◌/◌, ◌%◌, ◌<◌, ◌≤◌, ◌==◌, Bool, true, false, cond, ◌⊎◌, inl, inr, refl, sym, ◌∙◌, zero-add, add-zero, arith}
+use Rattle.std.proofs.lemmas.Bool.{eq-eqb, eqb-true, ne_eqb, or_right, or_left, or_from, cases_lt}
 use Rattle.std.proofs.lemmas.Nat.{div-mul-add, same_from_place, div-add-mod', mod_below}
 use Rattle.std.proofs.Math.Nat.{le-mul_of_pos_right, mul-le-mul_right, lt-div-mul-add, div-mul-le_self, lt_of_mul-lt-mul_right}
 use Rattle.kq_model.specs.Ticks.{Ticking, is_among_first, is_tick, counted, ticks_between}
@@ -24,9 +24,18 @@ none_among_first t m zero none = refl
 none_among_first t m (suc k) none = or_from _ _ (ne_eqb _ _ (none k)) (none_among_first t m k none)
 
 -- start and j + 1 periods
+-- without a period each is the start
+still : (t : Ticking) (j : ℕ) → t.period ≡ 0 → t.start + suc j * t.period ≡ t.start
+still t j none = let nothing : t.start + suc j * 0 ≡ t.start = omega arith in rw none nothing
+
 pub is_tick-at : (t : Ticking) (m j : ℕ) → j < m → t.start + suc j * t.period ≡ m → is_tick t m ≡ true
 unfolding is_tick
-is_tick-at t m j below e = among_first t m m j below e
+is_tick-at t m j below e =
+    by_period (t.period == 0) refl
+  where
+    by_period : (b : Bool) → (t.period == 0) ≡ b → cond b (t.start == m) (is_among_first m t m) ≡ true
+    by_period true none = eq-eqb t.start m (sym (still t j (eqb-true t.period 0 none)) ∙ e)
+    by_period false _ = among_first t m m j below e
 
 pub is_tick-true : (t : Ticking) (m j : ℕ) → 0 < t.period → t.start + suc j * t.period ≡ m → is_tick t m ≡ true
 is_tick-true t m j positive e =
@@ -35,7 +44,11 @@ is_tick-true t m j positive e =
 
 pub is_tick-false : (t : Ticking) (m : ℕ) → ((j : ℕ) → t.start + suc j * t.period ≢ m) → is_tick t m ≡ false
 unfolding is_tick
-is_tick-false t m none = none_among_first t m m none
+is_tick-false t m none = by_period (t.period == 0) refl
+  where
+    by_period : (b : Bool) → (t.period == 0) ≡ b → cond b (t.start == m) (is_among_first m t m) ≡ false
+    by_period true nothing = ne_eqb t.start m (λ e. none 0 (still t 0 (eqb-true t.period 0 nothing) ∙ e))
+    by_period false _ = none_among_first t m m none
 
 -- ---- a quotient grows at the multiples of the divisor
 

@@ -1,7 +1,7 @@
 -- Each step keeps it so: READ, WRITE and VNODE knotes watch what their numbers name now. A record leaves what
 -- open numbers name, but for those that it closes, and of these the knotes are gone; a call brings no knote but
 -- of what its number names.
-use Rattle.std.proofs.Common.{◌≡◌, ℕ, ◌+◌, ◌^◌, ◌==◌, Bool, true, false, cond, not, ◌&&◌, ltb, List, [], ◌∷◌, ◌++◌, map, filter, Option, Some, None, refl, sym, ap, subst, ◌∙◌}
+use Rattle.std.proofs.Common.{◌≡◌, ℕ, ◌^◌, ◌==◌, true, cond, not, ◌&&◌, ltb, List, [], ◌∷◌, map, Option, Some, None, refl, sym, ap, ◌∙◌}
 use Rattle.std.proofs.lemmas.Bool.{cond_both, true≢false}
 use Rattle.std.proofs.lemmas.List.Elements.{All-nil, All-cons, All-head, All-tail, All-append, All-filter}
 use Rattle.std.proofs.lemmas.Option.{none-some}
@@ -15,8 +15,9 @@ use Rattle.kq_model.specs.declared.object.Named.{Named}
 use Rattle.kq_model.specs.declared.object.Target.{Target}
 use Rattle.kq_model.specs.Call as kevent
 use Rattle.kq_model.specs.Caller.{Caller}
-use Rattle.kq_model.specs.Close.{Pair, closed, has_pair, is_closed, IsNotClosed}
-use Rattle.kq_model.specs.Descriptors.{IsRising, named_among}
+use Rattle.kq_model.specs.Close.{Pair, closed, has_pair, IsNotClosed}
+use Rattle.kq_model.specs.Descriptors.{IsRising}
+use Rattle.kq_model.specs.Following.{Fork, forks_in, followed}
 use Rattle.kq_model.specs.Hearing.{Hearing}
 use Rattle.kq_model.specs.Knote.{Knote, watches_number}
 use Rattle.kq_model.specs.Kqueue.{Kqueue}
@@ -24,9 +25,9 @@ use Rattle.kq_model.specs.Moment.{Moment, moment_of, caller_at, happened, called
 use Rattle.kq_model.specs.NamedTargets.{IsNamed}
 use Rattle.kq_model.specs.Objects.{Keeping}
 use Rattle.kq_model.specs.Plans.{plan}
-use Rattle.kq_model.specs.Subjects.{HasSubject, HaveSubjects, MakesSubject, MakeSubjects}
+use Rattle.kq_model.specs.Subjects.{HasSubject, HaveSubjects, MakesSubject, MakeSubjects, FollowsSubject}
 use Rattle.kq_model.specs.System.{Live, System, empty_system, stepped, lived, born, step_by, step}
-use Rattle.kq_model.specs.Targets.{number_in, named_in, object_of, file_of, target_of}
+use Rattle.kq_model.specs.Targets.{Posted, number_in, named_in, object_of, file_of, target_of}
 use Rattle.kq_model.specs.Views.{Views}
 use Rattle.kq_model.specs.WatchedNumbers.{LeavesOpen, WatchTheirNumbers, AllWatchTheirNumbers}
 use Rattle.kq_model.specs.World.{Call, Plan, Planned, Impossible, Possible, World, named_by, seen_world, views_of, carried_out, empty_world}
@@ -34,7 +35,7 @@ use Rattle.kq_model.proofs.CloseLaw.{closed-gone, none-closed}
 use Rattle.kq_model.proofs.KnoteLaws.{by_test}
 use Rattle.kq_model.proofs.NamedTargets.{makes-named}
 use Rattle.kq_model.proofs.OpenNumbers.{stays-open}
-use Rattle.kq_model.proofs.SubjectsCall.{call-subjects, closed-subjects, notified-subjects, clocked-subjects}
+use Rattle.kq_model.proofs.SubjectsCall.{call-subjects, closed-subjects, notified-subjects, followed-subjects, clocked-subjects}
 
 -- ---- one knote
 
@@ -127,6 +128,20 @@ module _ {S : Type 0} (h : Hearing S) where
   call-watched caller room changes kq watch =
       call-subjects h (IsNamed caller.views caller.owner) caller room changes kq (all_make caller changes) watch
 
+  -- ---- children: a process is no number
+
+  follow-named : (views : Views) (owner : ℕ) (fs : List Fork) → All (FollowsSubject (IsNamed views owner)) fs
+  unfolding watches_number
+  follow-named views owner [] = All-nil (FollowsSubject (IsNamed views owner))
+  follow-named views owner (f ∷ fs) =
+      All-cons (FollowsSubject (IsNamed views owner)) f fs (λ _ watches. absurd (true≢false (sym watches)))
+      (follow-named views owner fs)
+
+  pub followed-watched : (views : Views) (owner version : ℕ) (posted : List Posted) (kq : Kqueue h)
+      → WatchTheirNumbers views owner kq → WatchTheirNumbers views owner (followed version posted kq)
+  followed-watched views owner version posted kq watch =
+      followed-subjects h (IsNamed views owner) version posted kq (follow-named views owner (forks_in version posted)) watch
+
   -- ---- the step of a kqueue
 
   happened-watched : (before : Views) (owner : ℕ) (m : Moment) (kq : Kqueue h)
@@ -135,8 +150,9 @@ module _ {S : Type 0} (h : Hearing S) where
   unfolding happened
   happened-watched before owner m kq leaves watch =
       clocked-subjects h (IsNamed m.views owner) m.clock _
+      (followed-watched m.views owner m.version m.hints _
       (notified-subjects h (IsNamed m.views owner) m.views m.hints _
-      (closed-watched before m.views owner m.closed kq leaves watch))
+      (closed-watched before m.views owner m.closed kq leaves watch)))
 
   after_call-watched : (before : Views) (place owner : ℕ) (m : Moment) (c : Option Call) (kq : Kqueue h)
       → LeavesOpen before m.views owner m.closed

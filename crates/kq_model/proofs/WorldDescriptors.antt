@@ -2,7 +2,7 @@
 use Rattle.std.specs.Prelude.{◌≡◌, ℕ, ◌^◌, List, [], ◌∷◌, Some}
 use Rattle.std.proofs.Common.{refl}
 use Rattle.kq_model.specs.declared.act.Act.TheVariants as act
-use Rattle.kq_model.specs.declared.object.Hint.TheVariants.{Readable, Writable, Note}
+use Rattle.kq_model.specs.declared.object.Hint.TheVariants.{Readable, Writable, Note, Child}
 use Rattle.kq_model.specs.declared.object.Named.TheVariants as named
 use Rattle.kq_model.specs.declared.object.Target.TheVariants as target
 use Rattle.kq_model.specs.declared.why.Why.TheVariants.{NoProcess, UsedPid, NoDescriptor, UsedDescriptor, WrongKind}
@@ -60,7 +60,7 @@ last_writer =
 pub last_writer_outcomes : outcomes last_writer ≡
     Done [] []
     ∷ Done [] []
-    ∷ Done [] ((target.Process 1, Note (2 ^ 30)) ∷ [])
+    ∷ Done [] ((target.Process 1, Note (2 ^ 30)) ∷ (target.Process 1, Child 2) ∷ [])
     ∷ Done (pair 1 4 ∷ []) []
     ∷ Done [] ((target.Pipe 2, Readable) ∷ [])
     ∷ Done (pair 2 3 ∷ pair 2 4 ∷ []) ((target.Pipe 2, Readable) ∷ (target.Process 2, Note (2 ^ 31)) ∷ [])
@@ -99,7 +99,7 @@ pub kqueues_outcomes : outcomes kqueues ≡
     Done [] []
     ∷ Done [] []
     ∷ Done [] []
-    ∷ Done [] ((target.Process 1, Note (2 ^ 30)) ∷ [])
+    ∷ Done [] ((target.Process 1, Note (2 ^ 30)) ∷ (target.Process 1, Child 2) ∷ [])
     ∷ Refused WrongKind
     ∷ Refused NoDescriptor
     ∷ Done (pair 2 3 ∷ []) []

@@ -67,9 +67,19 @@ exec_note = 2 ^ 29
 abbrev pub track_note : ℕ
 track_note = 1
 
+-- NOTE_CHILD
+abbrev pub child_note : ℕ
+child_note = 4
+
 -- these fflags have the bit
 abbrev pub has_note : ℕ → ℕ → Bool
 has_note fflags note = bit_and fflags note == note
+
+-- ---- fflags of TIMER
+
+-- NOTE_ABSTIME
+abbrev pub abstime_note : ℕ
+abstime_note = 16
 
 -- ---- fflags of USER
 

@@ -37,9 +37,11 @@ pub record IsDue {S : Type 0} {h : Hearing S} (views : Views) (knotes : List (Kn
   pub holds : look views knote ≡ Some seen
   pub is : e ≡ event_of knote seen
 
--- an event of a ONESHOT knote is its last: the knote is gone
-abbrev pub IsLastOfOneshot : {S : Type 0} {h : Hearing S} → List (Knote h) → Kevent → Type 0
-IsLastOfOneshot left e = asks e.flags oneshot ≡ true → find_knote (key_of_event e) left ≡ None
+-- an event of a ONESHOT knote is its last: the knote is gone, unless it had a notice, which the event told
+abbrev pub IsLastOfOneshot : {S : Type 0} {h : Hearing S} → List (Knote h) → List (Knote h) → Kevent → Type 0
+IsLastOfOneshot {h = h} knotes left e =
+    (k : Knote h) → find_knote (key_of_event e) knotes ≡ Some k → k.notice ≡ None → asks e.flags oneshot ≡ true
+    → find_knote (key_of_event e) left ≡ None
 
 -- the condition of the key's knote does not hold
 abbrev pub IsIdle : {S : Type 0} {h : Hearing S} → Views → List (Knote h) → Key → Type 0
@@ -53,7 +55,7 @@ pub record AreTaken {S : Type 0} {h : Hearing S} (views : Views) (room : ℕ) (k
   pub once : AreOnce (map key_of_event events)
   pub within : length events ≤ room
   pub due : Each (IsDue views kq.knotes) events
-  pub oneshot_gone : Each (IsLastOfOneshot after.knotes) events
+  pub oneshot_gone : Each (IsLastOfOneshot kq.knotes after.knotes) events
   pub no_error : Each (λ e. asks e.flags error ≡ false) events
   -- nothing is held back: with room left over, what is in the queue and was not returned is idle
   pub complete : length events < room

@@ -1,5 +1,5 @@
 -- What a change makes of a knote: a new one, or a present one with other parameters (kqueue(2)).
-use Rattle.std.specs.Prelude.{ℕ, ◌==◌, Bool, true, false, not, ◌&&◌, ◌||◌, Option, Some, None, if◌then◌else◌}
+use Rattle.std.specs.Prelude.{ℕ, ◌==◌, Bool, true, false, not, ◌&&◌, ◌||◌, Option, Some, None, if◌then◌else◌, nat_le}
 use Rattle.std.specs.Int.RustNames.{bit_and, bit_or}
 use Rattle.kq_model.specs.declared.change.Change.{Change}
 use Rattle.kq_model.specs.declared.filter.Filter.{Filter}
@@ -7,27 +7,46 @@ use Rattle.kq_model.specs.declared.filter.Filter.TheVariants.{Proc, Signal, Time
 use Rattle.kq_model.specs.declared.key.Key.{Key}
 use Rattle.kq_model.specs.Bits.{asks, add, enable, disable, oneshot, clear, dispatch, triggers, own_bits, control}
 use Rattle.kq_model.specs.Caller.{Caller}
-use Rattle.kq_model.specs.Hearing.{Hearing}
+use Rattle.kq_model.specs.Hearing.{Hearing, Expired}
 use Rattle.kq_model.specs.Knote.{Knote}
 use Rattle.kq_model.specs.Look.{Seen, look}
 use Rattle.kq_model.specs.Targets.{target_of}
-use Rattle.kq_model.specs.Ticks.{period_of}
+use Rattle.kq_model.specs.Ticks.{Timing, Every, At, timing_of}
 use Rattle.kq_model.specs.Views.{Views}
 
 abbrev pub key_of : Change → Key
 key_of c = record { ident = c.ident; filter = c.filter }
 
--- PROC, SIGNAL and TIMER have CLEAR always
+-- PROC, SIGNAL and TIMER have CLEAR always; for a TIMER with NOTE_ABSTIME this is this project's choice
 unfoldable pub always_clears : Filter → Bool
 always_clears Proc = true
 always_clears Signal = true
 always_clears Timer = true
 always_clears _ = false
 
--- the period of a TIMER; a change that names none is refused
-unfoldable pub period_in : Option ℕ → ℕ
+-- ---- a TIMER; a change that does not say what it is to do is refused
+
+abbrev pub timing_in : Caller → Change → Option Timing
+timing_in caller c = timing_of caller.version c.datum c.fflags
+
+-- a period is counted from the present clock; a moment is where it is
+unfoldable pub start_in : ℕ → Option Timing → ℕ
+start_in now None = now
+start_in now (Some (Every period)) = now
+start_in now (Some (At moment)) = moment
+
+unfoldable pub period_in : Option Timing → ℕ
 period_in None = 0
-period_in (Some period) = period
+period_in (Some (Every period)) = period
+period_in (Some (At moment)) = 0
+
+-- its moment is not after the present clock, which so never comes to it again
+unfoldable pub has_come : ℕ → Option Timing → Bool
+has_come now None = false
+has_come now (Some (Every period)) = false
+has_come now (Some (At moment)) = nat_le moment now
+
+-- ---- a USER
 
 -- NOTE_FFAND, NOTE_FFOR and NOTE_FFCOPY do as named, and NOTE_FFNOP leaves the bits
 unfoldable pub controlled : ℕ → ℕ → ℕ → ℕ
@@ -58,11 +77,16 @@ module _ {S : Type 0} {h : Hearing S} where
     period = 0;
     bits = 0;
     triggered = false;
+    notice = None;
   }
 
-  -- a TIMER that starts at the present clock
+  -- a TIMER that starts at the present clock, or at its moment; one whose moment has come has expired already
   unfoldable pub started : Caller → Change → Knote h → Knote h
-  started caller c k = record k { start = caller.views.now; period = period_in (period_of c.datum c.fflags) }
+  started caller c k = record k {
+    start = start_in caller.views.now (timing_in caller c);
+    period = period_in (timing_in caller c);
+    seen = if has_come caller.views.now (timing_in caller c) then h.heard Expired k.seen else k.seen;
+  }
 
   -- the first ADD starts a TIMER, and stores a USER's own bits, whatever the control bits
   unfoldable pub begun : Filter → Caller → Change → Knote h → Knote h
@@ -87,7 +111,7 @@ module _ {S : Type 0} {h : Hearing S} where
   -- with ADD a TIMER starts anew: what it heard is forgotten, and it is not active
   unfoldable pub restarted : Filter → Caller → Change → Knote h → Knote h
   restarted Timer caller c k =
-      if asks c.flags add then record (started caller c k) { seen = h.empty; active = false } else k
+      if asks c.flags add then started caller c (record k { seen = h.empty; active = false }) else k
   restarted _ caller c k = k
 
   -- each later change of a USER applies its control, and replaces the data

@@ -5,7 +5,7 @@ use Rattle.std.specs.Prelude.{ℕ, ◌+◌, ◌==◌, Bool, true, false, List, [
 use Rattle.std.specs.List.{fold}
 use Rattle.std.specs.Int.RustNames.{bit_or}
 use Rattle.kq_model.specs.declared.object.Hint.{Hint}
-use Rattle.kq_model.specs.declared.object.Hint.TheVariants.{Readable, Writable, Note, Delivered}
+use Rattle.kq_model.specs.declared.object.Hint.TheVariants.{Readable, Writable, Note, Delivered, Child}
 
 -- a hint for the knote's target, or an expiration of its timer
 pub data Occurrence : Type 0 where
@@ -18,6 +18,7 @@ notes_of (Told (Note bits)) = bits
 notes_of (Told Readable) = 0
 notes_of (Told Writable) = 0
 notes_of (Told Delivered) = 0
+notes_of (Told (Child pid)) = 0
 notes_of Expired = 0
 
 -- how often something is counted at most: 2^63 - 1, the greatest data of a kevent

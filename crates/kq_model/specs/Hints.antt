@@ -8,17 +8,18 @@ use Rattle.kq_model.specs.declared.filter.Filter.{Filter}
 use Rattle.kq_model.specs.declared.filter.Filter.TheVariants.{Read, Write, Vnode, Proc, Signal}
 use Rattle.kq_model.specs.declared.key.Key.{Key}
 use Rattle.kq_model.specs.declared.object.Hint.{Hint}
-use Rattle.kq_model.specs.declared.object.Hint.TheVariants.{Readable, Writable, Note, Delivered}
+use Rattle.kq_model.specs.declared.object.Hint.TheVariants.{Readable, Writable, Note, Delivered, Child}
 use Rattle.kq_model.specs.Bits.{has_note, exit_note}
 use Rattle.kq_model.specs.ChangedKnote.{activated}
 use Rattle.kq_model.specs.Hearing.{Hearing, Told}
-use Rattle.kq_model.specs.Knote.{Knote, without_key}
+use Rattle.kq_model.specs.Knote.{Knote, has_nothing, without_key}
 use Rattle.kq_model.specs.Kqueue.{Kqueue}
 use Rattle.kq_model.specs.Look.{look}
 use Rattle.kq_model.specs.Registration.{queue_for}
 use Rattle.kq_model.specs.Targets.{Posted, is_target}
 use Rattle.kq_model.specs.Views.{Views}
 
+-- which hints a filter hears. A Child is heard by none: a knote that tracks the process follows it.
 unfoldable pub takes : Filter → Hint → Bool
 takes Read Readable = true
 takes Write Writable = true
@@ -27,12 +28,13 @@ takes Proc (Note bits) = true
 takes Signal Delivered = true
 takes _ _ = false
 
--- of a note only the wanted bits are kept; where that is none, nothing is
+-- of a note only the wanted bits are kept; where that is none, nothing is. A child is no note.
 unfoldable pub kept : ℕ → Hint → Option Hint
 kept wanted (Note bits) = if bit_and bits wanted == 0 then None else Some (Note (bit_and bits wanted))
 kept wanted Readable = Some Readable
 kept wanted Writable = Some Writable
 kept wanted Delivered = Some Delivered
+kept wanted (Child pid) = None
 
 -- a PROC knote is told that its process exits
 unfoldable pub is_exit : Filter → Hint → Bool
@@ -64,7 +66,7 @@ module _ {S : Type 0} {h : Hearing S} where
 
   -- it heard of the exit and has nothing to tell, so it is to go
   unfoldable pub is_done : Hint → Knote h → Bool
-  is_done hint k = is_exit k.key.filter hint && h.is_empty (after_hint hint k).seen
+  is_done hint k = is_exit k.key.filter hint && has_nothing (after_hint hint k)
 
   -- one of the hints is the exit, whether or not the knote asked for it
   abbrev pub hears_exit : List Hint → Knote h → Bool
@@ -73,7 +75,7 @@ module _ {S : Type 0} {h : Hearing S} where
   -- then it is ONESHOT; where it has nothing to tell, it is gone
   unfoldable pub unless_silent : Bool → Knote h → Option (Knote h)
   unless_silent false k = Some k
-  unless_silent true k = if h.is_empty k.seen then None else Some (record k { oneshot = true })
+  unless_silent true k = if has_nothing k then None else Some (record k { oneshot = true })
 
   -- A knote that heard hints is looked at, enabled or not, and is active where the look sees something.
   -- None: it is gone. With no hint it stays as it is.

@@ -3,6 +3,7 @@
 use Rattle.std.specs.Prelude.{ℕ, ℤ, Bool, true, false, not, ◌&&◌, ◌==◌, List, [], ◌∷◌, ◌++◌, map, filter, Option, Some}
 use Rattle.std.specs.Prelude.{None, if◌then◌else◌}
 use Rattle.std.specs.List.{list_any}
+use Rattle.std.specs.Option.{is_none}
 use Rattle.kq_model.specs.declared.filter.Filter.{Filter}
 use Rattle.kq_model.specs.declared.filter.Filter.TheVariants.{Read, Write, Vnode, Proc, Signal, Timer, User, Aio, Lio}
 use Rattle.kq_model.specs.declared.filter.Filter.TheVariants.{Fs, Procdesc, Sendfile, Empty}
@@ -63,12 +64,12 @@ pub record Knote {S : Type 0} (h : Hearing S) : Type 0 where
   pub key : Key
   -- what is watched; none where the change named nothing that is there
   pub target : Option Target
-  -- the parameters, of the last change that set them
+  -- the parameters, of the last change that set them, or of the parent's knote at the fork
   pub fflags : ℕ
   pub datum : ℤ
   pub udata : ℕ
-  -- the actions, of the change that made the knote; PROC, SIGNAL and TIMER have CLEAR always, and a PROC gets
-  -- ONESHOT when its process exits
+  -- the actions, of the change that made the knote, or of the parent's knote at the fork; PROC, SIGNAL and TIMER
+  -- have CLEAR always, and a PROC gets ONESHOT when its process exits
   pub oneshot : Bool
   pub clear : Bool
   pub dispatch : Bool
@@ -78,14 +79,20 @@ pub record Knote {S : Type 0} (h : Hearing S) : Type 0 where
   pub active : Bool
   -- what was heard since the last reset
   pub seen : S
-  -- of a TIMER, in ns
+  -- of a TIMER, in ns: its start and its period, or its moment as the start and no period, which is 0
   pub start : ℕ
   pub period : ℕ
   -- of a USER
   pub bits : ℕ
   pub triggered : Bool
+  -- of a PROC that follows from a parent: that one's pid, until this was told
+  pub notice : Option ℕ
 
 module _ {S : Type 0} {h : Hearing S} where
+  -- there is nothing that it has to tell: it has no notice, and heard nothing
+  abbrev pub has_nothing : Knote h → Bool
+  has_nothing k = is_none k.notice && h.is_empty k.seen
+
   -- the knote of this key
   unfoldable pub find_knote : Key → List (Knote h) → Option (Knote h)
   find_knote key [] = None

@@ -19,6 +19,7 @@ pub mod Call
 pub mod CallLaws
 pub mod Hints
 pub mod HintLaws
+pub mod Following
 pub mod Noticing
 pub mod Close
 pub mod TimerWalk
@@ -78,3 +79,4 @@ pub mod Items
 pub mod Tallied
 pub mod Recast
 pub mod Report
+pub mod VersionOne

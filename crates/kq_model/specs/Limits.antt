@@ -1,5 +1,5 @@
 -- The limits of the simulated system and of its trace text. All are this project's choice.
-use Rattle.std.specs.Prelude.{ℕ, ◌-◌, ◌^◌}
+use Rattle.std.specs.Prelude.{ℕ, ◌-◌, ◌^◌, ◌≤◌}
 
 -- bytes of a line, without the LF that ends it
 abbrev pub most_line_bytes : ℕ
@@ -28,3 +28,7 @@ most_file_size = 2 ^ 61
 -- the greatest number of a signal
 abbrev pub most_signal : ℕ
 most_signal = 128
+
+-- the versions of the trace's format
+abbrev pub IsVersion : ℕ → Type 0
+IsVersion version = (1 ≤ version) × (version ≤ 2)

@@ -1,13 +1,13 @@
 -- A filter's look at its target: nothing, or what an event is to say (kqueue(2), the filters). Amounts, sizes and
 -- marks are bytes.
-use Rattle.std.specs.Prelude.{ℕ, min, ℤ, pos, ◌-ℤ◌, int_lt, int_le, ◌==◌, Bool, true, false, not, ◌&&◌, ◌||◌, Option}
+use Rattle.std.specs.Prelude.{ℕ, ℤ, pos, ◌-ℤ◌, int_lt, int_le, ◌==◌, Bool, true, false, not, ◌&&◌, ◌||◌, Option}
 use Rattle.std.specs.Prelude.{Some, None, option_and_then, if◌then◌else◌}
 use Rattle.std.specs.Int.{int_min, saturate_signed, w64}
 use Rattle.kq_model.specs.declared.filter.Filter.{Filter}
 use Rattle.kq_model.specs.declared.filter.Filter.TheVariants.{Read, Write, Vnode, Proc, Signal, Timer, User}
 use Rattle.kq_model.specs.declared.object.View.{View}
 use Rattle.kq_model.specs.declared.object.View.TheVariants as view
-use Rattle.kq_model.specs.Bits.{has_note, lowat_note, exit_note}
+use Rattle.kq_model.specs.Bits.{has_note, lowat_note, exit_note, child_note}
 use Rattle.kq_model.specs.Hearing.{Hearing}
 use Rattle.kq_model.specs.Knote.{Knote}
 use Rattle.kq_model.specs.Views.{Views}
@@ -91,6 +91,15 @@ notes_seen notes = if notes == 0 then None else Some (record { fflags = notes; d
 unfoldable pub count_seen : ℕ → Option Seen
 count_seen count = if count == 0 then None else Some (record { fflags = 0; datum = pos count; eof = false })
 
+-- the notice of a child that a process with this pid forked
+abbrev pub notice_seen : ℕ → Seen
+notice_seen parent = record { fflags = child_note; datum = pos parent; eof = false }
+
+-- a knote that has a notice sees this alone
+unfoldable pub notice_or : Option ℕ → Option Seen → Option Seen
+notice_or None seen = seen
+notice_or (Some parent) seen = Some (notice_seen parent)
+
 module _ {S : Type 0} {h : Hearing S} where
   -- the low-water mark: NOTE_LOWAT puts the knote's data, whatever its sign, in the place of the socket's
   unfoldable pub mark_of : Knote h → ℤ → ℤ
@@ -112,4 +121,4 @@ module _ {S : Type 0} {h : Hearing S} where
   look_by _ view k = None
 
   unfoldable pub look : Views → Knote h → Option Seen
-  look views k = look_by k.key.filter (option_and_then views.view k.target) k
+  look views k = notice_or k.notice (look_by k.key.filter (option_and_then views.view k.target) k)

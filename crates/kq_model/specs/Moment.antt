@@ -5,6 +5,7 @@ use Rattle.kq_model.specs.Caller.{Caller}
 use Rattle.kq_model.specs.Clock.{Span, clocked}
 use Rattle.kq_model.specs.Close.{Pair, closed}
 use Rattle.kq_model.specs.Hearing.{Hearing}
+use Rattle.kq_model.specs.Following.{followed}
 use Rattle.kq_model.specs.Hints.{notified}
 use Rattle.kq_model.specs.Kqueue.{Kqueue}
 use Rattle.kq_model.specs.Targets.{Posted}
@@ -41,9 +42,10 @@ abbrev pub caller_at : ℕ → Moment → Caller
 caller_at owner m = record { views = m.views; owner = owner; version = m.version }
 
 module _ {S : Type 0} {h : Hearing S} where
-  -- what comes before a call: closes, then hints, then the clock
+  -- what comes before a call: closes, then hints, then the children that are followed, then the clock
   unfoldable pub happened : ℕ → Moment → Kqueue h → Kqueue h
-  happened owner m kq = clocked m.clock (notified m.views m.hints (closed owner m.closed kq))
+  happened owner m kq =
+      clocked m.clock (followed m.version m.hints (notified m.views m.hints (closed owner m.closed kq)))
 
   -- the call of this kqueue, and of no other
   unfoldable pub called_at : ℕ → Moment → Call → Kqueue h → kevent.Called h

@@ -4,7 +4,7 @@ use Rattle.kq_model.specs.declared.object.Hint.{Hint}
 use Rattle.kq_model.specs.ChangedKnote.{activated}
 use Rattle.kq_model.specs.Hearing.{Hearing}
 use Rattle.kq_model.specs.Hints.{takes, after_hint, is_done, hints_for, noticed}
-use Rattle.kq_model.specs.Knote.{Knote, with_knote}
+use Rattle.kq_model.specs.Knote.{Knote, has_nothing, with_knote}
 use Rattle.kq_model.specs.Kqueue.{Kqueue}
 use Rattle.kq_model.specs.Look.{look}
 use Rattle.kq_model.specs.Registration.{queue_for, with_removed}
@@ -29,7 +29,7 @@ module _ {S : Type 0} {h : Hearing S} where
   -- what becomes of a knote that was told some hints: this is `after_hint` of each, and `silent` says that at one
   -- of them it was to go
   abbrev pub left_by : Views → Bool → Knote h → Option (Knote h)
-  left_by views silent k = if silent && h.is_empty k.seen then None else Some (activated (look views k) k)
+  left_by views silent k = if silent && has_nothing k then None else Some (activated (look views k) k)
 
   -- the kqueue with what became of a knote that heard hints
   unfoldable pub with_noticed : Knote h → Option (Knote h) → Kqueue h → Kqueue h

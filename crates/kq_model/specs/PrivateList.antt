@@ -1,12 +1,12 @@
 -- The private list of a kqueue: of each possible record what concerns this kqueue alone. These are its calls,
 -- the closes of numbers that it names, the hints for targets that it names, and the steps of the clock if it
--- has timers.
-use Rattle.std.specs.Prelude.{ℕ, ◌==◌, Bool, true, false, ◌&&◌, List, [], ◌∷◌, map, filter, Option, Some, None}
+-- has timers. Where it names a process, the hints for those that descend from it are among them.
+use Rattle.std.specs.Prelude.{ℕ, ◌==◌, Bool, true, false, ◌&&◌, List, [], map, filter, Option, Some, None}
 use Rattle.std.specs.Prelude.{if◌then◌else◌}
 use Rattle.kq_model.specs.Clock.{Span}
 use Rattle.kq_model.specs.Close.{Pair}
 use Rattle.kq_model.specs.Moment.{Moment}
-use Rattle.kq_model.specs.References.{Names, names_in, references}
+use Rattle.kq_model.specs.References.{Names, names_in, references, forks_at}
 use Rattle.kq_model.specs.Targets.{Posted}
 use Rattle.kq_model.specs.World.{Call}
 
@@ -53,4 +53,5 @@ abbrev pub private_by : ℕ → ℕ → Names → List Moment → List Concern
 private_by kqueue owner ns ms = filter concerns (map (concern_of kqueue owner ns) ms)
 
 abbrev pub private_list : ℕ → ℕ → List Moment → List Concern
-private_list kqueue owner ms = private_by kqueue owner (names_in (references kqueue owner ms)) ms
+private_list kqueue owner ms =
+    private_by kqueue owner (names_in (forks_at ms) (references kqueue owner ms)) ms

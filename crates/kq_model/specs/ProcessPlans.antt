@@ -54,6 +54,10 @@ hold_all (n ∷ ns) = hold_doings n ++ hold_all ns
 abbrev pub noted : ℕ → ℕ → Posted
 noted pid note = (target.Process pid, hint.Note note)
 
+-- the fork, and then the child
+abbrev pub forked : ℕ → ℕ → List Posted
+forked pid child = noted pid fork_note ∷ (target.Process pid, hint.Child child) ∷ []
+
 unfoldable pub plan_proc : ℕ → World counted → Planned
 plan_proc pid w =
     if was_used pid w.processes then Impossible UsedPid
@@ -66,7 +70,7 @@ plan_fork pid child w =
     else Possible (record idle {
       opened = inherited pid child w.table;
       doings = hold_all (names_of (inherited pid child w.table));
-      hints = noted pid fork_note ∷ [];
+      hints = forked pid child;
       started = Some (record { pid = child; ignores = ignored_by (process_of pid w.processes) });
     })
 

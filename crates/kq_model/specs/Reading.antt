@@ -1,7 +1,7 @@
 -- Reading: what the bytes of a trace mean. The first line by itself has a version or a fault, each further
 -- line an event or a fault; where a line has a fault, the answer is the least such line, else it is the
 -- version and the list of events. The format is this project's choice; a value is what serde_json reads.
-use Rattle.std.specs.Prelude.{ℕ, ◌+◌, ◌==◌, Bool, List, [], ◌∷◌, codes, length, nat_lt, Option, Some, None}
+use Rattle.std.specs.Prelude.{ℕ, ◌+◌, ◌==◌, ◌||◌, Bool, List, [], ◌∷◌, codes, length, nat_lt, Option, Some, None}
 use Rattle.std.specs.Prelude.{option_and_then, Result, Ok, Err, if◌then◌else◌}
 use Rattle.std.specs.Str.{is_utf8}
 use Rattle.serde_json.specs.Data.{unsigned, Data, number}
@@ -32,8 +32,8 @@ event_of None = Err Json
 event_of (Some d) = event_by (option_and_then as_str (get (codes "op") d)) d
 
 -- a version of the format that is read
-unfoldable pub is_version : ℕ → Bool
-is_version n = n == 1
+abbrev pub is_version : ℕ → Bool
+is_version n = (n == 1) || (n == 2)
 
 unfoldable pub version_in : Data → Option ℕ
 version_in (number (unsigned n)) = if is_version n then Some n else None

@@ -36,6 +36,7 @@ module _ {S T : Type 0} {h : Hearing S} (g : Hearing T) (f : S → T) where
     period = k.period;
     bits = k.bits;
     triggered = k.triggered;
+    notice = k.notice;
   }
 
   abbrev pub recast_kqueue : Kqueue h → Kqueue g

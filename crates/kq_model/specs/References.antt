@@ -1,6 +1,6 @@
 -- What the changes of a kqueue name, refused ones and those that a call did not reach too: a number of the
--- owner, a target as it is at the change's place, the clock.
-use Rattle.std.specs.Prelude.{ℕ, ◌==◌, Bool, ◌&&◌, List, [], ◌∷◌, ◌++◌, map, Option, Some, None, if◌then◌else◌}
+-- owner, a target as it is at the change's place with the processes that descend from one, the clock.
+use Rattle.std.specs.Prelude.{ℕ, ◌==◌, Bool, false, ◌&&◌, ◌||◌, List, [], ◌∷◌, ◌++◌, map, Option, Some, None, if◌then◌else◌}
 use Rattle.std.specs.List.{list_any}
 use Rattle.kq_model.specs.declared.change.Change.{Change}
 use Rattle.kq_model.specs.declared.filter.Filter.{Filter}
@@ -8,6 +8,7 @@ use Rattle.kq_model.specs.declared.filter.Filter.TheVariants.{Write}
 use Rattle.kq_model.specs.declared.object.Target.{Target}
 use Rattle.kq_model.specs.declared.object.Target.TheVariants as target
 use Rattle.kq_model.specs.Knote.{watches_number, is_timer}
+use Rattle.kq_model.specs.Following.{Fork, forks_in}
 use Rattle.kq_model.specs.Moment.{Moment}
 use Rattle.kq_model.specs.Targets.{target_of, is_target}
 use Rattle.kq_model.specs.Views.{Views}
@@ -45,11 +46,45 @@ unfoldable pub references : ℕ → ℕ → List Moment → List Reference
 references kqueue owner [] = []
 references kqueue owner (m ∷ ms) = references_in kqueue owner m.views m.call ++ references kqueue owner ms
 
+-- ---- the processes that descend from those that are named
+
+abbrev pub has_pid : ℕ → List ℕ → Bool
+has_pid pid pids = list_any (λ p. p == pid) pids
+
+-- with the child of one of them
+abbrev pub with_child : Fork → List ℕ → List ℕ
+with_child f pids = if has_pid f.parent pids then pids ++ f.child ∷ [] else pids
+
+-- by these forks, one after the other
+unfoldable pub descended : List Fork → List ℕ → List ℕ
+descended [] pids = pids
+descended (f ∷ fs) pids = descended fs (with_child f pids)
+
+-- the forks of possible records
+unfoldable pub forks_at : List Moment → List Fork
+forks_at [] = []
+forks_at (m ∷ ms) = forks_in m.version m.hints ++ forks_at ms
+
+-- a PROC names a process
+unfoldable pub pid_of : Option Target → List ℕ
+pid_of (Some (target.Process pid)) = pid ∷ []
+pid_of _ = []
+
+unfoldable pub pids_in : List Reference → List ℕ
+pids_in [] = []
+pids_in (r ∷ rs) = pid_of r.target ++ pids_in rs
+
+-- the target is one of these processes
+unfoldable pub is_process_of : List ℕ → Target → Bool
+is_process_of pids (target.Process pid) = has_pid pid pids
+is_process_of pids _ = false
+
 -- ---- what is named, once for the whole trace
 
 pub record Names : Type 0 where
   -- by READ, WRITE or VNODE
   pub number : ℕ → Bool
+  -- by a change at its place, or as a process that descends from one that PROC names
   pub target : Target → Bool
   -- whether TIMER is
   pub timer : Bool
@@ -57,9 +92,16 @@ pub record Names : Type 0 where
 abbrev pub names_number : ℕ → Reference → Bool
 names_number number r = watches_number r.filter && (r.ident == number)
 
-abbrev pub names_in : List Reference → Names
-names_in rs = record {
+-- what the references name themselves
+abbrev pub named_by : List Reference → Names
+named_by rs = record {
   number = λ number. list_any (names_number number) rs;
   target = λ target. list_any (λ r. is_target r.target target) rs;
   timer = list_any (λ r. is_timer r.filter) rs;
+}
+
+-- with the processes that descend from these; the forks are those of the whole trace
+abbrev pub names_in : List Fork → List Reference → Names
+names_in forks rs = record (named_by rs) {
+  target = λ target. (named_by rs).target target || is_process_of (descended forks (pids_in rs)) target;
 }

@@ -69,16 +69,30 @@ module _ {S : Type 0} {h : Hearing S} where
   abbrev pub with_idle : Knote h → Kqueue h → Kqueue h
   with_idle k kq = record kq { knotes = with_knote (record k { active = false }) kq.knotes }
 
-  abbrev pub with_delivered : Knote h → Kqueue h → Kqueue h
-  with_delivered k kq = record { knotes = knotes_after k kq.knotes; queue = back_after k kq.queue }
+  abbrev pub without_notice : Knote h → Knote h
+  without_notice k = record k { notice = None }
 
-  unfoldable pub turned_at_look : Knote h → Kqueue h → Option Seen → Turned h
-  turned_at_look k kq None = record { kq = with_idle k kq; event = None }
-  turned_at_look k kq (Some seen) = record { kq = with_delivered k kq; event = Some (event_of k seen) }
+  -- A notice was told: it is taken back, and nothing else is reset, disabled or deleted. The knote is looked at again:
+  -- it goes to the back, or is not active and out of the queue.
+  unfoldable pub with_notice_told : Knote h → Kqueue h → Option Seen → Kqueue h
+  with_notice_told k kq None = with_idle k kq
+  with_notice_told k kq (Some seen) = record { knotes = with_knote k kq.knotes; queue = kq.queue ++ k.key ∷ [] }
+
+  -- by its notice, if it had one
+  unfoldable pub settled : Views → Knote h → Kqueue h → Option ℕ → Kqueue h
+  settled views k kq None = record { knotes = knotes_after k kq.knotes; queue = back_after k kq.queue }
+  settled views k kq (Some parent) = with_notice_told (without_notice k) kq (look views (without_notice k))
+
+  abbrev pub with_delivered : Views → Knote h → Kqueue h → Kqueue h
+  with_delivered views k kq = settled views k kq k.notice
+
+  unfoldable pub turned_at_look : Views → Knote h → Kqueue h → Option Seen → Turned h
+  turned_at_look views k kq None = record { kq = with_idle k kq; event = None }
+  turned_at_look views k kq (Some seen) = record { kq = with_delivered views k kq; event = Some (event_of k seen) }
 
   unfoldable pub turned_at : Views → Kqueue h → Option (Knote h) → Turned h
   turned_at views kq None = record { kq = kq; event = None }
-  turned_at views kq (Some k) = turned_at_look k kq (look views k)
+  turned_at views kq (Some k) = turned_at_look views k kq (look views k)
 
   -- the turn of a key, which the kqueue's queue has no longer
   unfoldable pub turned : Views → Key → Kqueue h → Turned h

@@ -1,6 +1,6 @@
 -- Each READ, WRITE or VNODE knote watches what its number names now: the number is open in the process that
 -- owns the kqueue, and what it names is the knote's target (kqueue(2): idents of these filters are descriptors).
-use Rattle.std.specs.Prelude.{◌≡◌, ℕ, ◌+◌, false, List, [], ◌∷◌, Option, Some, All}
+use Rattle.std.specs.Prelude.{◌≡◌, ℕ, ◌+◌, false, List, [], ◌∷◌, Some, All}
 use Rattle.kq_model.specs.declared.event.Event.{Event}
 use Rattle.kq_model.specs.declared.object.Named.{Named}
 use Rattle.kq_model.specs.Close.{Pair, has_pair}

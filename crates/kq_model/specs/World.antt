@@ -1,7 +1,6 @@
 -- The world: the processes and their descriptors, the objects that these name, and the clock. A record's
 -- effect on it is a plan, which one function carries out; an impossible record changes nothing.
-use Rattle.std.specs.Prelude.{ℕ, Bool, List, [], Option, Some, None}
-use Rattle.std.specs.Option.{option_map}
+use Rattle.std.specs.Prelude.{ℕ, List, [], Option, Some, None}
 use Rattle.kq_model.specs.declared.change.Change.{Change}
 use Rattle.kq_model.specs.declared.doing.Doing.{Doing}
 use Rattle.kq_model.specs.declared.object.Named.{Named}

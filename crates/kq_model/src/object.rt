@@ -54,6 +54,8 @@ pub enum Hint {
     Note(u32),
     /// A signal was delivered.
     Delivered,
+    /// The process forked this child.
+    Child(u32),
 }
 
 /// What a descriptor is. Each place is that of the record that made the thing.

@@ -1,4 +1,5 @@
-ghost use Rattle.std.specs.Prelude.{◌≡◌, ◌<◌, ◌^◌, length};
+ghost use Rattle.std.specs.Prelude.{◌<◌, ◌^◌, length};
+ghost use Rattle.kq_model.specs.Limits.{IsVersion};
 
 use crate::{Event, Series};
 
@@ -7,6 +8,6 @@ use crate::{Event, Series};
 pub struct Trace {
     pub version: u32,
     pub events: Series<Event>,
-    ghost version_one: { version ≡ 1 },
+    ghost version_known: { IsVersion version },
     ghost countable: { length events < 2 ^ 31 },
 }
