@@ -1,15 +1,15 @@
 -- What `next_after` computes, one period after the last whole one, is the next tick.
-use Rattle.std.proofs.Common.{◌≡◌, ℕ, ◌+◌, ◌-◌, ◌%◌, ◌<◌, ◌≤◌, max, ℤ, pos, negsuc, ◌<ℤ◌, unsigned_abs, false, ◌⊎◌, inl, inr, refl, arith}
+use Rattle.std.proofs.Common.{◌≡◌, ℕ, ◌+◌, ◌-◌, ◌%◌, ◌<◌, ◌≤◌, max, ℤ, pos, negsuc, ◌<ℤ◌, unsigned_abs, ◌==◌, false, cond, ◌⊎◌, inl, inr, refl, ap, arith}
 use Rattle.std.specs.Int.{int_max}
-use Rattle.std.proofs.lemmas.Bool.{cases_lt}
+use Rattle.std.proofs.lemmas.Bool.{cases_lt, ne_eqb}
 use Rattle.std.proofs.lemmas.Int.{ints, clamps}
 use Rattle.std.proofs.lemmas.Nat.{div-add-mod'}
 use Rattle.kq_model.specs.Ticks.{Ticking, is_among_first, is_tick, IsNextTick}
 use Rattle.kq_model.proofs.Ticks.{moment_after, moment_after-later, moment_after-tick, moment_after-least}
 
-never_at_zero : (t : Ticking) → is_tick t 0 ≡ false
+never_at_zero : (t : Ticking) → 0 < t.period → is_tick t 0 ≡ false
 unfolding is_tick is_among_first
-never_at_zero t = refl
+never_at_zero t positive = ap (λ b. cond b (t.start == 0) false) (ne_eqb t.period 0 (λ e. omega (arith, e, positive)))
 
 -- `base` is `from`, or 0 where that is negative
 none_between : (t : Ticking) (from : ℤ) (base m : ℕ) → 0 < t.period → pos base ≡ int_max from (pos 0) → from <ℤ pos m → m < moment_after t base → is_tick t m ≡ false
@@ -19,7 +19,7 @@ none_between t from base m positive e later earlier = by_base (cases_lt base m)
     by_base (inl h) = moment_after-least t base m positive h earlier
     by_base (inr h) =
         let start : m ≡ 0 = omega (arith, ints, clamps) in
-        rw start (never_at_zero t)
+        rw start (never_at_zero t positive)
 
 pub next_is : (t : Ticking) (from : ℤ) (base : ℕ) → 0 < t.period → pos base ≡ int_max from (pos 0) → IsNextTick (is_tick t) from (moment_after t base)
 next_is t from base positive e =

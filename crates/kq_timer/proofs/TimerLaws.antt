@@ -20,34 +20,17 @@ pub once-single : (t : Ticking) → IsSingle (expires true t) (t.start + t.perio
 unfolding IsSingle
 once-single t = expires-once t
 
-or_same : (b : Bool) → (b || b) ≡ b
-or_same true = refl
-or_same false = refl
-
 eqb-turned : (a b : ℕ) → eqb a b ≡ eqb b a
 eqb-turned a b = grind (arith, nat_tests)
 
--- without a period each of its moments is its start
-still : (t : Ticking) (m k : ℕ) → t.period ≡ 0 → (eqb (t.start + suc k * t.period) m) ≡ eqb m (t.start + t.period)
-still t m k none =
-    let nothing : t.start + suc k * 0 ≡ t.start + 0 = omega arith in
-    let at : t.start + suc k * t.period ≡ t.start + t.period = ap (λ p. t.start + suc k * p) none ∙ nothing ∙ sym (ap (λ p. t.start + p) none) in
-    ap (λ n. eqb n m) at ∙ eqb-turned (t.start + t.period) m
-
-still_among : (t : Ticking) (m k : ℕ) → t.period ≡ 0 → is_among_first (suc k) t m ≡ eqb m (t.start + t.period)
-unfolding is_among_first
-still_among t m zero none = ap (λ b. b || false) (still t m 0 none) ∙ or_false (eqb m (t.start + t.period))
-  where
-    or_false : (b : Bool) → (b || false) ≡ b
-    or_false true = refl
-    or_false false = refl
-still_among t m (suc k) none =
-    ap₂ (λ a b. a || b) (still t m (suc k) none) (still_among t m k none) ∙ or_same (eqb m (t.start + t.period))
-
 pub still-single : (t : Ticking) → t.period ≡ 0 → IsSingle (expires false t) (t.start + t.period)
 unfolding IsSingle is_tick
-still-single t none zero later = absurd (omega (arith, later))
-still-single t none (suc m) later = expires-often t (suc m) ∙ still_among t (suc m) m none
+still-single t none m later =
+    expires-often t m ∙ ap (λ b. cond b (eqb t.start m) (is_among_first m t m)) (eq-eqb t.period 0 none)
+    ∙ eqb-turned t.start m ∙ ap (eqb m) (sym nothing)
+  where
+    nothing : t.start + t.period ≡ t.start
+    nothing = omega (arith, none)
 
 module _ (test : ℕ → Bool) (single : ℕ) (is : IsSingle test single) where
   none_in : (from m : ℕ) → (m ≡ single → ⊥) → 0 < m → test m ≡ false

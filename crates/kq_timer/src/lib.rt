@@ -2,11 +2,14 @@
 #![tactic(auto)]
 
 mod period;
+mod repeating;
 #[cfg(test)]
 mod tests;
 mod ticker;
 mod timer;
+mod timing;
 
 pub use period::Period;
 pub use ticker::Ticker;
 pub use timer::Timer;
+pub use timing::Timing;

@@ -69,7 +69,7 @@ impl Period {
 }
 
 /// The nanoseconds of the unit that a timer's fflags name.
-fn unit_of_flags(fflags: u32) -> Option<u64>
+pub(crate) fn unit_of_flags(fflags: u32) -> Option<u64>
     ensures { result ≡ unit_of fflags }
 {
     match fflags {

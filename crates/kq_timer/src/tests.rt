@@ -1,4 +1,4 @@
-use crate::{Period, Ticker, Timer};
+use crate::{Period, Ticker, Timer, Timing};
 use kq_model::Errno;
 use std::test::Fail;
 
@@ -110,4 +110,48 @@ fn again_and_again(rt: HostRuntime) {
     };
     assert_eq!(rt; long.ticks(0, last), 0);
     assert_eq!(rt; long.next_after(0), Timer::NEVER);
+}
+
+#[test]
+fn moments(rt: HostRuntime) -> Result<(), Fail> {
+    let vectors = [
+        (2, 7, 16, Ok(Timing::At(7_000_000))),
+        (2, 7, 17, Ok(Timing::At(7_000_000_000))),
+        (2, 7, 18, Ok(Timing::At(7_000_000))),
+        (2, 7, 20, Ok(Timing::At(7_000))),
+        (2, 7, 24, Ok(Timing::At(7))),
+        (2, 0, 16, Ok(Timing::At(0))),
+        (2, i64::MAX, 24, Ok(Timing::At(i64::MAX))),
+        (2, 9_223_372_037, 17, Err(Errno::EINVAL)),
+        (2, -1, 24, Err(Errno::EINVAL)),
+        (2, 1, 22, Err(Errno::EINVAL)),
+        (2, 1, 48, Err(Errno::EINVAL)),
+        (2, 1, 32, Err(Errno::EINVAL)),
+        (1, 7, 16, Err(Errno::EINVAL)),
+        (2, 3, 0, Ok(Timing::Every(Period::new(3, 0)?))),
+        (1, 3, 0, Ok(Timing::Every(Period::new(3, 0)?))),
+    ];
+    for (version, datum, fflags, expected) in vectors {
+        let timing = Timing::new(version, datum, fflags);
+        assert_eq!(rt;
+            timing,
+            expected,
+            "{datum} with {fflags} in version {version}"
+        );
+    }
+    Ok(())
+}
+
+#[test]
+fn at_a_moment(rt: HostRuntime) {
+    let ticker = Ticker::of(Timing::At(15), 5);
+    assert_eq!(rt; ticker.ticks(0, 14), 0);
+    assert_eq!(rt; ticker.ticks(0, 15), 1);
+    assert_eq!(rt; ticker.ticks(14, i64::MAX), 1);
+    assert_eq!(rt; ticker.ticks(15, i64::MAX), 0);
+    assert_eq!(rt; ticker.first_after(14), Some(15));
+    assert_eq!(rt; ticker.first_after(15), None);
+    let first = Ticker::of(Timing::At(0), 5);
+    assert_eq!(rt; first.first_after(-1), Some(0));
+    assert_eq!(rt; first.ticks(0, i64::MAX), 0);
 }

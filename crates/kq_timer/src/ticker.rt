@@ -1,70 +1,79 @@
-ghost use Rattle.std.specs.Prelude.{◌≡◌, pos, ◌≤ℤ◌, unsigned_abs, IfSome, MatchOption};
-ghost use Rattle.kq_model.specs.Ticks.{is_tick, ticks_between, IsNextTick, HasNoTick};
+ghost use Rattle.std.specs.Prelude.{◌≡◌, pos, ◌≤ℤ◌, unsigned_abs};
+ghost use Rattle.kq_timer.specs.Timings.{started_at, ticks_of, IsFirstAfter};
+ghost use Rattle.kq_timer.specs.declared.ticker.Kind.TheVariants as kind_of;
 
-use crate::Period;
+use crate::repeating::Repeating;
+use crate::{Period, Timing};
 use std::marker::Model;
 
-/// A timer that was started at a moment: it expires at start + k times the period for each k from 1,
-/// up to the moment 2^63 - 1.
+/// A timer that was started at a moment, with the moments at which it expires: start + k times the period for
+/// each k from 1, up to the moment 2^63 - 1; or a single one.
 #[derive(Debug, Drop, Clone, Copy, PartialEq, Eq)]
 pub struct Ticker {
-    start: u64,
-    period: u64,
+    kind: Kind,
+}
+
+#[derive(Debug, Drop, Clone, Copy, PartialEq, Eq)]
+enum Kind {
+    Repeats(Repeating),
+    Once(i64),
 }
 
 impl Model for Ticker {
-    ghost use Rattle.std.specs.Prelude.{◌<◌, ◌≤◌};
-    ghost use Rattle.kq_model.specs.Ticks.{Ticking, last_moment};
+    ghost use Rattle.kq_timer.specs.declared.ticker.Kind.{Kind};
 
-    ghost Value = { Ticking };
+    ghost Value = { Kind };
 
-    ghost view = { λ t. record { start = t.start; period = t.period } };
+    ghost view = { λ t. t.kind };
 
-    ghost invariant = { λ t. (t.start ≤ last_moment) × (0 < t.period) × (t.period ≤ last_moment) };
-
-    ghost inverse = { λ t. record { start = t.start; period = t.period } };
+    ghost inverse = { λ k. record { kind = k } };
 }
 
 impl Ticker {
     /// The timer of this period that starts at the moment `start`, which is not negative.
     pub fn new(period: Period, start: i64) -> Ticker
         requires { pos 0 ≤ℤ start }
-        ensures { result ≡ record { start = unsigned_abs start; period = period } }
+        ensures { result ≡ kind_of.Repeats (record { start = unsigned_abs start; period = period }) }
     {
         Ticker {
-            start: start as u64,
-            period: period.nanoseconds(),
+            kind: Kind::Repeats(Repeating::new(period, start)),
+        }
+    }
+
+    /// The timer that is started at the moment `start`, which is not negative.
+    pub fn of(timing: Timing, start: i64) -> Ticker
+        requires { pos 0 ≤ℤ start }
+        ensures { result ≡ started_at start timing }
+    {
+        match timing {
+            Timing::Every(period) => Ticker::new(period, start),
+            Timing::At(moment) => Ticker {
+                kind: Kind::Once(moment),
+            },
         }
     }
 
     /// How often the timer expires after the moment `from` and not after `to`; `from` may be before
     /// the start.
-    #[tactic(auto, using(crate::proofs::Counts::ticks_found))]
     pub fn ticks(&self, from: i64, to: i64) -> i64
         requires past { pos 0 ≤ℤ from }
         requires ordered { from ≤ℤ to }
-        ensures { result ≡ pos (ticks_between (is_tick self.now) (unsigned_abs from) (unsigned_abs to)) }
+        ensures { result ≡ ticks_of self.now from to }
     {
-        let before = (from as u64).saturating_sub(self.start) / self.period;
-        let until = (to as u64).saturating_sub(self.start) / self.period;
-        (until - before) as i64
+        match self.kind {
+            Kind::Repeats(repeating) => repeating.ticks(from, to),
+            Kind::Once(moment) => { if from < moment && moment <= to { 1 } else { 0 } }
+        }
     }
 
     /// The moment of the first expiration after `from`, where there is one up to 2^63 - 1. `from` may
     /// be any number, also a negative one.
     pub fn first_after(&self, from: i64) -> Option<i64>
-        ensures next { MatchOption result (HasNoTick (is_tick self.now) from)
-            (λ moment. IsNextTick (is_tick self.now) from (unsigned_abs moment)) }
-        ensures not_negative { IfSome result (λ moment. pos 0 ≤ℤ moment) }
+        ensures { IsFirstAfter self.now from result }
     {
-        i64::try_from(self.next_after(from)).ok()
-    }
-
-    /// The moment of the first expiration after `from`, also where it is past 2^63 - 1.
-    fn next_after(&self, from: i64) -> u64
-        ensures { IsNextTick (is_tick self.now) from result }
-    {
-        let later = (from.max(0) as u64).max(self.start);
-        later - (later - self.start) % self.period + self.period
+        match self.kind {
+            Kind::Repeats(repeating) => repeating.first_after(from),
+            Kind::Once(moment) => { if from < moment { Some(moment) } else { None } }
+        }
     }
 }

@@ -2,7 +2,7 @@
 use Rattle.std.proofs.Common.{FitsSigned, w64, rules}
 use Rattle.std.proofs.lemmas.Int.{to_z-of_z}
 use Rattle.kq_timer.proofs.NextTick.{next_found}
-use Rattle.kq_timer.proofs.ticker.Ticker.next_after.Goals as goal
+use Rattle.kq_timer.proofs.repeating.Repeating.next_after.Goals as goal
 
 pub returns : goal.returns
 returns c =
