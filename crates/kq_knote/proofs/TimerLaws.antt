@@ -1,11 +1,8 @@
 -- A knote as a timer: knotes of other filters never expire, and some expirations at once are as many one by one.
-use Rattle.std.proofs.Common.{◌≡◌, ℕ, zero, suc, ◌+◌, ◌-◌, ◌<◌, ◌≤◌, min, Bool, true, false, cond, ◌&&◌, Option, None, Some, Ok, Err, refl, sym, ap, ap₂, ◌∙◌, arith}
+use Rattle.std.proofs.Common.{◌≡◌, ℕ, zero, suc, ◌+◌, ◌-◌, ◌<◌, ◌≤◌, min, Bool, true, false, cond, ◌&&◌, refl, sym, ap, ap₂, ◌∙◌, arith}
 use Rattle.std.specs.Int.Bits.{or_zero_r}
-use Rattle.std.specs.Option.{ok_or, is_none}
-use Rattle.kq_model.specs.declared.errno.Errno.{Errno}
-use Rattle.kq_model.specs.ChangedKnote.{period_in}
 use Rattle.kq_model.specs.Clock.{expires_at, timers, expired, ticking}
-use Rattle.kq_model.specs.Hearing.{Tally, tallying, most_counted, notes_of}
+use Rattle.kq_model.specs.Hearing.{Expired, Tally, tallying, most_counted, notes_of}
 use Rattle.kq_model.specs.Knote.{is_timer}
 use Rattle.kq_model.specs.Tallied.{Knote}
 use Rattle.kq_model.specs.Ticks.{last_moment, expires, counted, ticks_between, next_tick}
@@ -74,22 +71,10 @@ rings before now after tally times n is counted became many some =
     ∙ ap (λ (k : Knote). with_heard k (min (k.seen.count + times) most_counted) k.seen.notes) is
     ∙ rung-times times now some ∙ ap (λ m. rung_times (timers {h = tallying}) m now) many
 
--- ---- the period that a change names
-
-pub period-named : (o : Option ℕ) (e : Errno) (p : ℕ) → Ok p ≡ ok_or o e → p ≡ period_in o
-unfolding period_in
-period-named None e p is = absurd (cc)
-period-named (Some n) e p is = cc
-
-pub period-unnamed : (o : Option ℕ) (e x : Errno) → Err x ≡ ok_or o e → 0 ≡ period_in o
-unfolding period_in
-period-unnamed None e x is = refl
-period-unnamed (Some n) e x is = absurd (cc)
-
-pub period-some : (o : Option ℕ) (e : Errno) (p : ℕ) → Ok p ≡ ok_or o e → false ≡ is_none o
-period-some None e p is = absurd (cc)
-period-some (Some n) e p is = refl
-
-pub period-none : (o : Option ℕ) (e x : Errno) → Err x ≡ ok_or o e → true ≡ is_none o
-period-none None e x is = refl
-period-none (Some n) e x is = absurd (cc)
+-- one that had come already where the timer was set
+pub expired-once : (t : Tally) (count : ℕ) → count ≡ min (t.count + 1) most_counted → record { count = count; notes = t.notes } ≡ tallying.heard Expired t
+unfolding notes_of
+expired-once t count is = ap₂ with_both is (sym (or_zero_r t.notes))
+  where
+    with_both : ℕ → ℕ → Tally
+    with_both n notes = record { count = n; notes = notes }

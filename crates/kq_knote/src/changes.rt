@@ -1,16 +1,16 @@
 ghost use Rattle.std.specs.Prelude.{◌≡◌, ℕ, ◌/◌};
 ghost use Rattle.kq_model.specs.Bits.{asks};
 ghost use Rattle.kq_model.specs.Caller.{Caller};
-ghost use Rattle.kq_model.specs.ChangedKnote.{always_clears, fresh, begun, replaced, restarted, changed, switched, controlled, key_of, period_in};
+ghost use Rattle.kq_model.specs.ChangedKnote.{always_clears, fresh, begun, replaced, restarted, changed, switched, controlled, key_of, start_in, period_in, has_come, started};
 ghost use Rattle.kq_model.specs.Targets.{target_of};
-ghost use Rattle.kq_model.specs.Ticks.{period_of};
+ghost use Rattle.kq_model.specs.Ticks.{timing_of};
 ghost use Rattle.kq_model.specs.Retrieval.{rested};
 
 use crate::{Knote, Tally};
 use bitflags::Flags;
 use kq_model::notes::{NOTE_FFAND, NOTE_FFLAGSMASK, NOTE_TRIGGER};
 use kq_model::{Change, EvFlags, Filter, Target};
-use kq_timer::Period;
+use kq_timer::Timing;
 
 /// The user's bits after a change, by its control: NOTE_FFNOP 0 leaves them, NOTE_FFAND 1,
 /// NOTE_FFOR 2 and NOTE_FFCOPY 3 do as named.
@@ -57,17 +57,40 @@ fn fresh(change: &Change, target: Option<Target>) -> Knote
         period: 0,
         bits: 0,
         triggered: false,
+        notice: None,
     }
 }
 
-/// The period that a change of a timer names, in nanoseconds; 0 where it names none, as one that is
-/// refused.
-fn named_period(change: &Change) -> u64
-    ensures { result ≡ period_in (period_of change.now.datum change.now.fflags) }
+/// How a timer starts.
+#[derive(Drop)]
+struct Beginning {
+    /// Its start, or its moment, in nanoseconds.
+    start: u64,
+    /// Its period, in nanoseconds; 0 where it has none.
+    period: u64,
+    /// It has expired already.
+    come: bool,
+}
+
+/// How a change starts a timer at the moment `now`, by the rules of this version of the trace format; a change that
+/// does not say what the timer is to do is refused.
+#[tactic(auto, unfolding(kq_model::specs::ChangedKnote::start_in, kq_model::specs::ChangedKnote::period_in, kq_model::specs::ChangedKnote::has_come))]
+fn begin(change: &Change, version: u32, now: u64) -> Beginning
+    ensures start { result.start ≡ start_in now (timing_of version change.now.datum change.now.fflags) }
+    ensures period { result.period ≡ period_in (timing_of version change.now.datum change.now.fflags) }
+    ensures come { result.come ≡ has_come now (timing_of version change.now.datum change.now.fflags) }
 {
-    match Period::new(change.datum, change.fflags) {
-        Ok(period) => period.nanoseconds(),
-        Err(_) => 0,
+    match Timing::new(version, change.datum, change.fflags) {
+        Ok(timing) => Beginning {
+            start: timing.start(now),
+            period: timing.period(),
+            come: timing.has_come(now),
+        },
+        Err(_) => Beginning {
+            start: now,
+            period: 0,
+            come: false,
+        },
     }
 }
 
@@ -75,19 +98,15 @@ impl Knote {
     /// The knote that a first ADD makes, before it is looked at: with the change's actions, and
     /// enabled unless the change says DISABLE. A timer starts at the moment `now`; of a user event the
     /// low 24 bits are stored, whatever the control bits. `target` is what the change names.
-    #[tactic(auto, unfolding(kq_model::specs::ChangedKnote::begun, kq_model::specs::ChangedKnote::started, kq_model::specs::ChangedKnote::fresh))]
-    pub fn first(change: &Change, target: Option<Target>, now: u64) -> Knote
+    #[tactic(auto, unfolding(kq_model::specs::ChangedKnote::begun, kq_model::specs::ChangedKnote::fresh))]
+    pub fn first(change: &Change, target: Option<Target>, version: u32, now: u64) -> Knote
         ensures { (caller : Caller) → target ≡ target_of caller.views caller.owner change.now.filter change.now.ident
-            → now ≡ caller.views.now
+            → version ≡ caller.version → now ≡ caller.views.now
             → result ≡ begun change.now.filter caller change.now (fresh caller change.now) }
     {
         let knote = fresh(change, target);
         match change.filter {
-            Filter::Timer => Knote {
-                start: now,
-                period: named_period(change),
-                ..knote
-            },
+            Filter::Timer => knote.started(change, version, now),
             Filter::User => Knote {
                 bits: change.fflags & NOTE_FFLAGSMASK,
                 triggered: change.fflags & NOTE_TRIGGER == NOTE_TRIGGER,
@@ -97,18 +116,35 @@ impl Knote {
         }
     }
 
+    /// As a timer that starts at the moment `now`; one whose moment is not later has expired already.
+    #[tactic(auto, unfolding(kq_model::specs::ChangedKnote::started))]
+    fn started(self, change: &Change, version: u32, now: u64) -> Knote
+        ensures { (caller : Caller) → version ≡ caller.version → now ≡ caller.views.now
+            → result ≡ started caller change.now self }
+    {
+        let begins = begin(change, version, now);
+        Knote {
+            start: begins.start,
+            period: begins.period,
+            tally: self.tally.expired_if(begins.come),
+            ..self
+        }
+    }
+
     /// With ADD a timer starts anew at the moment `now`: what it heard is forgotten, and it is not
     /// active.
-    #[tactic(auto, unfolding(kq_model::specs::ChangedKnote::restarted, kq_model::specs::ChangedKnote::started))]
-    pub fn restart(&mut self, change: &Change, now: u64)
-        ensures { (caller : Caller) → now ≡ caller.views.now
+    #[tactic(auto, unfolding(kq_model::specs::ChangedKnote::restarted))]
+    pub fn restart(&mut self, change: &Change, version: u32, now: u64)
+        ensures { (caller : Caller) → version ≡ caller.version → now ≡ caller.views.now
             → self.new ≡ restarted change.now.filter caller change.now self.old }
     {
         if change.filter == Filter::Timer && change.flags.contains(EvFlags::ADD) {
-            self.start = now;
-            self.period = named_period(change);
-            self.tally = Tally::empty();
-            self.active = false;
+            let anew = Knote {
+                tally: Tally::empty(),
+                active: false,
+                ..*self
+            };
+            *self = anew.started(change, version, now);
         }
     }
 

@@ -1,4 +1,5 @@
 ghost use Rattle.std.specs.Prelude.{◌≡◌, Some};
+ghost use Rattle.kq_model.specs.Knote.{has_nothing};
 ghost use Rattle.kq_model.specs.Kqueue.{is_waiting};
 
 use crate::Tally;
@@ -28,6 +29,8 @@ pub struct Knote {
     pub fflags: u32,
     /// Of a user event, its low 24 bits.
     pub bits: u32,
+    /// Of a process that is followed from its parent: that one's pid, until this was told.
+    pub notice: Option<u32>,
     /// Of a user event: triggered since it was reset.
     pub triggered: bool,
     /// Deleted when it is retrieved.
@@ -63,6 +66,7 @@ impl Model for Knote {
       period = k.period;
       bits = k.bits;
       triggered = k.triggered;
+      notice = k.notice;
     } };
 
     ghost inverse = { λ k. record {
@@ -81,6 +85,7 @@ impl Model for Knote {
       period = k.period;
       bits = k.bits;
       triggered = k.triggered;
+      notice = k.notice;
     } };
 }
 
@@ -96,6 +101,13 @@ impl Keyed for Knote {
 }
 
 impl Knote {
+    /// Whether it has nothing to tell: it has no notice, and heard nothing.
+    pub fn has_nothing(&self) -> bool
+        ensures { result ≡ has_nothing self.now }
+    {
+        self.notice.is_none() && self.tally.is_empty()
+    }
+
     /// Whether it stands in the queue: active and enabled.
     #[tactic(auto, unfolding(kq_model::specs::Kqueue::is_waiting))]
     pub fn is_waiting(&self) -> bool

@@ -1,5 +1,5 @@
-ghost use Rattle.std.specs.Prelude.{◌≡◌, ◌+◌, min};
-ghost use Rattle.kq_model.specs.Hearing.{Told, most_counted, notes_of, tallying};
+ghost use Rattle.std.specs.Prelude.{◌≡◌, ◌+◌, min, if◌then◌else◌};
+ghost use Rattle.kq_model.specs.Hearing.{Expired, Told, most_counted, notes_of, tallying};
 
 use kq_model::Hint;
 use std::marker::Model;
@@ -49,6 +49,20 @@ impl Tally {
         ensures { self.new ≡ record { count = min (self.old.count + times) most_counted; notes = self.old.notes } }
     {
         self.count = self.count.saturating_add(times).min(MOST_COUNTED);
+    }
+
+    /// One expiration more, where there was one.
+    #[tactic(auto, unfolding(kq_model::specs::Hearing::notes_of))]
+    pub fn expired_if(self, come: bool) -> Self
+        ensures { result ≡ (if come then tallying.heard Expired self else self) }
+    {
+        if !come {
+            return self;
+        }
+        Tally {
+            count: self.count.saturating_add(1).min(MOST_COUNTED),
+            notes: self.notes,
+        }
     }
 
     /// Whether nothing was heard.
