@@ -1,19 +1,43 @@
 ghost use Rattle.std.specs.Prelude.{◌≡◌, option_and_then};
-ghost use Rattle.kq_model.specs.Look.{look, look_user};
+ghost use Rattle.kq_model.specs.Look.{look, look_by, look_user, notice_or};
 ghost use Rattle.kq_model.specs.Views as world;
 
 use crate::Seen;
 use crate::level::{look_read, look_write};
 use crate::told::{count_seen, notes_seen, process_seen, status_of};
 use kq_knote::Knote;
+use kq_model::notes::NOTE_CHILD;
 use kq_model::{Filter, View};
 
 /// A filter's look at its target, whose view is given: what the event is to say, or none where the
 /// filter's condition does not hold.
-#[tactic(auto, unfolding(kq_model::specs::Look::look, kq_model::specs::Look::look_by))]
+#[tactic(auto, unfolding(kq_model::specs::Look::look))]
 pub fn look(knote: &Knote, view: Option<View>) -> Option<Seen>
     ensures { (views : world.Views) → view ≡ option_and_then views.view knote.now.target
         → result ≡ look views knote.now }
+{
+    notice_or(knote.notice, look_by(knote, view))
+}
+
+/// A knote that has a notice sees this alone.
+#[tactic(auto, unfolding(kq_model::specs::Look::notice_or))]
+pub fn notice_or(notice: Option<u32>, seen: Option<Seen>) -> Option<Seen>
+    ensures { result ≡ notice_or notice seen }
+{
+    match notice {
+        None => seen,
+        Some(parent) => Some(Seen {
+            fflags: NOTE_CHILD,
+            datum: i64::from(parent),
+            eof: false,
+        }),
+    }
+}
+
+/// What a knote sees of its target, by its filter.
+#[tactic(auto, unfolding(kq_model::specs::Look::look_by))]
+fn look_by(knote: &Knote, view: Option<View>) -> Option<Seen>
+    ensures { result ≡ look_by knote.now.key.filter view knote.now }
 {
     match knote.key.filter {
         Filter::Read => look_read(knote, view),

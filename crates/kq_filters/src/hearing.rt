@@ -36,6 +36,7 @@ fn kept(wanted: u32, hint: Hint) -> Option<Hint>
     match hint {
         Hint::Note(bits) if bits & wanted == 0 => None,
         Hint::Note(bits) => Some(Hint::Note(bits & wanted)),
+        Hint::Child(_) => None,
         other => Some(other),
     }
 }
@@ -83,7 +84,7 @@ pub fn hear(knote: &mut Knote, hint: Hint) -> Heard
     let oneshot = knote.oneshot || exits;
     take(knote, hint);
     knote.oneshot = oneshot;
-    if exits && knote.tally.is_empty() {
+    if exits && knote.has_nothing() {
         Heard::Drop
     } else {
         Heard::Kept

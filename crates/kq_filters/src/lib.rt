@@ -10,7 +10,7 @@ mod seen;
 mod told;
 mod views;
 
-pub use filter::{look, look_user};
+pub use filter::{look, look_user, notice_or};
 pub use hearing::{Heard, hear, takes};
 pub use nothing::NothingThere;
 pub use seen::Seen;
