@@ -10,7 +10,7 @@ use Rattle.kq_model.specs.Descriptors.{Descriptor, with_descriptor, with_descrip
 use Rattle.kq_model.specs.DescriptorPlans.{plan_close, plan_dup, duplicated, on_descriptor, on_named, closes, close_doings, close_hints}
 use Rattle.kq_model.specs.Holding.{hold, release, hold_doings, release_doings, release_hint, release_all, release_hints, option_list, all_held, all_released}
 use Rattle.kq_model.specs.Objects.{Objects, counted, all_done}
-use Rattle.kq_model.specs.ProcessPlans.{plan_fork, plan_exit, inherited, descriptors_of, pairs_of, names_of, hold_all, noted}
+use Rattle.kq_model.specs.ProcessPlans.{plan_fork, plan_exit, inherited, descriptors_of, pairs_of, names_of, forked, hold_all, noted}
 use Rattle.kq_model.specs.Processes.{Process, was_used, is_live, process_of, ignored_by, with_process, without_process, with_disposition}
 use Rattle.kq_model.specs.World.{World, Plan, Planned, Possible, idle, named_by, carried_out, with_kqueue, clock_after}
 use Rattle.kq_model.proofs.ReleasedAll.{release-counted, release_all-done, all_done-append}
@@ -38,7 +38,7 @@ module _ (w : World counted) where
   fork_done pid child = record idle {
     opened = inherited pid child w.table;
     doings = hold_all (names_of (inherited pid child w.table));
-    hints = noted pid fork_note ∷ [];
+    hints = forked pid child;
     started = Some (record { pid = child; ignores = ignored_by (process_of pid w.processes) });
   }
 

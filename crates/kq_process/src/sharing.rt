@@ -2,7 +2,7 @@
 ghost use Rattle.std.specs.Prelude.{◌≡◌, ◌∷◌, [], ℕ, IfOk, OnOk, OnErr, None, Some, true, false, ◌==◌};
 ghost use Rattle.kq_model.specs.DescriptorPlans.{plan_close, plan_dup};
 ghost use Rattle.kq_model.specs.Holding.{IsNamed};
-ghost use Rattle.kq_model.specs.ProcessPlans.{plan_fork, plan_exit, names_of};
+ghost use Rattle.kq_model.specs.ProcessPlans.{forked, plan_fork, plan_exit, names_of};
 ghost use Rattle.kq_model.specs.Processes.{is_live};
 ghost use Rattle.kq_model.specs.World.{named_by, Possible};
 
@@ -11,11 +11,35 @@ use crate::effect::Effect;
 use crate::world::World;
 use kq_model::notes::{NOTE_EXIT, NOTE_FORK};
 use kq_model::{Hint, Memory, Named, Target, Why};
+use std::alloc::Global;
+
+/// What a fork tells: that it happened, and then the child.
+fn forked(alloc: Global, pid: u32, child: u32) -> Result<Vec<(Target, Hint)>, Memory>
+    ensures { IfOk result (λ hints. hints.items ≡ forked pid child) }
+{
+    let mut hints = Vec::with_capacity(alloc, 2).map_err(|_| Memory)?;
+    hints
+        .push((Target::Process(pid), Hint::Note(NOTE_FORK)))
+        .map_err(|_| Memory)?;
+    hints
+        .push((Target::Process(pid), Hint::Child(child)))
+        .map_err(|_| Memory)?;
+    Ok(hints)
+}
 
 impl World {
     ghost use Rattle.kq_process.specs.Effects.{IsDone, IsPossible, world_after};
     ghost use Rattle.kq_process.specs.Processes.{descriptor_in, AreOnce};
     ghost use Rattle.kq_process.specs.World.{world_of, IsEffectBy, IsNext, sharing};
+
+    /// Whether a fork of this child is possible: the process is live, and the child's pid was not used.
+    #[tactic(auto, unfolding(kq_model::specs::ProcessPlans::plan_fork))]
+    pub fn can_fork(&self, pid: u32, child: u32) -> bool
+        ensures forks { IsPossible (plan_fork pid child (world_of self.now)) → result ≡ true }
+        ensures possible { result ≡ true → IsPossible (plan_fork pid child (world_of self.now)) }
+    {
+        self.processes.is_live(pid) && !self.processes.was_used(child)
+    }
 
     /// A child starts, with copies of its parent's descriptors and ignored signals, but no kqueues
     /// (fork(2)). NoProcess; UsedPid: the child's pid was used before.
@@ -33,7 +57,7 @@ impl World {
         if self.processes.was_used(child) {
             return Ok(Effect::impossible(alloc, Why::UsedPid));
         }
-        let effect = Effect::told(alloc, Target::Process(pid), Hint::Note(NOTE_FORK))?;
+        let hints = forked(alloc, pid, child)?;
         let most = self.processes.descriptors(pid).len() as u64;
         let Some(_) = self.descriptors.checked_add(most) else {
             return Err(Memory);
@@ -42,7 +66,7 @@ impl World {
         let copies = self.processes.descriptors(child);
         hold_each(&mut self.objects, copies);
         self.descriptors += copies.len() as u64;
-        Ok(effect)
+        Ok(Effect::telling(alloc, hints))
     }
 
     /// A process exits: all its descriptors are closed, in rising order (exit(3)). NoProcess.

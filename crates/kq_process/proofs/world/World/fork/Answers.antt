@@ -60,7 +60,7 @@ pub returns-clause-effect : goal.returns-clause-effect
 returns-clause-effect c =
     rw (fork_plan (world_of c.args.self.now) c.args.pid c.args.child (sym c.is_live.ensures ∙ c.if-not-is_live.false)
     (sym c.was_used.ensures ∙ c.if-was_used.false))
-    (c.in_ok-effect.ensures _ refl refl)
+    (c.telling.ensures _ refl (sym c.in_ok-hints.ensures))
 
 pub returns-clause-world : goal.returns-clause-world
 returns-clause-world c place =
