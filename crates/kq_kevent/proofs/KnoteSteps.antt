@@ -35,7 +35,7 @@ restarted-active : (f : Filter) (caller : Caller) (c : Change) (k : Knote) → i
     → (restarted f caller c k).active ≡ k.active
 unfolding restarted started is_timer
 restarted-active Timer caller c k same =
-    ap (λ b. (cond b (record (started caller c k) { seen = tallying.empty; active = false }) k).active) same
+    ap (λ b. (cond b (started caller c (record k { seen = tallying.empty; active = false })) k).active) same
 restarted-active Read caller c k same = refl
 restarted-active Write caller c k same = refl
 restarted-active Vnode caller c k same = refl

@@ -5,6 +5,7 @@ pub mod KnoteSteps
 pub mod SoundLaws
 pub mod RegisterLaws
 pub mod TurnSound
+pub mod ForkRoom
 pub mod TurnLaws
 pub mod CallLaws
 pub mod TakenLaws

@@ -11,7 +11,7 @@ use Rattle.kq_model.specs.CallLaws.{Each, key_of_event, AreInOrder, IsDue, IsLas
 use Rattle.kq_model.specs.Knote.{key_eq, has_key, find_knote, with_knote, without_knote}
 use Rattle.kq_model.specs.Kqueue.{AreOnce, IsSound}
 use Rattle.kq_model.specs.Look.{Seen, look}
-use Rattle.kq_model.specs.Retrieval.{event_flags, event_of, rested, knotes_after, with_idle, with_delivered, turned_at_look, turned_at, turned, delivered, after_turn, retrieve, retrieval}
+use Rattle.kq_model.specs.Retrieval.{event_flags, event_of, rested, knotes_after, with_idle, without_notice, with_notice_told, settled, with_delivered, turned_at_look, turned_at, turned, delivered, after_turn, retrieve, retrieval}
 use Rattle.kq_model.specs.Views.{Views}
 use Rattle.kq_model.specs.Tallied.{Knote, Kqueue, Retrieved, Turned}
 use Rattle.kq_model.proofs.KeyLaws.{same_key, key_eq-refl, key_eq-sym}
@@ -126,17 +126,48 @@ knotes_after-oneshot k ks once =
     (cond o (without_knote k.key ks) (cond (k.clear || k.dispatch) (with_knote (rested k) ks) ks))) once
     ∙ find_knote-without_same k.key ks
 
-none_looked : (key : Key) (k : Knote) (kq : Kqueue) (seen : Option Seen) → find_knote key kq.knotes ≡ None
-    → find_knote key (turned_at_look k kq seen).kq.knotes ≡ None
+-- the same of a knote that was settled, with a notice or without
+told-other : (key : Key) (k : Knote) (kq : Kqueue) (seen : Option Seen) → key_eq k.key key ≡ false
+    → find_knote key (with_notice_told k kq seen).knotes ≡ find_knote key kq.knotes
+unfolding with_notice_told
+told-other key k kq None apart = find_knote-with_other key (record k { active = false }) kq.knotes apart
+told-other key k kq (Some seen) apart = find_knote-with_other key k kq.knotes apart
+
+settled-other : (views : Views) (key : Key) (k : Knote) (kq : Kqueue) (notice : Option ℕ) → key_eq k.key key ≡ false
+    → find_knote key (settled views k kq notice).knotes ≡ find_knote key kq.knotes
+unfolding settled
+settled-other views key k kq None apart = knotes_after-other key k kq.knotes apart
+settled-other views key k kq (Some parent) apart = told-other key (without_notice k) kq (look views (without_notice k)) apart
+
+told-none : (key : Key) (k : Knote) (kq : Kqueue) (seen : Option Seen) → find_knote key kq.knotes ≡ None
+    → find_knote key (with_notice_told k kq seen).knotes ≡ None
+unfolding with_notice_told
+told-none key k kq None none = find_knote-with_none key (record k { active = false }) kq.knotes none
+told-none key k kq (Some seen) none = find_knote-with_none key k kq.knotes none
+
+settled-none : (views : Views) (key : Key) (k : Knote) (kq : Kqueue) (notice : Option ℕ) → find_knote key kq.knotes ≡ None
+    → find_knote key (settled views k kq notice).knotes ≡ None
+unfolding settled
+settled-none views key k kq None none = knotes_after-none key k kq.knotes none
+settled-none views key k kq (Some parent) none = told-none key (without_notice k) kq (look views (without_notice k)) none
+
+settled-oneshot : (views : Views) (k : Knote) (kq : Kqueue) (notice : Option ℕ) → notice ≡ None → k.oneshot ≡ true
+    → find_knote k.key (settled views k kq notice).knotes ≡ None
+unfolding settled
+settled-oneshot views k kq None is once = knotes_after-oneshot k kq.knotes once
+settled-oneshot views k kq (Some parent) is once = absurd (none-some parent (sym is))
+
+none_looked : (views : Views) (key : Key) (k : Knote) (kq : Kqueue) (seen : Option Seen) → find_knote key kq.knotes ≡ None
+    → find_knote key (turned_at_look views k kq seen).kq.knotes ≡ None
 unfolding turned_at_look
-none_looked key k kq None none = find_knote-with_none key (record k { active = false }) kq.knotes none
-none_looked key k kq (Some seen) none = knotes_after-none key k kq.knotes none
+none_looked views key k kq None none = find_knote-with_none key (record k { active = false }) kq.knotes none
+none_looked views key k kq (Some seen) none = settled-none views key k kq k.notice none
 
 none_turned : (views : Views) (key : Key) (kq : Kqueue) (f : Option Knote) → find_knote key kq.knotes ≡ None
     → find_knote key (turned_at views kq f).kq.knotes ≡ None
 unfolding turned_at
 none_turned views key kq None none = none
-none_turned views key kq (Some k) none = none_looked key k kq (look views k) none
+none_turned views key kq (Some k) none = none_looked views key k kq (look views k) none
 
 turn-none : (views : Views) (key front : Key) (kq : Kqueue) → find_knote key kq.knotes ≡ None
     → find_knote key (turned views front kq).kq.knotes ≡ None
@@ -170,7 +201,7 @@ record IsRun (views : Views) (first : List Knote) (keys : List Key) (room : ℕ)
   in_order : AreInOrder (map key_of_event r.events) keys
   within : length r.events ≤ room
   due : Each (IsDue views first) r.events
-  oneshot_gone : Each (IsLastOfOneshot r.kq.knotes) r.events
+  oneshot_gone : Each (IsLastOfOneshot first r.kq.knotes) r.events
   no_error : Each (λ e. asks e.flags error ≡ false) r.events
   complete : length r.events < room → (key : Key) → has_key key keys ≡ true
       → (has_key key (map key_of_event r.events) ≡ true) ⊎ IsIdle views first key
@@ -197,7 +228,7 @@ run_skips views first key keys room r run idle = record {
 
 run_delivers : (views : Views) (first : List Knote) (key : Key) (keys : List Key) (room : ℕ) (r : Retrieved)
     (k : Knote) (seen : Seen) → key ≡ k.key → find_knote key first ≡ Some k → look views k ≡ Some seen
-    → (k.oneshot ≡ true → find_knote k.key r.kq.knotes ≡ None) → IsRun views first keys room r
+    → (k.notice ≡ None → k.oneshot ≡ true → find_knote k.key r.kq.knotes ≡ None) → IsRun views first keys room r
     → IsRun views first (key ∷ keys) (suc room) (delivered (event_of k seen) r)
 unfolding delivered
 run_delivers views first key keys room r k seen at here holds gone run =
@@ -217,8 +248,9 @@ run_delivers views first key keys room r k seen at here holds gone run =
         run.due,
       );
       oneshot_gone = (
-        λ once. ap (λ o. find_knote o r.kq.knotes) (event-key k seen)
-            ∙ gone (sym (event-oneshot k seen) ∙ once),
+        λ other found none once. ap (λ o. find_knote o r.kq.knotes) (event-key k seen)
+            ∙ gone (ap (λ (n : Knote). n.notice) (same_Some k other (sym here ∙ ap (λ o. find_knote o first) (sym of_key) ∙ found)) ∙ none)
+            (sym (event-oneshot k seen) ∙ once),
         run.oneshot_gone,
       );
       no_error = (event-error k seen, run.no_error);
@@ -259,7 +291,7 @@ following views keys room t = after_turn (retrieve views keys) room t.kq t.event
 run_look : (views : Views) (first : List Knote) (key : Key) (keys : List Key) → has_key key keys ≡ false
     → Later views first keys → (room : ℕ) (kq : Kqueue) → Agree (key ∷ keys) kq.knotes first → (k : Knote)
     → find_knote key kq.knotes ≡ Some k → (seen : Option Seen) → look views k ≡ seen → IsRun views first (key ∷ keys)
-    (suc room) (following views keys room (turned_at_look k kq seen))
+    (suc room) (following views keys room (turned_at_look views k kq seen))
 unfolding turned_at_look after_turn
 run_look views first key keys absent later room kq agree k here None nothing =
     let at = find_knote-key key kq.knotes k here in
@@ -273,12 +305,13 @@ run_look views first key keys absent later room kq agree k here None nothing =
     ∙ here)) ∙ nothing)
 run_look views first key keys absent later room kq agree k here (Some seen) sees =
     let at = find_knote-key key kq.knotes k here in
-    run_delivers views first key keys room (retrieve views keys room (with_delivered k kq)) k seen at
+    let left = with_delivered views k kq in
+    run_delivers views first key keys room (retrieve views keys room left) k seen at
     (sym (agree key (or_left (key_eq key key) (has_key key keys) (key_eq-refl key))) ∙ here) sees
-    (λ once. retrieve-none views k.key keys room (with_delivered k kq) (knotes_after-oneshot k kq.knotes once))
-    (later room (with_delivered k kq)
-    (agree_still key keys kq.knotes (knotes_after k kq.knotes) first absent agree
-    (λ other apart. knotes_after-other other k kq.knotes (ap (λ o. key_eq o other) (sym at) ∙ apart))))
+    (λ none once. retrieve-none views k.key keys room left (settled-oneshot views k kq k.notice none once))
+    (later room left
+    (agree_still key keys kq.knotes left.knotes first absent agree
+    (λ other apart. settled-other views other k kq k.notice (ap (λ o. key_eq o other) (sym at) ∙ apart))))
 
 run_front : (views : Views) (first : List Knote) (key : Key) (keys : List Key) → has_key key keys ≡ false
     → Later views first keys → (room : ℕ) (kq : Kqueue) → Agree (key ∷ keys) kq.knotes first → (f : Option Knote)

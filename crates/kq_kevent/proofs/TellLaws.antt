@@ -8,7 +8,7 @@ use Rattle.kq_model.specs.declared.object.Target.{Target}
 use Rattle.kq_model.specs.ChangedKnote.{activated}
 use Rattle.kq_model.specs.Hearing.{tallying}
 use Rattle.kq_model.specs.Hints.{takes, kept, added, after_hint, is_done, hints_for}
-use Rattle.kq_model.specs.Knote.{find_knote, with_knote}
+use Rattle.kq_model.specs.Knote.{has_nothing, find_knote, with_knote}
 use Rattle.kq_model.specs.Look.{Seen, look}
 use Rattle.kq_model.specs.Noticing.{is_for, heard_along, is_done_along, left_by, with_noticed, noticed_in}
 use Rattle.kq_model.specs.Registration.{queue_for, with_removed}
@@ -149,13 +149,13 @@ looked-stands seen k next ks is stands = record {
 
 -- ---- gone, or back in its place
 
-pub leave-gone : (views : Views) (done : Bool) (told : Knote) (kq : Kqueue) → done ≡ true → tallying.is_empty told.seen ≡ true
+pub leave-gone : (views : Views) (done : Bool) (told : Knote) (kq : Kqueue) → done ≡ true → has_nothing told ≡ true
     → with_removed told.key kq ≡ with_noticed told (left_by views done told) kq
 unfolding with_noticed
 leave-gone views done told kq is empty =
     ap₂ (λ a b. with_noticed told (cond (a && b) None (Some (activated (look views told) told))) kq) (sym is) (sym empty)
 
-pub leave-stays : (views : Views) (done : Bool) (told next : Knote) (kq : Kqueue) → done && tallying.is_empty told.seen ≡ false
+pub leave-stays : (views : Views) (done : Bool) (told next : Knote) (kq : Kqueue) → done && has_nothing told ≡ false
     → next ≡ activated (look views told) told
     → kqueue_of (with_knote next kq.knotes) (queue_for next kq.queue) ≡ with_noticed told (left_by views done told) kq
 unfolding with_noticed

@@ -1,14 +1,15 @@
 -- The turns make up the retrieval.
-use Rattle.std.proofs.Common.{◌≡◌, ℕ, suc, ◌+◌, ◌-◌, ◌≤◌, Bool, cond, List, [], ◌∷◌, ◌++◌, length, take, drop, Option, Some, None, refl, sym, ap, ◌∙◌, subst, arith}
+use Rattle.std.proofs.Common.{◌≡◌, ℕ, suc, ◌+◌, ◌-◌, ◌≤◌, Bool, false, cond, List, [], ◌∷◌, ◌++◌, length, take, drop, Option, Some, None, refl, sym, ap, ◌∙◌, subst, arith}
 use Rattle.std.proofs.lemmas.List.{append_assoc, take_all, drop_all, take-append-drop, take-append-le, drop-append-le, append-nil, length_push}
 use Rattle.kq_model.specs.declared.kevent.Kevent.{Kevent}
 use Rattle.kq_model.specs.declared.key.Key.{Key}
 use Rattle.kq_model.specs.Knote.{find_knote}
 use Rattle.kq_model.specs.Look.{Seen, look}
-use Rattle.kq_model.specs.Retrieval.{event_of, stays, back_after, with_idle, with_delivered, turned_at_look, turned_at, turned, delivered, after_turn, retrieve, retrieval}
+use Rattle.kq_model.specs.Retrieval.{event_of, stays, back_after, with_idle, without_notice, with_notice_told, settled, with_delivered, turned_at_look, turned_at, turned, delivered, after_turn, retrieve, retrieval}
 use Rattle.kq_model.specs.Tallied.{Knote, Kqueue, Retrieved, Turned}
 use Rattle.kq_model.specs.Views.{Views}
 use Rattle.kq_model.proofs.KnoteLaws.{by_test}
+use Rattle.kq_knote.proofs.CountLaws.{length-with_knote}
 
 -- ---- the cases of a turn
 
@@ -17,20 +18,26 @@ abbrev pub kqueue_of : List Knote → List Key → Kqueue
 kqueue_of ks q = record { knotes = ks; queue = q }
 
 turned-found : (views : Views) (key : Key) (kq : Kqueue) (k : Knote) → find_knote key kq.knotes ≡ Some k
-    → turned views key kq ≡ turned_at_look k kq (look views k)
+    → turned views key kq ≡ turned_at_look views k kq (look views k)
 unfolding turned turned_at
 turned-found views key kq k here = ap (turned_at views kq) here
 
 pub turned-idle : (views : Views) (key : Key) (kq : Kqueue) (k : Knote) → find_knote key kq.knotes ≡ Some k
     → look views k ≡ None → turned views key kq ≡ record { kq = with_idle k kq; event = None }
 unfolding turned_at_look
-turned-idle views key kq k here nothing = turned-found views key kq k here ∙ ap (turned_at_look k kq) nothing
+turned-idle views key kq k here nothing = turned-found views key kq k here ∙ ap (turned_at_look views k kq) nothing
 
 pub turned-delivered : (views : Views) (key : Key) (kq : Kqueue) (k : Knote) (seen : Seen)
     → find_knote key kq.knotes ≡ Some k → look views k ≡ Some seen → turned views key kq ≡ record
-    { kq = with_delivered k kq; event = Some (event_of k seen) }
+    { kq = with_delivered views k kq; event = Some (event_of k seen) }
 unfolding turned_at_look
-turned-delivered views key kq k seen here there = turned-found views key kq k here ∙ ap (turned_at_look k kq) there
+turned-delivered views key kq k seen here there = turned-found views key kq k here ∙ ap (turned_at_look views k kq) there
+
+-- none comes and none goes where a notice was told
+pub length-with_told : (k : Knote) (kq : Kqueue) (seen : Option Seen) → length (with_notice_told k kq seen).knotes ≡ length kq.knotes
+unfolding with_notice_told
+length-with_told k kq None = length-with_knote (record k { active = false }) kq.knotes
+length-with_told k kq (Some seen) = length-with_knote k kq.knotes
 
 -- ---- what is behind in the queue is as before, and a turn adds to its end
 
@@ -62,25 +69,49 @@ record AreAlike (n : ℕ) (rest : List Key) (whole part : Turned) : Type 0 where
   back : drop n whole.kq.queue ≡ part.kq.queue
   longer : length rest ≤ length whole.kq.queue
 
-alike_at_look : (n : ℕ) (ks : List Knote) (rest : List Key) (k : Knote) (seen : Option Seen) → n ≤ length rest
-    → AreAlike n rest (turned_at_look k (kqueue_of ks rest) seen) (turned_at_look k (kqueue_of ks (drop n rest)) seen)
-unfolding turned_at_look
-alike_at_look n ks rest k None within =
+abbrev turn_with : Kqueue → Kevent → Turned
+turn_with kq event = record { kq = kq; event = Some event }
+
+alike_told : (n : ℕ) (ks : List Knote) (rest : List Key) (k : Knote) (e : Kevent) (seen : Option Seen) → n ≤ length rest
+    → AreAlike n rest (turn_with (with_notice_told k (kqueue_of ks rest) seen) e) (turn_with (with_notice_told k (kqueue_of ks (drop n rest)) seen) e)
+unfolding with_notice_told
+alike_told n ks rest k e None within =
     record { event = refl; knotes = refl; front = refl; back = refl; longer = omega arith }
-alike_at_look n ks rest k (Some seen) within = record {
+alike_told n ks rest k e (Some seen) within = record {
+  event = refl;
+  knotes = refl;
+  front = take-append-le n rest (k.key ∷ []) within;
+  back = drop-append-le n rest (k.key ∷ []) within;
+  longer = omega (arith, length_push rest k.key);
+}
+
+alike_settled : (views : Views) (n : ℕ) (ks : List Knote) (rest : List Key) (k : Knote) (e : Kevent) (notice : Option ℕ) → n ≤ length rest
+    → AreAlike n rest (turn_with (settled views k (kqueue_of ks rest) notice) e)
+    (turn_with (settled views k (kqueue_of ks (drop n rest)) notice) e)
+unfolding settled
+alike_settled views n ks rest k e None within = record {
   event = refl;
   knotes = refl;
   front = take-back_after k n rest within;
   back = drop-back_after k n rest within;
   longer = length-back_after k rest;
 }
+alike_settled views n ks rest k e (Some parent) within =
+    alike_told n ks rest (without_notice k) e (look views (without_notice k)) within
+
+alike_at_look : (views : Views) (n : ℕ) (ks : List Knote) (rest : List Key) (k : Knote) (seen : Option Seen) → n ≤ length rest
+    → AreAlike n rest (turned_at_look views k (kqueue_of ks rest) seen) (turned_at_look views k (kqueue_of ks (drop n rest)) seen)
+unfolding turned_at_look
+alike_at_look views n ks rest k None within =
+    record { event = refl; knotes = refl; front = refl; back = refl; longer = omega arith }
+alike_at_look views n ks rest k (Some seen) within = alike_settled views n ks rest k (event_of k seen) k.notice within
 
 alike_at : (views : Views) (n : ℕ) (ks : List Knote) (rest : List Key) (f : Option Knote) → n ≤ length rest
     → AreAlike n rest (turned_at views (kqueue_of ks rest) f) (turned_at views (kqueue_of ks (drop n rest)) f)
 unfolding turned_at
 alike_at views n ks rest None within =
     record { event = refl; knotes = refl; front = refl; back = refl; longer = omega arith }
-alike_at views n ks rest (Some k) within = alike_at_look n ks rest k (look views k) within
+alike_at views n ks rest (Some k) within = alike_at_look views n ks rest k (look views k) within
 
 alike : (views : Views) (key : Key) (n : ℕ) (ks : List Knote) (rest : List Key) → n ≤ length rest
     → AreAlike n rest (turned views key (kqueue_of ks rest)) (turned views key (kqueue_of ks (drop n rest)))
@@ -210,10 +241,10 @@ IsTurn-idle views kq next front behind k first here nothing is =
 
 pub IsTurn-delivered : (views : Views) (kq next : Kqueue) (front : Key) (behind : List Key) (k : Knote) (seen : Seen)
     (e : Kevent) → kq.queue ≡ front ∷ behind → find_knote front kq.knotes ≡ Some k → look views k ≡ Some seen
-    → next ≡ with_delivered k (kqueue_of kq.knotes behind) → e ≡ event_of k seen → IsTurn views kq next (Some e)
+    → next ≡ with_delivered views k (kqueue_of kq.knotes behind) → e ≡ event_of k seen → IsTurn views kq next (Some e)
 IsTurn-delivered views kq next front behind k seen e first here there is event =
     IsTurn-of views kq next (Some e) front behind first
-    (ap (λ (after : Kqueue). turn after e) is ∙ ap (λ x. turn (with_delivered k (kqueue_of kq.knotes behind)) x) event
+    (ap (λ (after : Kqueue). turn after e) is ∙ ap (λ x. turn (with_delivered views k (kqueue_of kq.knotes behind)) x) event
     ∙ sym (turned-delivered views front (kqueue_of kq.knotes behind) k seen here there))
   where
     turn : Kqueue → Kevent → Turned

@@ -3,11 +3,14 @@ use Rattle.std.specs.Prelude.{◌≡◌, ℕ, ◌+◌, ◌≤◌, List, length}
 use Rattle.kq_model.specs.declared.key.Key.{Key}
 use Rattle.kq_model.specs.Call.{number_of}
 use Rattle.kq_model.specs.Caller.{Caller}
+use Rattle.kq_model.specs.Following.{followed}
 use Rattle.kq_model.specs.Hearing.{listed}
+use Rattle.kq_model.specs.Hints.{notified}
 use Rattle.kq_model.specs.Kqueue.{IsSound}
 use Rattle.kq_model.specs.Recast.{tallied}
 use Rattle.kq_model.specs.Registration.{Registered}
-use Rattle.kq_model.specs.Tallied.{Kqueue}
+use Rattle.kq_model.specs.Tallied.{Knote, Kqueue}
+use Rattle.kq_model.specs.Targets.{Posted}
 use Rattle.kq_model.specs.Views.{Views}
 use Rattle.kq_knote.specs.Reserved.{Reserved}
 
@@ -26,6 +29,10 @@ pub record OwnedKqueue : Type 0 where
   -- how many knotes more can be registered
   pub room : ℕ
 
+-- the knotes with their queue
+abbrev pub kqueue_of : List Knote → List Key → Kqueue
+kqueue_of knotes queue = record { knotes = knotes; queue = queue }
+
 -- the owner as it calls, where it sees this of the world
 abbrev pub caller : Views → OwnedKqueue → Caller
 caller views kq = record { views = views; owner = kq.owner; version = kq.version }
@@ -37,6 +44,10 @@ IsTalliedRegistration kq error r = (kq ≡ tallied r.kq) × (error ≡ number_of
 -- how many knotes fit, with those that are there
 abbrev pub limit : OwnedKqueue → ℕ
 limit kq = length kq.kq.knotes + kq.room
+
+-- there is room for the knotes of children that are followed
+abbrev pub HasRoomToFollow : Views → List Posted → OwnedKqueue → Type 0
+HasRoomToFollow views hints kq = length (followed kq.version hints (notified views hints kq.kq)).knotes ≤ limit kq
 
 -- The kqueue is sound, and its queue can hold the key of each knote that fits.
 pub record IsLawful (knotes : Reserved) (queue : Keys) : Type 0 where

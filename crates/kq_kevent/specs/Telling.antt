@@ -1,5 +1,6 @@
 -- A knote that is told the hints of a record one after the other, as the code does it.
-use Rattle.std.specs.Prelude.{◌≡◌, true, false, ◌||◌, List, [], ◌∷◌, Some, if◌then◌else◌}
+use Rattle.std.specs.Prelude.{◌≡◌, ℕ, true, false, ◌||◌, List, [], ◌∷◌, Option, Some, None, if◌then◌else◌}
+use Rattle.kq_model.specs.Following.{Fork}
 use Rattle.kq_model.specs.Hints.{after_hint, is_done}
 use Rattle.kq_model.specs.Knote.{find_knote}
 use Rattle.kq_model.specs.Noticing.{is_for}
@@ -23,3 +24,8 @@ pub record StandsFor (knote : Knote) (knotes : List Knote) : Type 0 where
   pub there : find_knote knote.key knotes ≡ Some before
   pub target : before.target ≡ knote.target
   pub active : knote.active ≡ false → before.active ≡ false
+
+-- the fork of which a hint tells, with the parent first
+unfoldable pub fork_told : Option (ℕ × ℕ) → List Fork
+fork_told None = []
+fork_told (Some f) = record { parent = f.0; child = f.1 } ∷ []

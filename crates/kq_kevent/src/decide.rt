@@ -1,4 +1,4 @@
-ghost use Rattle.std.specs.Prelude.{◌≡◌, ℕ};
+ghost use Rattle.std.specs.Prelude.{◌≡◌};
 ghost use Rattle.kq_model.specs.ChangedKnote.{key_of};
 ghost use Rattle.kq_model.specs.Knote.{find_knote};
 ghost use Rattle.kq_model.specs.Registration.{decided, decision};
@@ -28,8 +28,14 @@ pub enum Decision {
 /// Without a knote only ADD does something; with one DELETE removes it. ADD is refused where the
 /// filter refuses it.
 #[tactic(auto, unfolding(kq_model::specs::Registration::decided, kq_model::specs::Registration::unless_refused))]
-fn decided<V: Views>(owner: u32, present: Option<Knote>, change: &Change, views: &V) -> Decision
-    ensures decided { (version : ℕ) → decision_of result
+fn decided<V: Views>(
+    owner: u32,
+    version: u32,
+    present: Option<Knote>,
+    change: &Change,
+    views: &V,
+) -> Decision
+    ensures decided { decision_of result
         ≡ decided (record { views = V.sees views.now; owner = owner; version = version }) present change.now }
     ensures about { IsAbout result present }
 {
@@ -38,7 +44,7 @@ fn decided<V: Views>(owner: u32, present: Option<Knote>, change: &Change, views:
             if !asks(change.flags, EvFlags::ADD) {
                 return Decision::Refuse(Errno::ENOENT);
             }
-            match own_refusal(owner, true, change, views) {
+            match own_refusal(owner, version, true, change, views) {
                 Some(error) => Decision::Refuse(error),
                 None => Decision::Make,
             }
@@ -50,7 +56,7 @@ fn decided<V: Views>(owner: u32, present: Option<Knote>, change: &Change, views:
             if !asks(change.flags, EvFlags::ADD) {
                 return Decision::Modify(knote);
             }
-            match own_refusal(owner, false, change, views) {
+            match own_refusal(owner, version, false, change, views) {
                 Some(refused) => Decision::Refuse(refused),
                 None => Decision::Modify(knote),
             }
@@ -74,6 +80,12 @@ impl Kq {
         if is_unopened(self.owner, change, views) {
             return Decision::Refuse(Errno::EBADF);
         }
-        decided(self.owner, self.knotes.find(change.key()), change, views)
+        decided(
+            self.owner,
+            self.version,
+            self.knotes.find(change.key()),
+            change,
+            views,
+        )
     }
 }

@@ -12,7 +12,7 @@ use std::marker::Model;
 #[derive(Drop)]
 pub struct Kq {
     pub(crate) owner: u32,
-    version: u32,
+    pub(crate) version: u32,
     pub(crate) knotes: Knotes,
     pub(crate) queue: Queue,
 }
@@ -41,9 +41,19 @@ impl Kq {
         ensures version { result.version ≡ 1 }
         ensures room { result.room ≡ 0 }
     {
+        Kq::in_version(alloc, owner, 1)
+    }
+
+    /// An empty kqueue of the process with the pid `owner`, by the rules of this version of the trace format.
+    pub fn in_version(alloc: Global, owner: u32, version: u32) -> Self
+        ensures kq { result.kq ≡ empty_kqueue }
+        ensures owner { result.owner ≡ owner }
+        ensures version { result.version ≡ version }
+        ensures room { result.room ≡ 0 }
+    {
         Kq {
             owner,
-            version: 1,
+            version,
             knotes: Knotes::new(alloc),
             queue: Queue::new(alloc),
         }

@@ -5,7 +5,7 @@ ghost use Rattle.kq_model.specs.ChangedKnote.{attended};
 ghost use Rattle.kq_model.specs.Retrieval.{event_flags, event_of};
 
 use bitflags::Flags;
-use kq_filters::{Seen, Views, look, look_user};
+use kq_filters::{Seen, Views, look, look_user, notice_or};
 use kq_knote::Knote;
 use kq_model::{EvFlags, Filter, Kevent};
 
@@ -22,7 +22,7 @@ pub fn look_in<V: Views>(views: &V, knote: &Knote) -> Option<Seen>
     ensures { result ≡ look (V.sees views.now) knote.now }
 {
     match knote.key.filter {
-        Filter::User => look_user(knote),
+        Filter::User => notice_or(knote.notice, look_user(knote)),
         _ => look_at_target(views, knote),
     }
 }

@@ -1,25 +1,28 @@
-ghost use Rattle.std.specs.Prelude.{◌≡◌, ◌≤◌, [], false};
+ghost use Rattle.std.specs.Prelude.{ℕ, ◌≡◌, ◌<◌, ◌≤◌, [], false, true, length, OnErr, OnOk};
 ghost use Rattle.kq_model.specs.ChangedKnote.{activated};
+ghost use Rattle.kq_model.specs.Following.{all_forks, child_knote, follows, followed, followed_each, forks_of, heir, heir_in, process_key, tracks, with_heir};
 ghost use Rattle.kq_model.specs.Hearing.{listed};
 ghost use Rattle.kq_model.specs.HintLaws.{IsNotified};
 ghost use Rattle.kq_model.specs.Hints.{notified, hints_for};
-ghost use Rattle.kq_model.specs.Kqueue.{HaveOwnKeys, Kqueue};
+ghost use Rattle.kq_model.specs.Kqueue.{HaveOwnKeys, IsSound, Kqueue};
 ghost use Rattle.kq_model.specs.Knote.{find_knote, with_knote};
 ghost use Rattle.kq_model.specs.Look.{look};
 ghost use Rattle.kq_model.specs.Noticing.{is_for, left_by, with_noticed, noticed_at};
 ghost use Rattle.kq_model.specs.Recast as recast;
+ghost use Rattle.kq_model.specs.ProcessPlans.{forked};
 ghost use Rattle.kq_model.specs.Registration.{queue_for};
 ghost use Rattle.kq_model.specs.Views as world;
 ghost use Rattle.kq_model.specs.WatchedNumbers.{LeavesOpen, WatchTheirNumbers};
 ghost use Rattle.kq_knote.specs.Index.{hinted_keys};
-ghost use Rattle.kq_kevent.specs.Owned.{limit};
-ghost use Rattle.kq_kevent.specs.Telling.{told_one, told_all, StandsFor};
+ghost use Rattle.kq_kevent.specs.Owned.{limit, HasRoomToFollow};
+ghost use Rattle.kq_kevent.specs.Telling.{fork_told, told_one, told_all, StandsFor};
 
 use crate::Kq;
 use crate::look::look_in;
 use kq_filters::{Heard, Views, hear, takes};
-use kq_knote::Knote;
-use kq_model::{Hint, Key, Target};
+use kq_knote::{Knote, Tally};
+use kq_model::notes::NOTE_TRACK;
+use kq_model::{Filter, Hint, Key, Memory, Target};
 
 /// A knote that is being told the hints of a record.
 #[derive(Debug, Drop, Clone, Copy)]
@@ -80,20 +83,97 @@ fn looked_at<V: Views>(views: &V, knote: Knote) -> Knote
     Knote { active, ..knote }
 }
 
+/// The key of the PROC knote of a process.
+fn process_key(pid: u32) -> Key
+    ensures { result ≡ process_key pid }
+{
+    Key {
+        ident: u64::from(pid),
+        filter: Filter::Proc,
+    }
+}
+
+/// The parent and the child, where a hint tells of a fork.
+#[tactic(auto, unfolding(kq_model::specs::Following::forks_of, crate::specs::Telling::fork_told))]
+fn fork_in(target: Target, hint: Hint) -> Option<(u32, u32)>
+    ensures { forks_of target hint ≡ fork_told result }
+{
+    match (target, hint) {
+        (Target::Process(parent), Hint::Child(child)) => Some((parent, child)),
+        _ => None,
+    }
+}
+
+/// Of how many children these hints tell, at most.
+fn children_in(hints: &[(Target, Hint)]) -> usize
+    ensures most { length (all_forks hints.now) ≤ result }
+    ensures within { result ≤ length hints.now }
+{
+    let mut children = 0;
+    for told in hints {
+        if fork_in(told.0, told.1).is_some() {
+            children += 1;
+        }
+    }
+    children
+}
+
+/// Whether the knote of a process follows its children.
+fn follows(pid: u32, knote: &Knote) -> bool
+    ensures { result ≡ follows pid knote.now }
+{
+    knote.target == Some(Target::Process(pid)) && knote.fflags & NOTE_TRACK == NOTE_TRACK
+}
+
+/// The knote of a child: with the parameters and actions of its parent's, enabled, and with its notice.
+fn child_knote(parent: u32, child: u32, of: &Knote) -> Knote
+    ensures { result ≡ child_knote (record { parent = parent; child = child }) of.now }
+{
+    Knote {
+        key: process_key(child),
+        target: Some(Target::Process(child)),
+        enabled: true,
+        active: true,
+        tally: Tally::empty(),
+        notice: Some(parent),
+        ..*of
+    }
+}
+
+/// The knote that the child of a process gets: where the process has one that follows, and the child has none.
+#[tactic(auto, unfolding(kq_model::specs::Following::heir))]
+fn heir(parent: u32, child: u32, of: Option<Knote>, known: Option<Knote>) -> Option<Knote>
+    ensures { result ≡ heir (record { parent = parent; child = child }) of known }
+{
+    let Some(knote) = of else {
+        return None;
+    };
+    if known.is_some() {
+        return None;
+    }
+    if follows(parent, &knote) {
+        Some(child_knote(parent, child, &knote))
+    } else {
+        None
+    }
+}
+
 impl Kq {
     /// The knotes of the hinted targets hear the hints of a record, in order of registration; each
     /// is looked at in the world after the record, becomes active where its condition holds, and
     /// goes to the back of the queue where it is enabled and not there. A PROC knote whose process
-    /// has exited is gone where it has nothing to tell. It takes no memory.
+    /// has exited is gone where it has nothing to tell. Then each child that a knote follows gets a knote
+    /// of its own, for which there is room. It takes no memory.
     pub fn notify<V: Views>(&mut self, hints: &[(Target, Hint)], views: &V)
-        ensures kq { self.new.kq ≡ notified (V.sees views.now) hints.now self.old.kq }
-        // What this comes to for a user: no knote comes, the others keep their order, and the queue
-        // keeps its own and has those that begin to wait behind it, in order of registration.
-        ensures laws { IsNotified self.old.kq self.new.kq }
+        requires { HasRoomToFollow (V.sees views.now) hints.now self.old }
+        ensures kq { self.new.kq ≡ followed self.old.version hints.now (notified (V.sees views.now) hints.now self.old.kq) }
+        // What this comes to for a user: no knote comes by what the knotes hear, the others keep their order, and the
+        // queue keeps its own and has those that begin to wait behind it, in order of registration.
+        ensures laws { IsNotified self.old.kq (notified (V.sees views.now) hints.now self.old.kq) }
 
         // The same in the words of the definitions, which keep all that was heard.
-        ensures model { (m : Kqueue listed) → self.old.kq ≡ recast.tallied m
-            → self.new.kq ≡ recast.tallied (notified (V.sees views.now) hints.now m) }
+        ensures model { (m : Kqueue listed) → self.old.kq ≡ recast.tallied m → self.new.kq
+            ≡ recast.tallied (followed self.old.version hints.now (notified (V.sees views.now) hints.now m)) }
 
         // Where the READ, WRITE and VNODE knotes watched what their numbers named, in the same world or
         // before a record that closes none of these, they watch what they name now.
@@ -101,6 +181,18 @@ impl Kq {
             → WatchTheirNumbers before self.old.owner self.old.kq
             → WatchTheirNumbers (V.sees views.now) self.old.owner self.new.kq }
 
+        ensures owner { self.new.owner ≡ self.old.owner }
+        ensures version { self.new.version ≡ self.old.version }
+        ensures limit { limit self.new ≡ limit self.old }
+    {
+        self.hear(hints, views);
+        self.follow(hints);
+    }
+
+    /// The knotes of the hinted targets hear the hints of a record.
+    fn hear<V: Views>(&mut self, hints: &[(Target, Hint)], views: &V)
+        ensures kq { self.new.kq ≡ notified (V.sees views.now) hints.now self.old.kq }
+        ensures sound { IsSound self.old.kq }
         ensures owner { self.new.owner ≡ self.old.owner }
         ensures version { self.new.version ≡ self.old.version }
         ensures room { self.old.room ≤ self.new.room }
@@ -112,6 +204,98 @@ impl Kq {
         };
         self.notice_each(keys.as_slice(), hints, views);
         self.knotes.give_back(keys);
+    }
+
+    /// Each child that a knote follows gets a knote, in the order of the hints. Version 1 follows nobody.
+    fn follow(&mut self, hints: &[(Target, Hint)])
+        requires { length (followed self.old.version hints.now self.old.kq).knotes ≤ limit self.old }
+        ensures kq { self.new.kq ≡ followed self.old.version hints.now self.old.kq }
+        ensures owner { self.new.owner ≡ self.old.owner }
+        ensures version { self.new.version ≡ self.old.version }
+        ensures limit { limit self.new ≡ limit self.old }
+    {
+        if self.version == 1 {
+            return;
+        }
+        for told in hints {
+            self.follow_one(told.0, told.1);
+        }
+    }
+
+    /// The child of which a hint tells gets a knote, if it is followed.
+    fn follow_one(&mut self, target: Target, hint: Hint)
+        requires { length (followed_each (forks_of target hint) self.old.kq).knotes ≤ limit self.old }
+        ensures kq { self.new.kq ≡ followed_each (forks_of target hint) self.old.kq }
+        ensures owner { self.new.owner ≡ self.old.owner }
+        ensures version { self.new.version ≡ self.old.version }
+        ensures limit { limit self.new ≡ limit self.old }
+    {
+        if let Some((parent, child)) = fork_in(target, hint) {
+            self.follow_child(parent, child);
+        }
+    }
+
+    /// The child of a process gets a knote, if it is followed.
+    fn follow_child(&mut self, parent: u32, child: u32)
+        requires { length (with_heir (heir_in (record { parent = parent; child = child }) self.old.kq) self.old.kq).knotes
+            ≤ limit self.old }
+        ensures kq { self.new.kq ≡ with_heir (heir_in (record { parent = parent; child = child }) self.old.kq) self.old.kq }
+        ensures owner { self.new.owner ≡ self.old.owner }
+        ensures version { self.new.version ≡ self.old.version }
+        ensures limit { limit self.new ≡ limit self.old }
+    {
+        let known = self.knotes.find(process_key(child));
+        if let Some(knote) = heir(parent, child, self.knotes.find(process_key(parent)), known) {
+            self.take_in(knote);
+        }
+    }
+
+    /// Room for one knote and its key in the queue, where the children of the process are followed. It
+    /// changes nothing else.
+    pub fn reserve_fork(&mut self, pid: u32) -> Result<(), Memory>
+        ensures kq { self.new.kq ≡ self.old.kq }
+        ensures owner { self.new.owner ≡ self.old.owner }
+        ensures version { self.new.version ≡ self.old.version }
+        ensures room { OnOk result (tracks pid self.old.kq ≡ true → 0 < self.new.room) }
+        ensures fork { OnOk result ((views : world.Views) (child : ℕ) → HasRoomToFollow views (forked pid child) self.new) }
+        ensures kept { self.old.room ≤ self.new.room }
+        ensures err { OnErr result (self.new.room ≡ self.old.room) }
+        // Memory comes only where the room was missing.
+        ensures missing { OnErr result (self.old.room ≡ 0) }
+    {
+        if !self.tracks(pid) {
+            return Ok(());
+        }
+        self.reserve_for(1, 1, 0)
+    }
+
+    /// Room for the knotes of all children of which these hints tell, as `notify` wants it. It changes
+    /// nothing else.
+    pub fn reserve_to_follow(&mut self, hints: &[(Target, Hint)]) -> Result<(), Memory>
+        ensures kq { self.new.kq ≡ self.old.kq }
+        ensures owner { self.new.owner ≡ self.old.owner }
+        ensures version { self.new.version ≡ self.old.version }
+        ensures room { OnOk result ((views : world.Views) → HasRoomToFollow views hints.now self.new) }
+        ensures err { OnErr result (self.new.room ≡ self.old.room) }
+    {
+        if self.version == 1 {
+            return Ok(());
+        }
+        let children = children_in(hints);
+        self.reserve_for(children, children, 0)
+    }
+
+    /// Whether the children of a process are followed.
+    #[tactic(auto, unfolding(kq_model::specs::Following::is_follower))]
+    pub fn tracks(&self, pid: u32) -> bool
+        ensures tracks { result ≡ tracks pid self.now.kq }
+        // Of every kqueue.
+        ensures own_keys { HaveOwnKeys self.now.kq.knotes }
+    {
+        match self.knotes.find(process_key(pid)) {
+            None => false,
+            Some(knote) => follows(pid, &knote),
+        }
     }
 
     /// The hinted knotes hear the hints, by a walk from each to the next.
@@ -176,7 +360,7 @@ impl Kq {
         ensures room { self.old.room ≤ self.new.room }
         ensures limit { limit self.new ≡ limit self.old }
     {
-        if done && told.tally.is_empty() {
+        if done && told.has_nothing() {
             self.unmake(told.key);
         } else {
             self.put_back(looked_at(views, told));

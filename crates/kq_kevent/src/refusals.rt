@@ -3,7 +3,7 @@ ghost use Rattle.kq_model.specs.Caller.{Caller};
 ghost use Rattle.kq_model.specs.Knote.{watches_number};
 ghost use Rattle.kq_model.specs.Look.{is_simulated};
 ghost use Rattle.kq_model.specs.Refusals.{is_malformed, is_unopened, invalid_if, is_readable, is_writable, is_file, is_live_process, process_refusal, own_refusal};
-ghost use Rattle.kq_model.specs.Ticks.{period_of};
+ghost use Rattle.kq_model.specs.Ticks.{timing_of};
 ghost use Rattle.std.specs.Option.{is_none};
 
 use crate::named::{named_in, process_in};
@@ -11,7 +11,7 @@ use crate::register::asks;
 use kq_filters::Views;
 use kq_model::notes::NOTE_TRACK;
 use kq_model::{Change, Errno, EvFlags, Filter, Named, View};
-use kq_timer::Period;
+use kq_timer::Timing;
 
 /// Whether changes of a filter do something; those of all others are refused.
 #[tactic(auto, unfolding(kq_model::specs::Look::is_simulated))]
@@ -102,12 +102,18 @@ fn is_live_process(view: Option<View>) -> bool
     }
 }
 
-/// PROC refuses to follow children, and a process that is not there.
+/// In version 1 PROC refuses to follow children, and always a process that is not there.
 #[tactic(auto, unfolding(kq_model::specs::Refusals::process_refusal))]
-fn process_refusal<V: Views>(is_new: bool, change: &Change, views: &V) -> Option<Errno>
-    ensures { (by : Caller) → by.views ≡ V.sees views.now → result ≡ process_refusal by is_new change.now }
+fn process_refusal<V: Views>(
+    version: u32,
+    is_new: bool,
+    change: &Change,
+    views: &V,
+) -> Option<Errno>
+    ensures { (by : Caller) → by.views ≡ V.sees views.now → by.version ≡ version
+        → result ≡ process_refusal by is_new change.now }
 {
-    if change.fflags & NOTE_TRACK == NOTE_TRACK {
+    if version == 1 && change.fflags & NOTE_TRACK == NOTE_TRACK {
         return Some(Errno::EINVAL);
     }
     if is_new && !is_live_process(process_in(change.ident, views)) {
@@ -116,30 +122,36 @@ fn process_refusal<V: Views>(is_new: bool, change: &Change, views: &V) -> Option
     None
 }
 
-/// Whether a change of a timer names no period: it names two units, unknown bits, a negative number or
-/// one that is too large.
-fn names_no_period(change: &Change) -> bool
-    ensures { result ≡ is_none (period_of change.now.datum change.now.fflags) }
+/// Whether a change of a timer names no period and no moment, by the rules of this version: it names two units,
+/// unknown bits, a negative number or one that is too large.
+fn names_no_timing(version: u32, change: &Change) -> bool
+    ensures { result ≡ is_none (timing_of version change.now.datum change.now.fflags) }
 {
-    match Period::new(change.datum, change.fflags) {
+    match Timing::new(version, change.datum, change.fflags) {
         Ok(_) => false,
         Err(_) => true,
     }
 }
 
-/// With which error a filter refuses an ADD of the process `owner`.
+/// With which error a filter refuses an ADD of the process `owner`, by the rules of this version of the trace format.
 #[tactic(auto, unfolding(kq_model::specs::Refusals::own_refusal))]
-pub fn own_refusal<V: Views>(owner: u32, is_new: bool, change: &Change, views: &V) -> Option<Errno>
-    ensures { (version : ℕ) → result ≡ own_refusal change.now.filter
+pub fn own_refusal<V: Views>(
+    owner: u32,
+    version: u32,
+    is_new: bool,
+    change: &Change,
+    views: &V,
+) -> Option<Errno>
+    ensures { result ≡ own_refusal change.now.filter
         (record { views = V.sees views.now; owner = owner; version = version }) is_new change.now }
 {
     match change.filter {
         Filter::Read => invalid_if(!is_readable(named_in(owner, change.ident, views))),
         Filter::Write => invalid_if(!is_writable(named_in(owner, change.ident, views))),
         Filter::Vnode => invalid_if(!is_file(named_in(owner, change.ident, views))),
-        Filter::Proc => process_refusal(is_new, change, views),
+        Filter::Proc => process_refusal(version, is_new, change, views),
         Filter::Signal => invalid_if(change.ident < 1 || 128 < change.ident),
-        Filter::Timer => invalid_if(names_no_period(change)),
+        Filter::Timer => invalid_if(names_no_timing(version, change)),
         _ => None,
     }
 }

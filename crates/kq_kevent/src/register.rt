@@ -149,8 +149,21 @@ impl Kq {
     {
         let target = target_of(self.owner, change, views);
         let moment = views.now();
-        let mut knote = Knote::first(change, target, moment);
+        let mut knote = Knote::first(change, target, self.version, moment);
         attend(views, &mut knote);
+        self.knotes.attach(knote);
+        self.queue.place(&knote, false);
+    }
+
+    /// Takes in a knote of a new key, behind the others, and its key where it belongs.
+    pub(crate) fn take_in(&mut self, knote: Knote)
+        requires room { 0 < self.old.room }
+        requires absent { find_knote knote.key self.old.kq.knotes ≡ None }
+        ensures kq { self.new.kq ≡ with_made knote self.old.kq }
+        ensures owner { self.new.owner ≡ self.old.owner }
+        ensures version { self.new.version ≡ self.old.version }
+        ensures limit { limit self.new ≡ limit self.old }
+    {
         self.knotes.attach(knote);
         self.queue.place(&knote, false);
     }
@@ -181,7 +194,7 @@ impl Kq {
         let moment = views.now();
         let mut knote = present;
         knote.replace(change);
-        knote.restart(change, moment);
+        knote.restart(change, self.version, moment);
         knote.control(change);
         knote.switch(change);
         attend(views, &mut knote);

@@ -2,9 +2,10 @@ ghost use Rattle.std.specs.Prelude.{◌≡◌, ◌+◌, ◌<◌, ◌≤◌, ◌�
 ghost use Rattle.std.specs.Vec.{vec_capacity};
 ghost use Rattle.kq_model.specs.Knote.{has_key, find_knote};
 ghost use Rattle.kq_model.specs.Kqueue.{HaveOwnKeys};
-ghost use Rattle.kq_model.specs.Retrieval.{knotes_after, back_after, turned, retrieval};
+ghost use Rattle.kq_model.specs.Look.{look};
+ghost use Rattle.kq_model.specs.Retrieval.{knotes_after, back_after, without_notice, with_notice_told, with_delivered, turned, retrieval};
 ghost use Rattle.kq_model.specs.declared.key.Key.{Key};
-ghost use Rattle.kq_kevent.specs.Owned.{limit};
+ghost use Rattle.kq_kevent.specs.Owned.{kqueue_of, limit};
 
 use crate::Kq;
 use crate::look::{event_of, look_in};
@@ -38,6 +39,48 @@ fn settle(knotes: &mut Knotes, queue: &mut Queue, delivered: &Knote)
     }
 }
 
+/// What becomes of a knote whose notice was delivered: it is taken back, and nothing else is reset, disabled or
+/// deleted; the knote is looked at again, and goes to the back or is not active.
+#[tactic(auto, unfolding(kq_model::specs::Retrieval::with_notice_told))]
+fn take_back<V: Views>(knotes: &mut Knotes, queue: &mut Queue, told: &Knote, views: &V)
+    requires there { find_knote told.now.key knotes.old.knotes ≡ Some told.now }
+    requires absent { has_key told.now.key queue.old.keys ≡ false }
+    requires capacity { length queue.old.keys < queue.old.capacity }
+    ensures kq { kqueue_of knotes.new.knotes queue.new.keys ≡ with_notice_told (without_notice told.now)
+        (kqueue_of knotes.old.knotes queue.old.keys) (look (V.sees views.now) (without_notice told.now)) }
+    ensures room { knotes.new.room ≡ knotes.old.room }
+    ensures capacity { queue.new.capacity ≡ queue.old.capacity }
+{
+    let mut rest = *told;
+    rest.notice = None;
+    if look_in(views, &rest).is_some() {
+        knotes.modify(rest);
+        queue.put_in(rest.key);
+    } else {
+        rest.active = false;
+        knotes.modify(rest);
+    }
+}
+
+/// What becomes of a knote that was delivered, by its notice if it had one.
+#[tactic(auto, unfolding(kq_model::specs::Retrieval::settled))]
+fn deliver<V: Views>(knotes: &mut Knotes, queue: &mut Queue, delivered: &Knote, views: &V)
+    requires own_keys { HaveOwnKeys knotes.old.knotes }
+    requires there { find_knote delivered.now.key knotes.old.knotes ≡ Some delivered.now }
+    requires absent { has_key delivered.now.key queue.old.keys ≡ false }
+    requires capacity { length queue.old.keys < queue.old.capacity }
+    ensures kq { kqueue_of knotes.new.knotes queue.new.keys
+        ≡ with_delivered (V.sees views.now) delivered.now (kqueue_of knotes.old.knotes queue.old.keys) }
+    ensures room { knotes.old.room ≤ knotes.new.room }
+    ensures limit { length knotes.new.knotes + knotes.new.room ≡ length knotes.old.knotes + knotes.old.room }
+    ensures capacity { queue.new.capacity ≡ queue.old.capacity }
+{
+    match delivered.notice {
+        None => settle(knotes, queue, delivered),
+        Some(_) => take_back(knotes, queue, delivered, views),
+    }
+}
+
 impl Kq {
     /// Takes the key at the front out of the queue and looks at its knote: an event is delivered
     /// where the condition still holds, else the knote becomes inactive.
@@ -65,7 +108,7 @@ impl Kq {
                 None
             }
             Some(seen) => {
-                settle(&mut self.knotes, &mut self.queue, &knote);
+                deliver(&mut self.knotes, &mut self.queue, &knote, views);
                 Some(event_of(&knote, seen))
             }
         }

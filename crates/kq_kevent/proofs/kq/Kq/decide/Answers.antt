@@ -26,7 +26,7 @@ returns-clause-decision g c =
     let opened = sym (ap (λ (v : OwnedKqueue). is_unopened (caller views v) change) c.self.view_is)
     ∙ sym (c.is_unopened.ensures c.self.inside.version) ∙ c.if-is_unopened.false in
     let inside : Caller = record { views = views; owner = c.self.inside.owner; version = c.self.inside.version } in
-    c.decided.ensures.decided c.self.inside.version
+    c.decided.ensures.decided
     ∙ ap (λ (p : Option Knote). decided inside p change)
     (c.find.ensures ∙ ap (λ key. find_knote key c.self.inside.knotes.knotes) c.key.ensures)
     ∙ ap (λ (v : OwnedKqueue). decided (caller views v) (find_knote (key_of change) v.kq.knotes) change) c.self.view_is

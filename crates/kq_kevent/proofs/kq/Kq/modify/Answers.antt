@@ -17,11 +17,12 @@ use Rattle.kq_kevent.proofs.kq.Kq.modify.Goals as goal
 pub renew-requires-clause-waits : goal.renew-requires-clause-waits
 renew-requires-clause-waits g c =
     let by = caller (g.V.Views.sees c.args.views.now) c.args.self.now in
+    let version = ap (λ (v : OwnedKqueue). v.version) c.self.view_is in
     let kq : Kqueue = record { knotes = c.self.inside.knotes.knotes; queue = c.self.inside.queue.keys } in
     let change = c.args.change.now in
     let found = ap (λ (v : OwnedKqueue). find_knote (key_of change) v.kq.knotes) c.self.view_is ∙ c.requires.present in
     let is = modified-by by change c.args.present c.replace.new.self c.restart.new.self c.control.new.self c.switch.new.self
-    c.attend.new.knote c.replace.ensures (c.restart.ensures by c.now-moment.ensures) c.control.ensures c.switch.ensures c.attend.ensures in
+    c.attend.new.knote c.replace.ensures (c.restart.ensures by version c.now-moment.ensures) c.control.ensures c.switch.ensures c.attend.ensures in
     let same : c.attend.new.knote.key ≡ key_of change = ap (λ (k : Knote). k.key) is
     ∙ modified-key tallying by change c.args.present
     ∙ sym (find_knote-key (key_of change) kq.knotes c.args.present found) in
@@ -31,6 +32,7 @@ renew-requires-clause-waits g c =
 pub renew-requires-clause-room : goal.renew-requires-clause-room
 renew-requires-clause-room g c = λ idle.
     let by = caller (g.V.Views.sees c.args.views.now) c.args.self.now in
+    let version = ap (λ (v : OwnedKqueue). v.version) c.self.view_is in
     let kq : Kqueue = record { knotes = c.self.inside.knotes.knotes; queue = c.self.inside.queue.keys } in
     let change = c.args.change.now in
     let found = ap (λ (v : OwnedKqueue). find_knote (key_of change) v.kq.knotes) c.self.view_is ∙ c.requires.present in
@@ -44,12 +46,13 @@ renew-requires-clause-room g c = λ idle.
 pub invariant_of-self : goal.invariant_of-self
 invariant_of-self g c =
     let by = caller (g.V.Views.sees c.args.views.now) c.args.self.now in
+    let version = ap (λ (v : OwnedKqueue). v.version) c.self.view_is in
     let kq : Kqueue = record { knotes = c.self.inside.knotes.knotes; queue = c.self.inside.queue.keys } in
     let change = c.args.change.now in
     let k = c.attend.new.knote in
     let found = ap (λ (v : OwnedKqueue). find_knote (key_of change) v.kq.knotes) c.self.view_is ∙ c.requires.present in
     let is = modified-by by change c.args.present c.replace.new.self c.restart.new.self c.control.new.self c.switch.new.self
-    c.attend.new.knote c.replace.ensures (c.restart.ensures by c.now-moment.ensures) c.control.ensures c.switch.ensures c.attend.ensures in
+    c.attend.new.knote c.replace.ensures (c.restart.ensures by version c.now-moment.ensures) c.control.ensures c.switch.ensures c.attend.ensures in
     let same : k.key ≡ key_of change = ap (λ (k : Knote). k.key) is ∙ modified-key tallying by change c.args.present
     ∙ sym (find_knote-key (key_of change) kq.knotes c.args.present found) in
     record {
@@ -73,11 +76,12 @@ invariant_of-self g c =
 pub returns-clause-kq : goal.returns-clause-kq
 returns-clause-kq g c =
     let by = caller (g.V.Views.sees c.args.views.now) c.args.self.now in
+    let version = ap (λ (v : OwnedKqueue). v.version) c.self.view_is in
     let kq : Kqueue = record { knotes = c.self.inside.knotes.knotes; queue = c.self.inside.queue.keys } in
     let change = c.args.change.now in
     let k = c.attend.new.knote in
     let is = modified-by by change c.args.present c.replace.new.self c.restart.new.self c.control.new.self c.switch.new.self
-    c.attend.new.knote c.replace.ensures (c.restart.ensures by c.now-moment.ensures) c.control.ensures c.switch.ensures c.attend.ensures in
+    c.attend.new.knote c.replace.ensures (c.restart.ensures by version c.now-moment.ensures) c.control.ensures c.switch.ensures c.attend.ensures in
     same_kqueue c.modify.new.self.knotes c.renew.new.self.keys (with_modified change k kq) c.modify.ensures.knotes
     c.renew.ensures.keys
     ∙ ap (λ k. with_modified change k kq) is
@@ -86,11 +90,12 @@ returns-clause-kq g c =
 pub modify-requires : goal.modify-requires
 modify-requires g c =
     let by = caller (g.V.Views.sees c.args.views.now) c.args.self.now in
+    let version = ap (λ (v : OwnedKqueue). v.version) c.self.view_is in
     let kq : Kqueue = record { knotes = c.self.inside.knotes.knotes; queue = c.self.inside.queue.keys } in
     let change = c.args.change.now in
     let found = ap (λ (v : OwnedKqueue). find_knote (key_of change) v.kq.knotes) c.self.view_is ∙ c.requires.present in
     let is = modified-by by change c.args.present c.replace.new.self c.restart.new.self c.control.new.self c.switch.new.self
-    c.attend.new.knote c.replace.ensures (c.restart.ensures by c.now-moment.ensures) c.control.ensures c.switch.ensures c.attend.ensures in
+    c.attend.new.knote c.replace.ensures (c.restart.ensures by version c.now-moment.ensures) c.control.ensures c.switch.ensures c.attend.ensures in
     keeps-target c.args.present c.attend.new.knote kq.knotes
     (ap (λ (k : Knote). k.key) is ∙ modified-key tallying by change c.args.present)
     (ap (λ (k : Knote). k.target) is ∙ modified-target by change c.args.present)
@@ -99,11 +104,12 @@ modify-requires g c =
 pub renew-requires-clause-key : goal.renew-requires-clause-key
 renew-requires-clause-key g c =
     let by = caller (g.V.Views.sees c.args.views.now) c.args.self.now in
+    let version = ap (λ (v : OwnedKqueue). v.version) c.self.view_is in
     let kq : Kqueue = record { knotes = c.self.inside.knotes.knotes; queue = c.self.inside.queue.keys } in
     let change = c.args.change.now in
     let found = ap (λ (v : OwnedKqueue). find_knote (key_of change) v.kq.knotes) c.self.view_is ∙ c.requires.present in
     let is = modified-by by change c.args.present c.replace.new.self c.restart.new.self c.control.new.self c.switch.new.self
-    c.attend.new.knote c.replace.ensures (c.restart.ensures by c.now-moment.ensures) c.control.ensures c.switch.ensures c.attend.ensures in
+    c.attend.new.knote c.replace.ensures (c.restart.ensures by version c.now-moment.ensures) c.control.ensures c.switch.ensures c.attend.ensures in
     ap (λ (k : Knote). k.key) is ∙ modified-key tallying by change c.args.present
     ∙ sym (find_knote-key (key_of change) kq.knotes c.args.present found)
 

@@ -3,7 +3,7 @@ use Rattle.kq_model.specs.declared.key.Key.{Key}
 use Rattle.kq_model.specs.Knote.{has_key, with_knote}
 use Rattle.kq_model.specs.Kqueue.{IsSound}
 use Rattle.kq_model.specs.Retrieval.{with_idle, with_delivered}
-use Rattle.kq_model.specs.Tallied.{Knote}
+use Rattle.kq_model.specs.Tallied.{Knote, Kqueue}
 use Rattle.kq_model.proofs.KnoteLaws.{find_knote-key}
 use Rattle.kq_kevent.specs.Owned.{OwnedKqueue}
 use Rattle.kq_knote.proofs.CountLaws.{length-with_knote}
@@ -43,15 +43,15 @@ invariant_of-self g c =
       );
     }
 
-pub settle-requires-clause-absent : goal.settle-requires-clause-absent
-settle-requires-clause-absent g c =
+pub deliver-requires-clause-absent : goal.deliver-requires-clause-absent
+deliver-requires-clause-absent g c =
     let ks = c.self.inside.knotes.knotes in
     let sound = subst (λ (q : List Key). IsSound (kqueue_of ks q)) c.in-Some.ensures.keys c.self.invariant.sound in
     ap (λ key. has_key key c.take_front.new.self.keys)
     (sym (find_knote-key c.in-Some.key ks c.in-Some-find.knote (sym c.in-Some-find.ensures))) ∙ sound.once.0
 
-pub settle-requires-clause-capacity : goal.settle-requires-clause-capacity
-settle-requires-clause-capacity g c =
+pub deliver-requires-clause-capacity : goal.deliver-requires-clause-capacity
+deliver-requires-clause-capacity g c =
     let kq = kqueue_of c.self.inside.knotes.knotes c.self.inside.queue.keys in
     omega (
       arith,
@@ -68,13 +68,13 @@ invariant_of-self-in-Some-look_in g c =
     let k = c.in-Some-find.knote in
     let sound = subst (λ (q : List Key). IsSound (kqueue_of ks q)) c.in-Some.ensures.keys c.self.invariant.sound in
     record {
-      sound = IsSound-at c.settle.new.knotes.knotes c.settle.new.queue.keys
-          (with_delivered k (kqueue_of ks rest)) c.settle.ensures.knotes c.settle.ensures.keys
-          (IsSound-with_delivered ks c.in-Some.key rest k sound (sym c.in-Some-find.ensures));
+      sound = IsSound-at c.deliver.new.knotes.knotes c.deliver.new.queue.keys
+          (with_delivered (g.V.Views.sees c.args.views.now) k (kqueue_of ks rest)) (ap (λ (q : Kqueue). q.knotes) c.deliver.ensures.kq) (ap (λ (q : Kqueue). q.queue) c.deliver.ensures.kq)
+          (IsSound-with_delivered (g.V.Views.sees c.args.views.now) ks c.in-Some.key rest k sound (sym c.in-Some-find.ensures));
       capacity = omega (
         arith,
-        c.settle.ensures.limit,
-        c.settle.ensures.capacity,
+        c.deliver.ensures.limit,
+        c.deliver.ensures.capacity,
         c.in-Some.ensures.capacity,
         c.self.invariant.capacity,
       );
@@ -109,12 +109,11 @@ returns-in-Some-look_in-clause-kq g c =
     let ks = c.self.inside.knotes.knotes in
     let rest = c.take_front.new.self.keys in
     let k = c.in-Some-find.knote in
-    let next = kqueue_of c.settle.new.knotes.knotes c.settle.new.queue.keys in
+    let next = kqueue_of c.deliver.new.knotes.knotes c.deliver.new.queue.keys in
     (subst (λ (v : OwnedKqueue). IsTurn views v.kq next (Some c.event_of.result)) c.self.view_is
     (IsTurn-delivered views (kqueue_of ks c.self.inside.queue.keys) next c.in-Some.key rest k c.in-Some-look_in.seen
     c.event_of.result c.in-Some.ensures.keys (sym c.in-Some-find.ensures) (sym c.in-Some-look_in.ensures)
-    (same_kqueue c.settle.new.knotes.knotes c.settle.new.queue.keys
-    (with_delivered k (kqueue_of ks rest)) c.settle.ensures.knotes c.settle.ensures.keys) c.event_of.ensures)).leaves
+    c.deliver.ensures.kq c.event_of.ensures)).leaves
 
 pub returns-in-Some-look_in-clause-event : goal.returns-in-Some-look_in-clause-event
 returns-in-Some-look_in-clause-event g c =
@@ -122,7 +121,7 @@ returns-in-Some-look_in-clause-event g c =
     let ks = c.self.inside.knotes.knotes in
     let rest = c.take_front.new.self.keys in
     let k = c.in-Some-find.knote in
-    let next = with_delivered k (kqueue_of ks rest) in
+    let next = with_delivered views k (kqueue_of ks rest) in
     (subst (λ (v : OwnedKqueue). IsTurn views v.kq next (Some c.event_of.result)) c.self.view_is
     (IsTurn-delivered views (kqueue_of ks c.self.inside.queue.keys) next c.in-Some.key rest k c.in-Some-look_in.seen
     c.event_of.result c.in-Some.ensures.keys (sym c.in-Some-find.ensures) (sym c.in-Some-look_in.ensures)
@@ -136,6 +135,6 @@ modify-requires g c =
     subst (λ (n : Knote). KeepsTarget (record n { active = false }) ks) (sym c.knote.view_is)
     (keeps-target k (record k { active = false }) ks refl refl here)
 
-pub settle-requires-clause-there : goal.settle-requires-clause-there
-settle-requires-clause-there g c =
+pub deliver-requires-clause-there : goal.deliver-requires-clause-there
+deliver-requires-clause-there g c =
     found_here c.in-Some.key c.self.inside.knotes.knotes c.in-Some-find.knote (sym c.in-Some-find.ensures)
