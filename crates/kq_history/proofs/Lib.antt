@@ -10,6 +10,8 @@ mod Known
 mod Places
 mod Sourced
 mod PickedPrivate
+mod Descending
+mod Worklist
 mod Following
 mod Altering
 mod AccountedActs

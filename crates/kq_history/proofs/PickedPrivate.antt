@@ -3,7 +3,7 @@ use Rattle.std.proofs.Common.{◌≡◌, ℕ, Bool, cond, List, [], ◌∷◌, f
 use Rattle.kq_model.specs.Births.{Birth}
 use Rattle.kq_model.specs.Items as model
 use Rattle.kq_model.specs.Moment.{Moment}
-use Rattle.kq_model.specs.References.{names_in, references}
+use Rattle.kq_model.specs.References.{forks_at, names_in, references}
 use Rattle.kq_model.proofs.KnoteLaws.{by_test}
 use Rattle.kq_model.proofs.PrivateItems.{private-items}
 use Rattle.kq_history.specs.declared.item.Item.{Item}
@@ -23,6 +23,6 @@ filter-bare test own same (i ∷ items) =
 pub picked-private : (ms : List Moment) (b : Birth) (owner : ℕ) (sources : List Source) → IsConcerned ms b owner sources
     → filter (is_from sources) (bare_items (model.all_items ms)) ≡ own_items ms b
 picked-private ms b owner sources is =
-    let names = names_in (references b.place b.owner ms) in
+    let names = names_in (forks_at ms) (references b.place b.owner ms) in
     filter-bare (is_from sources) (λ (i : model.Item). model.is_own b.place b.owner names i.what) (λ i. is.1 i.what) (model.all_items ms)
     ∙ ap bare_items (private-items b.place b.owner names ms)

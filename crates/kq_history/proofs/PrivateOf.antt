@@ -1,26 +1,38 @@
 -- What is picked by the sources of a kqueue is its private list.
-use Rattle.std.proofs.Common.{◌≡◌, ◌∙◌, ◌<◌, ◌==◌, ◌&&◌, ◌||◌, ℕ, zero, suc, Bool, true, false, List, [], ◌∷◌, map, filter, length, get_or, refl, sym, ap, ap₂, subst, arith, rules}
-use Rattle.std.specs.List.{Contains, list_any}
+use Rattle.std.proofs.Common.{◌≡◌, ◌∙◌, ◌<◌, ◌==◌, ◌&&◌, ◌||◌, ℕ, zero, suc, ◌+◌, eqb, Bool, true, false, cond, List, [], ◌∷◌, ◌++◌, map, filter, length, get_or, refl, sym, ap, ap₂, subst, arith, rules}
+use Rattle.std.specs.List.{All, Contains, list_any}
 use Rattle.std.proofs.lemmas.Bool.{and_from, and_parts, eq-eqb, eqb-true, false≢true}
 use Rattle.std.proofs.lemmas.List.{length-map}
+use Rattle.std.proofs.lemmas.List.Elements.{All-nil, All-cons, All-head, All-tail, All-weaker}
 use Rattle.kq_model.specs.Births.{Birth}
-use Rattle.kq_model.specs.Moment.{Moment}
+use Rattle.kq_model.specs.Moment.{Moment, moment_of}
+use Rattle.kq_model.specs.Moments.{moments_from, moment_by, world_by}
+use Rattle.kq_model.specs.Objects.{counted}
+use Rattle.kq_model.specs.Projection.{plans}
+use Rattle.kq_model.specs.World.{World, Planned, Impossible, Possible, carried_out, empty_world}
 use Rattle.kq_model.specs.declared.object.Target.{Target}
-use Rattle.kq_model.specs.References.{references}
-use Rattle.kq_model.specs.Targets.{target_eq}
+use Rattle.kq_model.specs.References.{Reference, descended, forks_at, is_process_of, named_by, names_in, pids_in, references}
+use Rattle.kq_model.specs.declared.object.Hint.TheVariants.{Readable}
+use Rattle.kq_model.specs.Following.{Fork, all_forks}
+use Rattle.kq_model.specs.Items as model
+use Rattle.kq_model.specs.Targets.{is_target, target_eq}
+use Rattle.kq_model.proofs.BornFirst.{born-first}
+use Rattle.kq_model.proofs.Descended.{AreBornFirst}
 use Rattle.kq_history.specs.declared.item.Item.{Item}
 use Rattle.kq_history.specs.declared.item.Source.{Source}
 use Rattle.kq_history.specs.declared.item.Source.TheVariants as source
 use Rattle.kq_history.specs.declared.kqueues.Concerned.{Concerned}
 use Rattle.kq_history.specs.declared.said.Said.{Said}
 use Rattle.kq_model.proofs.KnoteLaws.{by_test}
+use Rattle.kq_history.specs.Children.{AreReached, AreWithChildren}
 use Rattle.kq_history.specs.Concerned.{IsConcerned, private_items}
-use Rattle.kq_history.specs.Items.{bare_what, is_from, source_eq, source_of}
+use Rattle.kq_history.specs.Items.{bare_items, bare_what, has_source, is_from, source_eq, source_of}
 use Rattle.kq_history.specs.Kqueues.{IsAtPlace}
 use Rattle.kq_history.specs.Private.{IsPrivate}
 use Rattle.kq_history.specs.Said.{IsNamedBy, IsSaid}
 use Rattle.kq_history.specs.Sources.{AreKnown}
 use Rattle.kq_history.specs.Traced.{Traced, births_of, moments_of}
+use Rattle.kq_history.proofs.Descending.{all-of, all-other, no-other}
 use Rattle.kq_history.proofs.NamedKqueues.{named-at}
 use Rattle.kq_history.proofs.PickedPrivate.{picked-private}
 use Rattle.kq_history.proofs.Sourced.{own-source, same_source}
@@ -37,11 +49,49 @@ or_true : (b : Bool) → (b || true) ≡ true
 or_true true = refl
 or_true false = refl
 
-concerned-by : (ms : List Moment) (b : Birth) (c : Concerned) → IsNamedBy ms b c → IsConcerned ms b c.owner c.sources.list.items
-concerned-by ms b c is = (
-  is.owner_is,
-  λ w. is.sources (source_of (bare_what w)) ∙ own-source eq_is b.place b.owner (references b.place b.owner ms) w,
-)
+-- by what its changes name themselves
+named-own : (ms : List Moment) (b : Birth) (c : Concerned) → IsNamedBy ms b c → (w : model.What)
+    → has_source c.sources.list.items (source_of (bare_what w)) ≡ model.is_own b.place b.owner (named_by (references b.place b.owner ms)) w
+named-own ms b c is w = is.sources (source_of (bare_what w)) ∙ own-source eq_is b.place b.owner (references b.place b.owner ms) w
+
+-- in version 1 nothing else
+pub concerned-first : (ms : List Moment) (b : Birth) (c : Concerned) → IsNamedBy ms b c → forks_at ms ≡ [] → IsConcerned ms b c.owner c.sources.list.items
+unfolding model.is_own descended
+concerned-first ms b c is none = (is.owner_is, λ w. named-own ms b c is w ∙ same w)
+  where
+    rs : List Reference
+    rs = references b.place b.owner ms
+
+    same : (w : model.What) → model.is_own b.place b.owner (named_by (references b.place b.owner ms)) w
+        ≡ model.is_own b.place b.owner (names_in (forks_at ms) (references b.place b.owner ms)) w
+    same (model.Told p) =
+        no-other (references b.place b.owner ms) p.0
+        ∙ ap (λ fs. list_any (λ (r : Reference). is_target r.target p.0) (references b.place b.owner ms) || is_process_of (descended fs (pids_in (references b.place b.owner ms))) p.0) (sym none)
+    same (model.Closed p) = refl
+    same (model.Clocked span) = refl
+    same (model.Called call) = refl
+
+-- in a later one the processes that descend from those that are named, too
+pub concerned-later : (ms : List Moment) (b : Birth) (c : Concerned) (all : List Source) → IsNamedBy ms b c
+    → All (λ (m : Moment). eqb m.version 1 ≡ false) ms → AreBornFirst (forks_at ms)
+    → AreWithChildren (bare_items (model.all_items ms)) c.sources.list.items all → IsConcerned ms b c.owner all
+unfolding model.is_own
+concerned-later ms b c all is later born with_children = (is.owner_is, own)
+  where
+    rs : List Reference
+    rs = references b.place b.owner ms
+
+    named : List Source
+    named = c.sources.list.items
+
+    named_is : (t : Target) → has_source c.sources.list.items (source.Of t) ≡ list_any (λ (r : Reference). is_target r.target t) (references b.place b.owner ms)
+    named_is t = named-own ms b c is (model.Told (t, Readable))
+
+    own : (w : model.What) → has_source all (source_of (bare_what w)) ≡ model.is_own b.place b.owner (names_in (forks_at ms) (references b.place b.owner ms)) w
+    own (model.Told p) = all-of ms (references b.place b.owner ms) c.sources.list.items all later born named_is with_children p.0
+    own (model.Closed p) = all-other ms (references b.place b.owner ms) c.sources.list.items all later born named_is with_children (source.Number p.pid p.number) refl ∙ named-own ms b c is (model.Closed p)
+    own (model.Clocked span) = all-other ms (references b.place b.owner ms) c.sources.list.items all later born named_is with_children source.Clock refl ∙ named-own ms b c is (model.Clocked span)
+    own (model.Called call) = all-other ms (references b.place b.owner ms) c.sources.list.items all later born named_is with_children (source.Kqueue call.kqueue) refl ∙ named-own ms b c is (model.Called call)
 
 place-at : (bs : List Birth) (index : ℕ) (b : Birth) → index < length bs → (get_or bs index b).place ≡ get_or (map (λ (x : Birth). x.place) bs) index 0
 place-at [] index b within = absurd (omega (arith, within))
@@ -83,17 +133,55 @@ found-there (x ∷ bs) (suc index) b place owner within here mine =
     ∙ or_true ((x.place == place) && (x.owner == owner))
 
 pub is-private : (t : Traced) (said : Said) → IsSaid t said → (place : ℕ) (c : Concerned) → IsAtPlace place said.kqueues c → (items : List Item)
-    → items ≡ filter (is_from c.sources.list.items) said.log.items.items → IsPrivate t place c.owner items
-is-private t said is place c at items picked =
+    → (sources : List Source) → ((b : Birth) → IsNamedBy (moments_of t) b c → IsConcerned (moments_of t) b c.owner sources)
+    → items ≡ filter (is_from sources) said.log.items.items → IsPrivate t place c.owner items
+is-private t said is place c at items sources concerned picked =
     let there = named-there t said is place c at in
     let b = get_or (births_of t) there.0 no_birth in
-    let sources = c.sources.list.items in
     record {
       owned = found-there (births_of t) there.0 no_birth place c.owner there.1 there.2 (sym there.3.owner_is);
       items_are = picked ∙ ap (filter (is_from sources)) is.logged.items
-          ∙ picked-private (moments_of t) b c.owner sources (concerned-by (moments_of t) b c there.3)
+          ∙ picked-private (moments_of t) b c.owner sources (concerned b there.3)
           ∙ ap₂ (λ p o. private_items p o (moments_of t)) there.2 (sym there.3.owner_is);
     }
+
+-- the moments have the version of the trace
+all-version : (version place : ℕ) (w : World counted) (qs : List Planned) → All (λ (m : Moment). m.version ≡ version) (moments_from version place w qs)
+unfolding moments_from moment_by world_by moment_of
+all-version version place w [] = All-nil (λ m. m.version ≡ version)
+all-version version place w (Impossible why ∷ qs) = all-version version (place + 1) w qs
+all-version version place w (Possible p ∷ qs) =
+    All-cons (λ m. m.version ≡ version) (moment_of version place p w) (moments_from version (place + 1) (carried_out place p w) qs)
+    refl (all-version version (place + 1) (carried_out place p w) qs)
+
+no-forks : (ms : List Moment) → All (λ (m : Moment). m.version ≡ 1) ms → forks_at ms ≡ []
+unfolding forks_at
+no-forks [] all = refl
+no-forks (m ∷ ms) all =
+    ap₂ (λ (fs gs : List Fork). fs ++ gs)
+    (ap (λ b. cond b [] (all_forks m.hints)) (eq-eqb m.version 1 (All-head (λ (x : Moment). x.version ≡ 1) m ms all)))
+    (no-forks ms (All-tail (λ (x : Moment). x.version ≡ 1) m ms all))
+
+pub is-private-reached : (t : Traced) (said : Said) → IsSaid t said → (place : ℕ) (c : Concerned) → IsAtPlace place said.kqueues c → (items : List Item)
+    → (sources : List Source) → AreReached t.version said.log.items.items c.sources.list.items sources
+    → items ≡ filter (is_from sources) said.log.items.items → IsPrivate t place c.owner items
+is-private-reached t said is place c at items sources reached picked =
+    is-private t said is place c at items sources
+    (λ b named. by_test (λ v. (t.version == 1) ≡ v → IsConcerned (moments_of t) b c.owner sources) (t.version == 1)
+    (λ _ one.
+    let same = eqb-true t.version 1 one in
+    subst (IsConcerned (moments_of t) b c.owner) (sym (reached.0 same))
+    (concerned-first (moments_of t) b c named
+    (no-forks (moments_of t) (All-weaker (λ (m : Moment). m.version ≡ t.version) (λ (m : Moment). m.version ≡ 1) (λ m of. of ∙ same) (moments_of t)
+    (all-version t.version 1 (empty_world counted) (plans counted t.version t.events))))))
+    (λ _ later.
+    concerned-later (moments_of t) b c sources named
+    (All-weaker (λ (m : Moment). m.version ≡ t.version) (λ (m : Moment). eqb m.version 1 ≡ false) (λ m of. ap (λ n. eqb n 1) of ∙ later) (moments_of t)
+    (all-version t.version 1 (empty_world counted) (plans counted t.version t.events)))
+    (born-first counted t.version t.events)
+    (subst (λ (xs : List Item). AreWithChildren xs c.sources.list.items sources) is.logged.items
+    (reached.1 (λ one. false≢true (sym later ∙ eq-eqb t.version 1 one))))) refl)
+    picked
 
 -- whose list it is
 born-in : (bs : List Birth) (place owner : ℕ) → list_any (λ (x : Birth). (x.place == place) && (x.owner == owner)) bs ≡ true

@@ -6,7 +6,7 @@ use Rattle.std.proofs.lemmas.List.Folds.{list_any-append}
 use Rattle.kq_model.specs.declared.object.Target.{Target}
 use Rattle.kq_model.specs.Items as model
 use Rattle.kq_model.specs.Knote.{watches_number, is_timer}
-use Rattle.kq_model.specs.References.{Reference, names_in, names_number}
+use Rattle.kq_model.specs.References.{Reference, named_by, names_number}
 use Rattle.kq_model.specs.Targets.{target_eq, is_target}
 use Rattle.kq_history.specs.declared.item.Source.{Source}
 use Rattle.kq_history.specs.declared.item.Source.TheVariants as source
@@ -143,7 +143,7 @@ module _ (eq_is : (a b : Source) → source_eq a b ≡ same_source a b) where
   any_none (r ∷ rs) = any_none rs
 
   pub own-source : (kqueue owner : ℕ) (rs : List Reference) (w : model.What)
-      → has_source (named_sources kqueue owner rs) (source_of (bare_what w)) ≡ model.is_own kqueue owner (names_in rs) w
+      → has_source (named_sources kqueue owner rs) (source_of (bare_what w)) ≡ model.is_own kqueue owner (named_by rs) w
   unfolding model.is_own
   own-source kqueue owner rs (model.Closed p) =
       has-is (named_sources kqueue owner rs) (source.Number p.pid p.number)

@@ -35,6 +35,5 @@ is_split trace w hearing heard noting noted events same watched notes hears =
         kqueues = watched.4.kqueues;
       };
       plain_is = watched.4.plain_is;
-      version_one = trace.version_one;
       countable = trace.countable;
     })

@@ -26,7 +26,7 @@ use Rattle.kq_model.specs.ObjectRecordPlans.{descriptor, pipe_ends, plan_accept,
 use Rattle.kq_model.specs.Objects.{counted}
 use Rattle.kq_model.specs.Planning as object_planning
 use Rattle.kq_model.specs.Processes.{ignored_by, ignores_none, process_of, was_used}
-use Rattle.kq_model.specs.ProcessPlans.{delivery, descriptors_of, hold_all, inheritable, inherited, is_signal, names_of, noted, pairs_of, plan_clock, plan_clock_at, plan_exec, plan_exit, plan_fork, plan_proc, plan_sig, plan_sigset}
+use Rattle.kq_model.specs.ProcessPlans.{delivery, descriptors_of, forked, hold_all, inheritable, inherited, is_signal, names_of, noted, pairs_of, plan_clock, plan_clock_at, plan_exec, plan_exit, plan_fork, plan_proc, plan_sig, plan_sigset}
 use Rattle.kq_model.specs.Targets.{target_eq}
 use Rattle.kq_model.specs.TouchedTargets.{starts, ends}
 use Rattle.kq_model.specs.World.{World, Plan, Planned, Impossible, Possible, idle, named_by}
@@ -285,7 +285,7 @@ module _ (opens numbers : List (ℕ × ℕ)) (targets : List Target) (w : World 
       let forks : Planned = Possible (record idle {
         opened = ds;
         doings = hold_all (names_of ds);
-        hints = noted pid fork_note ∷ [];
+        hints = forked pid child;
         started = Some (record { pid = child; ignores = ignored_by (process_of pid w.processes) });
       }) in
       unless_gone Stays refused w pid (if was_used child w.processes then Impossible UsedPid else forks)

@@ -8,6 +8,7 @@ pub mod Log
 pub mod Sources
 pub mod Kqueues
 pub mod Concerned
+pub mod Children
 pub mod Spoken
 pub mod Touched
 pub mod Accounts

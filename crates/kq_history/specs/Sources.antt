@@ -32,6 +32,10 @@ pub record Grows (extra : List Source) (old new : Sources) : Type 0 where
   pub sources : AreKnown old → (x : Source)
       → has_source new.list.items x ≡ (has_source old.list.items x || has_source extra x)
 
+-- the one list begins as the other is
+abbrev pub Begins : List Source → List Source → Type 0
+Begins old new = (more : List Source) × (new ≡ old ++ more)
+
 -- ---- what a change names
 
 abbrev pub target_sources : Option Target → List Source

@@ -28,5 +28,4 @@ pub record IsSplit (t : Traced) (seen : ℕ → Views) (heard : Said) (plain : L
   pub said : IsSaid t heard
   pub plain_is : plain ≡ plain_rows_of t
   -- of the type of traces
-  pub version_one : t.version ≡ 1
   pub countable : length t.events < 2 ^ 31

@@ -1,17 +1,21 @@
-ghost use Rattle.std.specs.Prelude.{◌≡◌, ◌<◌, ◌++◌, ◌∷◌, [], true, All, if◌then◌else◌, filter, length, map, IfOk, OnOk};
+ghost use Rattle.std.specs.Prelude.{◌≡◌, ◌<◌, ◌++◌, ◌∷◌, [], true, All, List, if◌then◌else◌, filter, length, map, IfOk, OnOk};
 ghost use Rattle.std.specs.List.{IsDistinct};
 ghost use Rattle.std.specs.List.Sorted.{IsNonDecreasing};
 ghost use Rattle.kq_history.specs.BetweenCalls.{between};
+ghost use Rattle.kq_history.specs.Children.{child_told, children_at, children_of, is_of_process, AreReached, AreWithChildren};
 ghost use Rattle.kq_history.specs.Items.{has_source, is_from, source_eq};
 ghost use Rattle.kq_history.specs.Log.{all_standing, comes_from, is_within, item_at, AreShelved};
 ghost use Rattle.kq_history.specs.Log.{others_within, steps_within, within_of};
+ghost use Rattle.kq_history.specs.Sources.{AreKnown, Begins, Grows};
 ghost use Rattle.kq_history.specs.Steps.{joined};
+ghost use Rattle.kq_history.specs.declared.item.Source.{Source};
 ghost use Rattle.kq_history.specs.declared.item.Source.TheVariants.{Clock};
 
-use crate::item::{Item, Source};
+use crate::item::{Item, Source, What};
 use crate::shelves::Shelves;
+use crate::sources::Sources;
 use crate::weave::woven;
-use kq_model::Memory;
+use kq_model::{Hint, Memory, Target};
 use std::alloc::Global;
 
 /// There is room for no more sources than so many before they come.
@@ -97,6 +101,83 @@ impl Log {
         self.items_at(numbers.as_slice())
     }
 
+    /// The sources with those of the processes that descend from theirs, by what the items say of
+    /// forks. It costs the items of these processes, which are among those that are picked.
+    pub fn with_children(&self, named: &[Source]) -> Result<Sources, Memory>
+        requires { AreShelved self.now.items.items self.now.shelves.table }
+        ensures known { IfOk result AreKnown }
+        ensures sources { IfOk result (λ all. AreWithChildren self.now.items.items named.now all.list.items) }
+    {
+        let mut all = Sources::of(self.alloc, named)?;
+        for next in 0..usize::MAX {
+            let Some(source) = all.get(next) else {
+                return Ok(all);
+            };
+            self.add_children(&mut all, source)?;
+        }
+        Err(Memory)
+    }
+
+    /// The items that come from these sources, and in a later version than 1 from those of the processes
+    /// that descend from theirs.
+    pub fn pick_reached(&self, version: u32, named: &[Source]) -> Result<Vec<Item>, Memory>
+        requires distinct { IsDistinct source_eq named.now }
+        requires shelved { AreShelved self.now.items.items self.now.shelves.table }
+        ensures { IfOk result (λ picked. (all : List Source) × AreReached version self.now.items.items named.now all
+            × (picked.items ≡ filter (is_from all) self.now.items.items)) }
+    {
+        if version == 1 {
+            return self.pick(named);
+        }
+        let all = self.with_children(named)?;
+        self.pick(all.as_slice())
+    }
+
+    /// Of these, those from the first one of this source among them to its last one.
+    pub fn pick_reached_between(
+        &self,
+        version: u32,
+        named: &[Source],
+        source: Source,
+    ) -> Result<Vec<Item>, Memory>
+        requires distinct { IsDistinct source_eq named.now }
+        requires there { has_source named.now source ≡ true }
+        requires shelved { AreShelved self.now.items.items self.now.shelves.table }
+        ensures { IfOk result (λ picked. (all : List Source) × AreReached version self.now.items.items named.now all
+            × (picked.items ≡ joined (between (comes_from source) (filter (is_from all) self.now.items.items)))) }
+    {
+        if version == 1 {
+            return self.pick_between(named, source);
+        }
+        let all = self.with_children(named)?;
+        self.pick_between(all.as_slice(), source)
+    }
+
+    /// The children of which the items of a source tell.
+    fn add_children(&self, all: &mut Sources, source: Source) -> Result<(), Memory>
+        requires { AreShelved self.now.items.items self.now.shelves.table }
+        ensures grows { OnOk result (Grows (children_of self.now.items.items source) all.old all.new) }
+        ensures begins { OnOk result (Begins all.old.list.items all.new.list.items) }
+    {
+        if !is_of_process(source) {
+            return Ok(());
+        }
+        self.add_told(all, self.shelves.at(source))
+    }
+
+    /// The children of which the items at these places tell.
+    fn add_told(&self, all: &mut Sources, numbers: &[usize]) -> Result<(), Memory>
+        requires { All (λ n. n < length self.now.items.items) numbers.now }
+        ensures grows { OnOk result (Grows (children_at self.now.items.items numbers.now) all.old all.new) }
+        ensures begins { OnOk result (Begins all.old.list.items all.new.list.items) }
+    {
+        for number in numbers {
+            let item = self.items[*number];
+            all.add_target(child_told(item.what))?;
+        }
+        Ok(())
+    }
+
     /// Where the items of a source but the clock stand from one number to another.
     fn others_of(&self, source: Source, first: usize, last: usize) -> &[usize]
         requires { AreShelved self.now.items.items self.now.shelves.table }
@@ -176,4 +257,29 @@ fn within(numbers: &[usize], first: usize, last: usize) -> &[usize]
     let count = rest.partition_point(|number| *number <= last);
     let (inside, _) = rest.split_at(count);
     inside
+}
+
+/// Whether the items of a source can tell of children.
+#[tactic(auto, unfolding(crate::specs::Children::is_of_process))]
+fn is_of_process(source: Source) -> bool
+    ensures { result ≡ is_of_process source }
+{
+    match source {
+        Source::Of(Target::Process(_)) => true,
+        _ => false,
+    }
+}
+
+/// The child of which an item tells.
+#[tactic(auto, unfolding(crate::specs::Children::child_told))]
+fn child_told(what: What) -> Option<Target>
+    ensures { result ≡ child_told what }
+{
+    match what {
+        What::Told {
+            target: Target::Process(_),
+            hint: Hint::Child(child),
+        } => Some(Target::Process(child)),
+        _ => None,
+    }
 }

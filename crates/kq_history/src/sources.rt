@@ -1,4 +1,4 @@
-ghost use Rattle.std.specs.Prelude.{◌≡◌, ◌++◌, ◌∷◌, [], cond, false, true, IfOk, OnOk};
+ghost use Rattle.std.specs.Prelude.{◌≡◌, ◌++◌, ◌∷◌, [], cond, false, true, slice_get, IfOk, OnOk};
 ghost use Rattle.kq_history.specs.Items.{has_source, source_eq};
 ghost use Rattle.kq_history.specs.Sources.{is_known};
 ghost use Rattle.kq_history.specs.declared.item.Source.{Source as declared_source};
@@ -29,7 +29,7 @@ pub struct Sources {
 }
 
 impl Sources {
-    ghost use Rattle.kq_history.specs.Sources.{AreKnown, Grows, call_sources, change_sources};
+    ghost use Rattle.kq_history.specs.Sources.{AreKnown, Begins, Grows, call_sources, change_sources};
     ghost use Rattle.kq_history.specs.Sources.{clock_sources, number_sources, target_sources};
 
     /// No source.
@@ -53,6 +53,33 @@ impl Sources {
         Ok(sources)
     }
 
+    /// Those of a list, each once.
+    pub fn of(alloc: Global, list: &[Source]) -> Result<Self, Memory>
+        ensures known { IfOk result AreKnown }
+        ensures sources { IfOk result (λ s. (x : declared_source) → has_source s.list.items x ≡ has_source list.now x) }
+    {
+        let mut sources = Sources::new(alloc);
+        sources.add_all(list)?;
+        Ok(sources)
+    }
+
+    /// Those of a list, where they are not there.
+    fn add_all(&mut self, list: &[Source]) -> Result<(), Memory>
+        ensures { OnOk result (Grows list.now self.old self.new) }
+    {
+        for source in list {
+            self.add(*source)?;
+        }
+        Ok(())
+    }
+
+    /// The source that stands there, if there is one.
+    pub fn get(&self, index: usize) -> Option<Source>
+        ensures { result ≡ slice_get self.now.list.items index }
+    {
+        self.list.as_slice().get(index).copied()
+    }
+
     pub fn as_slice(&self) -> &[Source]
         ensures { result.now ≡ self.now.list.items }
     {
@@ -61,7 +88,8 @@ impl Sources {
 
     /// One source more, where it is not there.
     pub fn add(&mut self, source: Source) -> Result<(), Memory>
-        ensures { OnOk result (Grows (source ∷ []) self.old self.new) }
+        ensures grows { OnOk result (Grows (source ∷ []) self.old self.new) }
+        ensures begins { OnOk result (Begins self.old.list.items self.new.list.items) }
     {
         if self.has(&source) {
             return Ok(());
@@ -105,8 +133,9 @@ impl Sources {
     }
 
     /// The target that a change names, where it names one.
-    fn add_target(&mut self, target: Option<Target>) -> Result<(), Memory>
-        ensures { OnOk result (Grows (target_sources target) self.old self.new) }
+    pub(crate) fn add_target(&mut self, target: Option<Target>) -> Result<(), Memory>
+        ensures grows { OnOk result (Grows (target_sources target) self.old self.new) }
+        ensures begins { OnOk result (Begins self.old.list.items self.new.list.items) }
     {
         match target {
             None => Ok(()),

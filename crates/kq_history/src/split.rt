@@ -138,7 +138,10 @@ impl<'a> Split<'a> {
         ensures kqueue { IfOk result (λ p. p.kqueue ≡ kqueue) }
     {
         let concerned = self.said.kqueues.of(kqueue);
-        let items = self.said.log.pick(concerned.sources.as_slice())?;
+        let items = self
+            .said
+            .log
+            .pick_reached(self.version, concerned.sources.as_slice())?;
         Ok(Private {
             split: self,
             kqueue,
@@ -159,7 +162,10 @@ impl<'a> Split<'a> {
         let kqueues = &self.said.kqueues;
         let concerned = kqueues.of(kqueue);
         let sources = concerned.sources.as_slice();
-        let items = self.said.log.pick_between(sources, Source::Kqueue(kqueue))?;
+        let items = self
+            .said
+            .log
+            .pick_reached_between(self.version, sources, Source::Kqueue(kqueue))?;
         Ok(Answering {
             split: self,
             kqueue,
@@ -214,10 +220,9 @@ impl<'a> Split<'a> {
         *self.plain.allocator()
     }
 
-    /// The version of the trace's format, which is 1.
+    /// The version of the trace's format.
     pub fn version(&self) -> u32
         ensures version { result ≡ self.now.version }
-        ensures one { result ≡ 1 }
     {
         self.version
     }

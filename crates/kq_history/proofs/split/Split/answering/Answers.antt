@@ -5,6 +5,7 @@ use Rattle.kq_history.specs.declared.item.Source.TheVariants.{Kqueue}
 use Rattle.kq_history.specs.BetweenCalls.{between}
 use Rattle.kq_history.specs.Items.{has_source, is_from, source_eq}
 use Rattle.kq_history.specs.Log.{comes_from}
+use Rattle.kq_history.specs.Children.{AreReached}
 use Rattle.kq_history.specs.Private.{IsAnswering}
 use Rattle.kq_history.specs.Steps.{joined}
 use Rattle.kq_history.specs.Traced.{Traced, places_of}
@@ -24,18 +25,18 @@ of-concerned-requires-clause-born c =
     let same : c.self.inside.said.kqueues.places.items ≡ places_of c.args.self.now = c.self.invariant.said.kqueues.births ∙ search rules in
     subst (λ (ps : List ℕ). Contains ps c.args.kqueue) (sym same) c.requires
 
-pub pick_between-requires-clause-distinct : goal.pick_between-requires-clause-distinct
-pick_between-requires-clause-distinct c =
+pub pick_reached_between-requires-clause-distinct : goal.pick_reached_between-requires-clause-distinct
+pick_reached_between-requires-clause-distinct c =
     subst (λ (ss : List Source). IsDistinct source_eq ss) (sym c.as_slice-sources.ensures)
     (known-there _ c.self.inside.said c.self.invariant.said c.args.kqueue c.of-concerned.result.now c.of-concerned.ensures).distinct
 
-pub pick_between-requires-clause-there : goal.pick_between-requires-clause-there
-pick_between-requires-clause-there c =
+pub pick_reached_between-requires-clause-there : goal.pick_reached_between-requires-clause-there
+pick_reached_between-requires-clause-there c =
     subst (λ (ss : List Source). has_source ss (Kqueue c.args.kqueue) ≡ true) (sym c.as_slice-sources.ensures)
     (calls-named _ c.self.inside.said c.self.invariant.said c.args.kqueue c.of-concerned.result.now c.of-concerned.ensures)
 
-pub pick_between-requires-clause-shelved : goal.pick_between-requires-clause-shelved
-pick_between-requires-clause-shelved c = c.self.invariant.said.logged.shelved
+pub pick_reached_between-requires-clause-shelved : goal.pick_reached_between-requires-clause-shelved
+pick_reached_between-requires-clause-shelved c = c.self.invariant.said.logged.shelved
 
 pub invariant_of-result : goal.invariant_of-result
 invariant_of-result c =
@@ -45,5 +46,7 @@ invariant_of-result c =
     record {
       own = subst (λ (x : Traced). IsAnswering x c.args.kqueue concerned.owner c.in_ok-items.items.items) same
           (is-answering t c.self.inside.said c.self.invariant.said c.args.kqueue concerned c.of-concerned.ensures c.in_ok-items.items.items
-          (c.in_ok-items.ensures ∙ ap (λ ss. joined (between (comes_from (Kqueue c.args.kqueue)) (filter (is_from ss) c.self.inside.said.log.items.items))) c.as_slice-sources.ensures));
+          c.in_ok-items.ensures.0
+          (subst (λ ss. AreReached t.version c.self.inside.said.log.items.items ss c.in_ok-items.ensures.0) c.as_slice-sources.ensures c.in_ok-items.ensures.1)
+          c.in_ok-items.ensures.2);
     }

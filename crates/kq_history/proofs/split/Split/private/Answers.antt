@@ -2,9 +2,10 @@ use Rattle.std.proofs.Common.{◌≡◌, ◌∙◌, List, ℕ, filter, sym, ap, 
 use Rattle.std.specs.List.{Contains, IsDistinct}
 use Rattle.kq_history.specs.declared.item.Source.{Source}
 use Rattle.kq_history.specs.Items.{is_from, source_eq}
+use Rattle.kq_history.specs.Children.{AreReached}
 use Rattle.kq_history.specs.Private.{IsPrivate}
 use Rattle.kq_history.specs.Traced.{Traced, places_of}
-use Rattle.kq_history.proofs.PrivateOf.{is-private, known-there}
+use Rattle.kq_history.proofs.PrivateOf.{is-private-reached, known-there}
 use Rattle.kq_history.proofs.SplitNext.{one-each, places-rise}
 use Rattle.kq_history.proofs.split.Split.private.Goals as goal
 
@@ -19,13 +20,13 @@ of-concerned-requires-clause-born c =
     let same : c.self.inside.said.kqueues.places.items ≡ places_of c.args.self.now = c.self.invariant.said.kqueues.births ∙ search rules in
     subst (λ (ps : List ℕ). Contains ps c.args.kqueue) (sym same) c.requires
 
-pub pick-requires-clause-distinct : goal.pick-requires-clause-distinct
-pick-requires-clause-distinct c =
+pub pick_reached-requires-clause-distinct : goal.pick_reached-requires-clause-distinct
+pick_reached-requires-clause-distinct c =
     subst (λ (ss : List Source). IsDistinct source_eq ss) (sym c.as_slice.ensures)
     (known-there _ c.self.inside.said c.self.invariant.said c.args.kqueue c.of-concerned.result.now c.of-concerned.ensures).distinct
 
-pub pick-requires-clause-shelved : goal.pick-requires-clause-shelved
-pick-requires-clause-shelved c = c.self.invariant.said.logged.shelved
+pub pick_reached-requires-clause-shelved : goal.pick_reached-requires-clause-shelved
+pick_reached-requires-clause-shelved c = c.self.invariant.said.logged.shelved
 
 pub invariant_of-result : goal.invariant_of-result
 invariant_of-result c =
@@ -34,6 +35,8 @@ invariant_of-result c =
     let concerned = c.of-concerned.result.now in
     record {
       own = subst (λ (x : Traced). IsPrivate x c.args.kqueue concerned.owner c.in_ok-items.items.items) same
-          (is-private t c.self.inside.said c.self.invariant.said c.args.kqueue concerned c.of-concerned.ensures c.in_ok-items.items.items
-          (c.in_ok-items.ensures ∙ ap (λ ss. filter (is_from ss) c.self.inside.said.log.items.items) c.as_slice.ensures));
+          (is-private-reached t c.self.inside.said c.self.invariant.said c.args.kqueue concerned c.of-concerned.ensures c.in_ok-items.items.items
+          c.in_ok-items.ensures.0
+          (subst (λ ss. AreReached t.version c.self.inside.said.log.items.items ss c.in_ok-items.ensures.0) c.as_slice.ensures c.in_ok-items.ensures.1)
+          c.in_ok-items.ensures.2);
     }

@@ -25,6 +25,5 @@ invariant_of-result c =
         kqueues = thirds.4.kqueues;
       };
       plain_is = thirds.4.plain_is;
-      version_one = c.args.trace.now.version_one;
       countable = c.args.trace.now.countable;
     })
