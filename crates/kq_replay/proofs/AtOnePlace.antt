@@ -21,7 +21,7 @@ use Rattle.kq_model.proofs.PrivateParts as parts
 use Rattle.kq_history.specs.declared.item.Item.{Item}
 use Rattle.kq_history.specs.Items.{bare, bare_items, bare_what}
 use Rattle.kq_history.specs.Traced.{Traced, event_at, seen_at}
-use Rattle.kq_replay.specs.Alone.{LoneKqueue, after_item, after_items, arrived, called, gone_on}
+use Rattle.kq_replay.specs.Alone.{LoneKqueue, after_item, after_items, arrived, called, gone_on, heard_in}
 use Rattle.kq_replay.specs.Recorded.{IsCallOf}
 use Rattle.kq_replay.proofs.Closes.{close-first}
 
@@ -31,8 +31,9 @@ no_names = record { number = λ n. false; target = λ t. false; timer = false }
 pub close-none : (owner : ℕ) (kq : Kqueue) → closed owner [] kq ≡ kq
 close-none owner kq = parts.closed-none tallying no_names owner kq
 
-pub hear-none : (views : Views) (kq : Kqueue) → notified views [] kq ≡ kq
-hear-none views kq = parts.notified-none tallying no_names views kq
+pub hear-none : (t : Traced) (place : ℕ) (kq : Kqueue) → heard_in t place [] kq ≡ kq
+hear-none t place kq =
+    parts.followed-none tallying no_names t.version (notified (seen_at t place) [] kq) ∙ parts.notified-none tallying no_names (seen_at t place) kq
 
 pub after-append : (is js : List Item) (a : LoneKqueue) → after_items (is ++ js) a ≡ after_items js (after_items is a)
 unfolding after_items
@@ -58,7 +59,7 @@ module _ (t : Traced) (owner : ℕ) where
   stays place told kq rows = cond-true (eqb place place) _ _ (eq-eqb place place refl)
 
   pub moves : (low place : ℕ) (told : List Posted) (kq : Kqueue) (rows : List Row) → eqb place low ≡ false
-      → arrived place (state low told kq rows) ≡ state place [] (notified (seen_at t low) told kq) rows
+      → arrived place (state low told kq rows) ≡ state place [] (heard_in t low told kq) rows
   unfolding arrived
   moves low place told kq rows other = cond-false (eqb place low) _ _ other
 
@@ -66,11 +67,11 @@ module _ (t : Traced) (owner : ℕ) where
   pub first-moves : (low place : ℕ) (told : List Posted) (kq : Kqueue) (rows : List Row) (w : model.What) (ws : List model.What)
       → eqb place low ≡ false
       → after_items (said place (w ∷ ws)) (state low told kq rows)
-      ≡ after_items (said place (w ∷ ws)) (state place [] (notified (seen_at t low) told kq) rows)
+      ≡ after_items (said place (w ∷ ws)) (state place [] (heard_in t low told kq) rows)
   unfolding after_items after_item
   first-moves low place told kq rows w ws other =
       ap (λ a. after_items (said place ws) (gone_on (bare_what w) a))
-      (moves low place told kq rows other ∙ sym (stays place [] (notified (seen_at t low) told kq) rows))
+      (moves low place told kq rows other ∙ sym (stays place [] (heard_in t low told kq) rows))
 
   -- ---- kind by kind
 
@@ -95,18 +96,18 @@ module _ (t : Traced) (owner : ℕ) where
   -- a kqueue that is this one once the hints were heard
   abbrev pub Reaches : ℕ → LoneKqueue → Kqueue → List Row → Type 0
   Reaches place a kq rows =
-      (told : List Posted) × (before : Kqueue) × (a ≡ state place told before rows) × (notified (seen_at t place) told before ≡ kq)
+      (told : List Posted) × (before : Kqueue) × (a ≡ state place told before rows) × (heard_in t place told before ≡ kq)
 
   pub clock-one : (place : ℕ) (clock : Option Span) (told : List Posted) (kq : Kqueue) (rows : List Row)
       → Reaches place (after_items (said place (clock_whats clock)) (state place told kq rows))
-      (clocked clock (notified (seen_at t place) told kq)) rows
+      (clocked clock (heard_in t place told kq)) rows
   unfolding clock_whats after_items after_item gone_on
-  clock-one place None told kq rows = (told, kq, refl, sym (parts.clocked-none tallying no_names (notified (seen_at t place) told kq)))
+  clock-one place None told kq rows = (told, kq, refl, sym (parts.clocked-none tallying no_names (heard_in t place told kq)))
   clock-one place (Some span) told kq rows = (
     [],
-    clocked (Some span) (notified (seen_at t place) told kq),
+    clocked (Some span) (heard_in t place told kq),
     ap (gone_on (bare_what (model.Clocked span))) (stays place told kq rows),
-    hear-none (seen_at t place) (clocked (Some span) (notified (seen_at t place) told kq)),
+    hear-none t place (clocked (Some span) (heard_in t place told kq)),
   )
 
   abbrev pub answer_of : ℕ → Call → Kqueue → Called
@@ -121,8 +122,8 @@ module _ (t : Traced) (owner : ℕ) where
   pub call-one : (place : ℕ) (c : Call) (told : List Posted) (kq : Kqueue) (rows : List Row)
       → IsCallOf (event_at t place) c.changes c.room
       → after_items (said place (call_whats (Some c))) (state place told kq rows)
-      ≡ (let r = answer_of place c (notified (seen_at t place) told kq) in state place [] r.kq (rows ++ row_of place r.reply))
+      ≡ (let r = answer_of place c (heard_in t place told kq) in state place [] r.kq (rows ++ row_of place r.reply))
   unfolding call_whats after_items after_item gone_on
   call-one place c told kq rows is =
       ap (gone_on (bare_what (model.Called c))) (stays place told kq rows)
-      ∙ called-there place c (notified (seen_at t place) told kq) rows (event_at t place) is
+      ∙ called-there place c (heard_in t place told kq) rows (event_at t place) is

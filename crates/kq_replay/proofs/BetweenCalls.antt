@@ -4,6 +4,8 @@ use Rattle.std.proofs.Common.{◌≡◌, ◌||◌, ◌++◌, ℕ, true, false, c
 use Rattle.std.proofs.lemmas.Bool.{eqb-true, or_parts}
 use Rattle.std.proofs.lemmas.List.Elements.{All-nil, All-cons, All-head, All-tail}
 use Rattle.std.specs.List.{All, list_any}
+use Rattle.kq_model.specs.Knote.{find_knote}
+use Rattle.kq_model.specs.Following.{Fork, followed_each, forks_in, heir, with_heir}
 use Rattle.kq_model.specs.declared.row.Row.{Row}
 use Rattle.kq_model.specs.Clock.{Span, clocked}
 use Rattle.kq_model.specs.Close.{closed}
@@ -78,13 +80,24 @@ last-call (i ∷ is) a =
 abbrev idle : Traced → ℕ → ℕ → List Posted → List Row → LoneKqueue
 idle t owner place told rows = record { trace = t; owner = owner; place = place; told = told; kq = empty_kqueue; rows = rows }
 
+-- none is followed where there is no knote
+none-followed : (fs : List Fork) → followed_each fs (empty_kqueue {h = tallying}) ≡ empty_kqueue {h = tallying}
+unfolding followed_each heir with_heir find_knote
+none-followed [] = refl
+none-followed (f ∷ fs) = none-followed fs
+
+idle-heard : (t : Traced) (owner low : ℕ) (told : List Posted) (rows : List Row) → heard (idle t owner low told rows) ≡ idle t owner low [] rows
+unfolding notified knotes_noticing queue_after_all
+idle-heard t owner low told rows = ap (λ kq. record (idle t owner low [] rows) { kq = kq }) (none-followed (forks_in t.version told))
+
 -- once its place is reached and the hints are heard, a kqueue without knotes is the same wherever it was
 all-one : (t : Traced) (owner low place : ℕ) (told : List Posted) (rows : List Row)
     → heard (arrived place (idle t owner low told rows)) ≡ idle t owner place [] rows
 unfolding arrived notified knotes_noticing queue_after_all
 all-one t owner low place told rows =
     by_test (λ b. eqb place low ≡ b → heard (cond b (idle t owner low told rows) (record (heard (idle t owner low told rows)) { place = place })) ≡ idle t owner place [] rows)
-    (eqb place low) (λ _ same. ap (λ p. idle t owner p [] rows) (sym (eqb-true place low same))) (λ _ _. refl) refl
+    (eqb place low) (λ _ same. idle-heard t owner low told rows ∙ ap (λ p. idle t owner p [] rows) (sym (eqb-true place low same)))
+    (λ _ _. ap (λ (a : LoneKqueue). heard (record a { place = place })) (idle-heard t owner low told rows) ∙ idle-heard t owner place [] rows) refl
 
 idle-clocked : (span : Span) → clocked (Some span) (empty_kqueue {h = tallying}) ≡ empty_kqueue {h = tallying}
 idle-clocked span = parts.clock_stays tallying no_names (Some span) (empty_kqueue {h = tallying}) (λ k d within. absurd (omega (arith, within)))
@@ -98,15 +111,19 @@ module _ (t : Traced) (owner : ℕ) (rows : List Row) where
   unfolding gone_on is_call closed notified knotes_noticing queue_after_all
   gone-idle place told (what.Closed pid number) none = (told, refl)
   gone-idle place told (what.Told target hint) none = (told ++ (target, hint) ∷ [], refl)
-  gone-idle place told (what.Clocked from to) none =
-      ([], ap (λ kq. record (at place []) { kq = kq }) (idle-clocked (record { from = from; to = to })))
+  gone-idle place told (what.Clocked from to) none = (
+    [],
+    ap (λ (a : LoneKqueue). record a { kq = clocked (Some (record { from = from; to = to })) a.kq }) (idle-heard t owner place told rows)
+        ∙ ap (λ kq. record (at place []) { kq = kq }) (idle-clocked (record { from = from; to = to })),
+  )
   gone-idle place told (what.Called kqueue) none = absurd (cc)
 
   arrived-idle : (low place : ℕ) (told : List Posted) → (later : List Posted) × (arrived place (at low told) ≡ at place later)
   unfolding arrived notified knotes_noticing queue_after_all
   arrived-idle low place told =
       by_test (λ b. eqb place low ≡ b → (later : List Posted) × (cond b (at low told) (record (heard (at low told)) { place = place }) ≡ at place later)) (eqb place low)
-      (λ _ same. (told, ap (λ p. at p told) (sym (eqb-true place low same)))) (λ _ _. ([], refl)) refl
+      (λ _ same. (told, ap (λ p. at p told) (sym (eqb-true place low same))))
+      (λ _ _. ([], ap (λ (a : LoneKqueue). record a { place = place }) (idle-heard t owner low told rows))) refl
 
   item-idle : (i : Item) (low : ℕ) (told : List Posted) → is_call i.what ≡ false → (later : List Posted) × (after_item i (at low told) ≡ at i.place later)
   unfolding after_item

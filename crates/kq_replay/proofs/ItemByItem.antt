@@ -14,7 +14,7 @@ use Rattle.kq_model.specs.Tallied.{Kqueue}
 use Rattle.kq_model.specs.Targets.{Posted}
 use Rattle.kq_history.specs.Items.{bare, bare_items}
 use Rattle.kq_history.specs.Traced.{Traced, seen_at}
-use Rattle.kq_replay.specs.Alone.{after_items}
+use Rattle.kq_replay.specs.Alone.{after_items, heard_in}
 use Rattle.kq_replay.proofs.AtOnePlace.{after-append, state}
 use Rattle.kq_replay.proofs.OneConcern.{IsOwn, moment_at, one-concern}
 
@@ -29,12 +29,12 @@ module _ (t : Traced) (kqueue owner : ℕ) where
 
   pub item-by-item : (cs : List Concern) (low : ℕ) (told : List Posted) (kq : Kqueue) (rows : List Row) → AreOwn low cs
       → (after_items (bare_items (flat_map items_of cs)) (state t owner low told kq rows)).rows
-      ≡ rows ++ rows_alone t.version kqueue owner (seen_at t) (notified (seen_at t low) told kq) cs
+      ≡ rows ++ rows_alone t.version kqueue owner (seen_at t) (heard_in t low told kq) cs
   unfolding rows_over after_items
   item-by-item [] low told kq rows own = sym (append-nil rows)
   item-by-item (c ∷ cs) low told kq rows own =
       let m = moment_at t kqueue owner c in
-      let before = notified (seen_at t low) told kq in
+      let before = heard_in t low told kq in
       let row = row_of c.place (own_reply kqueue owner m c.call before) in
       let first = bare_items (items_of c) in
       let rest = bare_items (flat_map items_of cs) in

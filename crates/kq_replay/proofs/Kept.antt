@@ -9,7 +9,7 @@ use Rattle.kq_history.specs.declared.item.Item.{Item}
 use Rattle.kq_history.specs.declared.item.What.{What}
 use Rattle.kq_history.specs.declared.item.What.TheVariants as what
 use Rattle.kq_history.specs.Traced.{event_at, seen_at}
-use Rattle.kq_replay.specs.Alone.{LoneKqueue, after_item, arrived, called, gone_on, heard}
+use Rattle.kq_replay.specs.Alone.{LoneKqueue, after_item, arrived, called, gone_on, heard, heard_in}
 use Rattle.kq_replay.specs.Recorded.{IsRecorded, IsSaidBy}
 use Rattle.kq_replay.proofs.AtOnePlace.{hear-none}
 use Rattle.kq_replay.proofs.Closes.{close-other}
@@ -55,7 +55,7 @@ said-there i a is =
 pub none-heard : (a : LoneKqueue) → a.told ≡ [] → a ≡ heard a
 none-heard a none =
     ap₂ (λ told kq. record a { told = told; kq = kq }) none
-    (sym (ap (λ told. notified (seen_at a.trace a.place) told a.kq) none ∙ hear-none (seen_at a.trace a.place) a.kq))
+    (sym (ap (λ told. heard_in a.trace a.place told a.kq) none ∙ hear-none a.trace a.place a.kq))
 
 pub none-closed : (pid number : ℕ) (a : LoneKqueue) → (pid ≡ a.owner → ⊥) → a ≡ gone_on (what.Closed pid number) a
 unfolding gone_on

@@ -18,7 +18,7 @@ use Rattle.kq_model.specs.Targets.{Posted}
 use Rattle.kq_model.specs.World.{Call}
 use Rattle.kq_history.specs.Items.{bare_items}
 use Rattle.kq_history.specs.Traced.{Traced, event_at, seen_at}
-use Rattle.kq_replay.specs.Alone.{LoneKqueue, after_items}
+use Rattle.kq_replay.specs.Alone.{LoneKqueue, after_items, heard_in}
 use Rattle.kq_replay.specs.Recorded.{IsCallOf, IsClockOf}
 use Rattle.kq_replay.proofs.AtOnePlace.{Reaches, after-append, answer_of, call-one, clock-one, close-all, first-moves, hear-none, said, said-append, state, tell-all}
 
@@ -70,7 +70,7 @@ module _ (t : Traced) (kqueue owner : ℕ) where
             ∙ call-one t owner c.place x reached.0 reached.1 rows (own x refl).1
             ∙ ap (λ k. state t owner c.place [] (answer_of t owner c.place x k).kq (rows ++ row_of c.place (answer_of t owner c.place x k).reply)) reached.3
             ∙ ap (λ reply. state t owner c.place [] r.kq (rows ++ row_of c.place reply)) (sym (cond-true (eqb x.kqueue kqueue) r.reply Done own_call)),
-        hear-none (seen_at t c.place) r.kq ∙ sym (cond-true (eqb x.kqueue kqueue) r.kq before own_call),
+        hear-none t c.place r.kq ∙ sym (cond-true (eqb x.kqueue kqueue) r.kq before own_call),
       )
 
   -- all that its record says, at its place
@@ -101,10 +101,10 @@ module _ (t : Traced) (kqueue owner : ℕ) where
   -- the same from an earlier place, whose hints are heard first
   pub one-concern : (c : Concern) → IsOwn c → (low : ℕ) (told : List Posted) (kq : Kqueue) (rows : List Row) → eqb c.place low ≡ false
       → Reaches t owner c.place (after_items (bare_items (items_of c)) (state t owner low told kq rows))
-      (kqueue_step kqueue owner (moment_at c) (notified (seen_at t low) told kq))
-      (rows ++ row_of c.place (own_reply kqueue owner (moment_at c) c.call (notified (seen_at t low) told kq)))
+      (kqueue_step kqueue owner (moment_at c) (heard_in t low told kq))
+      (rows ++ row_of c.place (own_reply kqueue owner (moment_at c) c.call (heard_in t low told kq)))
   one-concern c own low told kq rows other =
-      let before = notified (seen_at t low) told kq in
+      let before = heard_in t low told kq in
       let first = first-what c.closed c.hints c.clock c.call own.some in
       let moved : after_items (bare_items (items_of c)) (state t owner low told kq rows) ≡ after_items (bare_items (items_of c)) (state t owner c.place [] before rows) =
       subst (λ ws. after_items (said t owner c.place ws) (state t owner low told kq rows) ≡ after_items (said t owner c.place ws) (state t owner c.place [] before rows)) (sym first.2)

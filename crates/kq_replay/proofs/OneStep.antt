@@ -43,7 +43,7 @@ unfolding arrived
 heard-there place a =
     by_test (λ b. eqb place a.place ≡ b → heard (cond b a (record (heard a) { place = place })) ≡ record (heard a) { place = place })
     (eqb place a.place) (λ _ same. ap (λ p. record (heard a) { place = p }) (sym (eqb-true place a.place same)))
-    (λ _ _. ap (λ kq. record (heard a) { place = place; kq = kq }) (hear-none (seen_at a.trace place) (heard a).kq)) refl
+    (λ _ _. ap (λ kq. record (heard a) { place = place; kq = kq }) (hear-none a.trace place (heard a).kq)) refl
 
 abbrev pub step_at : ℕ → ℕ → ℕ → Item
 step_at place from to = record { place = place; what = what.Clocked from to }
@@ -62,6 +62,6 @@ one-step p q from mid to a first second =
     let between : LoneKqueue = record before { place = p; kq = clock_from from mid before.kq } in
     ap (after_item (step_at q mid to)) (after-step p from mid a)
     ∙ after-step q mid to between
-    ∙ ap (λ kq. record before { place = q; kq = clock_from mid to kq }) (hear-none (seen_at a.trace p) between.kq)
+    ∙ ap (λ kq. record before { place = q; kq = clock_from mid to kq }) (hear-none a.trace p between.kq)
     ∙ ap (λ kq. record before { place = q; kq = kq }) (clock-on from mid to before.kq first second)
     ∙ sym (after-step q from to a)

@@ -12,7 +12,7 @@ use Rattle.kq_model.specs.Moments.{moment_by, moments_from, plans_from, world_by
 use Rattle.kq_model.specs.Objects.{counted}
 use Rattle.kq_model.specs.Plans.{plan}
 use Rattle.kq_model.specs.PrivateList.{Concern, concern_of, concerns, has_item, own_clock, private_by}
-use Rattle.kq_model.specs.References.{Names, names_in, references}
+use Rattle.kq_model.specs.References.{Names, forks_at, names_in, references}
 use Rattle.kq_model.specs.Targets.{Posted}
 use Rattle.kq_model.specs.World.{Call, Impossible, Planned, Possible, World, carried_out, clock_after, empty_world, seen_world}
 use Rattle.kq_model.proofs.KnoteLaws.{by_test}
@@ -177,5 +177,5 @@ module _ (version kqueue owner : ℕ) (ns : Names) where
 
 pub private-onward : (t : Traced) (kqueue owner : ℕ) → Onward 0 (private_items kqueue owner (moments_of t))
 private-onward t kqueue owner =
-    all-onward t.version kqueue owner (names_in (references kqueue owner (moments_of t))) 1 0 (empty_world counted) t.events
+    all-onward t.version kqueue owner (names_in (forks_at (moments_of t)) (references kqueue owner (moments_of t))) 1 0 (empty_world counted) t.events
     (λ timer. refl)

@@ -12,7 +12,7 @@ use Rattle.kq_model.specs.Moment.{Moment, moment_of}
 use Rattle.kq_model.specs.Moments.{moment_by, moments_from, world_by}
 use Rattle.kq_model.specs.Objects.{counted}
 use Rattle.kq_model.specs.PrivateList.{Concern, concern_of, concerns, own_call, own_clock, private_by, private_list}
-use Rattle.kq_model.specs.References.{Names, names_in, references}
+use Rattle.kq_model.specs.References.{Names, forks_at, names_in, references}
 use Rattle.kq_model.specs.World.{Call, World, Planned, Impossible, Possible, empty_world, named_by}
 use Rattle.kq_model.proofs.KnoteLaws.{by_test}
 use Rattle.kq_history.specs.Sayings.{call_of, call_on, clock_of, span_to}
@@ -126,4 +126,4 @@ module _ (t : Traced) where
 
   pub all-own : (kqueue owner : ℕ) → AreOwn t kqueue owner 0 (private_list kqueue owner (moments_of t))
   all-own kqueue owner =
-      are-own kqueue owner (names_in (references kqueue owner (moments_of t))) 0 1 (empty_world counted) _ (omega arith) (each-record t)
+      are-own kqueue owner (names_in (forks_at (moments_of t)) (references kqueue owner (moments_of t))) 0 1 (empty_world counted) _ (omega arith) (each-record t)

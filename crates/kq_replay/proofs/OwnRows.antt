@@ -27,7 +27,7 @@ module _ (t : Traced) where
   alone-replayed place owner =
       item-by-item t place owner (private_list place owner (moments_of t)) 0 [] (empty_kqueue {h = tallying}) [] (all-own t place owner)
       ∙ ap (λ (k : Kqueue). rows_alone {h = tallying} t.version place owner (seen_at t) k (private_list place owner (moments_of t)))
-      (hear-none (seen_at t 0) (empty_kqueue {h = tallying}))
+      (hear-none t 0 (empty_kqueue {h = tallying}))
 
   pub own-rows : (b : Birth) → Contains (births_of t) b
       → (after_items (private_items b.place b.owner (moments_of t)) (unborn t b.owner)).rows ≡ (rows_in_fold t b.place).rows

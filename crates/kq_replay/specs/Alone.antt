@@ -7,6 +7,7 @@ use Rattle.kq_model.specs.Call.{call}
 use Rattle.kq_model.specs.Caller.{Caller}
 use Rattle.kq_model.specs.Clock.{clocked}
 use Rattle.kq_model.specs.Close.{closed}
+use Rattle.kq_model.specs.Following.{followed}
 use Rattle.kq_model.specs.Hints.{notified}
 use Rattle.kq_model.specs.Kqueue.{empty_kqueue}
 use Rattle.kq_model.specs.System.{row_of}
@@ -32,9 +33,12 @@ pub record LoneKqueue : Type 0 where
 abbrev pub unborn : Traced → ℕ → LoneKqueue
 unborn t owner = record { trace = t; owner = owner; place = 0; told = []; kq = empty_kqueue; rows = [] }
 
--- the hints are heard, in the world after their record
+-- the hints that came at a place are heard, in the world after their record, and the children that are followed come
+abbrev pub heard_in : Traced → ℕ → List Posted → Kqueue → Kqueue
+heard_in t place told kq = followed t.version told (notified (seen_at t place) told kq)
+
 abbrev pub heard : LoneKqueue → LoneKqueue
-heard a = record a { told = []; kq = notified (seen_at a.trace a.place) a.told a.kq }
+heard a = record a { told = []; kq = heard_in a.trace a.place a.told a.kq }
 
 -- where an item of this place comes next, those of another place are heard
 unfoldable pub arrived : ℕ → LoneKqueue → LoneKqueue

@@ -54,12 +54,11 @@ impl<'s, 'a> Alone<'s, 'a> {
     {
         let alloc = split.allocator();
         let version = split.version();
-        prove!(version == 1);
         let rows = Vec::with_capacity(alloc, calls).map_err(|_| Memory)?;
         Ok(Alone {
             split,
             place: 0,
-            kq: Kq::new(alloc, owner),
+            kq: Kq::in_version(alloc, owner, version),
             told: Vec::new(alloc),
             rows,
         })
@@ -90,42 +89,43 @@ impl<'s, 'a> Alone<'s, 'a> {
         requires { IsRecorded self.old.trace item }
         ensures { OnOk result (self.new ≡ after_item item self.old) }
     {
-        self.arrive(item.place);
+        self.arrive(item.place)?;
         match item.what {
             What::Closed { pid, number } => {
                 self.close(pid, number);
                 Ok(())
             }
             What::Told { target, hint } => self.tell(target, hint),
-            What::Clocked { from, to } => {
-                self.clock(from, to);
-                Ok(())
-            }
+            What::Clocked { from, to } => self.clock(from, to),
             What::Called { .. } => self.call(),
         }
     }
 
     /// An item of this place comes next.
     #[tactic(auto, unfolding(crate::specs::Alone::arrived))]
-    fn arrive(&mut self, place: u64)
-        ensures { self.new ≡ arrived place self.old }
+    fn arrive(&mut self, place: u64) -> Result<(), Memory>
+        ensures { OnOk result (self.new ≡ arrived place self.old) }
     {
         if place != self.place {
-            self.hear();
+            self.hear()?;
             self.place = place;
         }
+        Ok(())
     }
 
-    /// The hints so far are heard, in the world after their record.
-    fn hear(&mut self)
-        ensures { self.new ≡ heard self.old }
+    /// The hints so far are heard, in the world after their record. Room for the children that are
+    /// followed is made first.
+    fn hear(&mut self) -> Result<(), Memory>
+        ensures { OnOk result (self.new ≡ heard self.old) }
     {
         if self.told.is_empty() {
-            return;
+            return Ok(());
         }
         let views = self.split.at(self.place);
+        self.kq.reserve_to_follow(self.told.as_slice())?;
         self.kq.notify(self.told.as_slice(), &views);
         self.told.clear();
+        Ok(())
     }
 
     /// A number of a process was closed.
@@ -148,14 +148,15 @@ impl<'s, 'a> Alone<'s, 'a> {
 
     /// The clock goes on from a moment to another, in ns.
     #[tactic(auto, unfolding(crate::specs::Alone::gone_on))]
-    fn clock(&mut self, from: u64, to: u64)
+    fn clock(&mut self, from: u64, to: u64) -> Result<(), Memory>
         requires { IsClockOf (event_at self.old.trace self.old.place) from to }
-        ensures { self.new ≡ gone_on (what_of.Clocked from to) self.old }
+        ensures { OnOk result (self.new ≡ gone_on (what_of.Clocked from to) self.old) }
     {
-        self.hear();
+        self.hear()?;
         // The type of a record keeps its moment in range, and that of an item does not.
         let moment = if to <= LAST_MOMENT { to } else { self.moment() };
         self.kq.clock(from, moment);
+        Ok(())
     }
 
     /// The moment to which the record of this place has the clock go on.
@@ -180,7 +181,7 @@ impl<'s, 'a> Alone<'s, 'a> {
             × IsCallOf (event_at self.old.trace self.old.place) changes room }
         ensures { OnOk result (self.new ≡ called (event_at self.old.trace self.old.place) (heard self.old)) }
     {
-        self.hear();
+        self.hear()?;
         let Some(event) = self.split.event(self.place) else {
             unreachable!();
         };

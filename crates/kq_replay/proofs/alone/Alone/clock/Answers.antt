@@ -8,5 +8,5 @@ pub moment-moment-requires : goal.moment-moment-requires
 moment-moment-requires c = (
   c.args.from,
   c.args.to,
-  subst (λ (a : LoneKqueue). IsClockOf (event_at a.trace a.place) c.args.from c.args.to) (sym c.hear.ensures) c.requires,
+  subst (λ (a : LoneKqueue). IsClockOf (event_at a.trace a.place) c.args.from c.args.to) (sym c.in_ok-hear.ensures) c.requires,
 )
