@@ -8,6 +8,8 @@ use Rattle.kq_model.specs.declared.reply.Reply.TheVariants as reply
 use Rattle.kq_model.specs.declared.why.Why.TheVariants.{ClockBack}
 use Rattle.kq_model.specs.Clock.{Span, clocked}
 use Rattle.kq_model.specs.Close.{Pair}
+use Rattle.kq_model.specs.Close as shut
+use Rattle.kq_model.specs.Following.{all_forks}
 use Rattle.kq_model.specs.Hints.{notified}
 use Rattle.kq_model.specs.Moment.{Moment, moment_of, happened, after_call, kqueue_step}
 use Rattle.kq_model.specs.Plans.{plan}
@@ -18,6 +20,7 @@ use Rattle.kq_model.specs.Ticks.{last_moment}
 use Rattle.kq_model.specs.World.{Call, Plan, Planned, Impossible, Possible, carried_out, clock_after, idle}
 use Rattle.kq_process.specs.declared.effect.Effect.{Effect}
 use Rattle.kq_process.specs.Effects.{IsEffectOf, world_after}
+use Rattle.kq_system.proofs.SilentLemmas.{none-follow}
 use Rattle.kq_system.specs.SystemState.{IsStep, ticked}
 use Rattle.kq_system.proofs.QuietLemmas.{all_kept, closed_none, notified_none}
 use Rattle.kq_system.proofs.SystemLemmas.{by_plan, done}
@@ -76,9 +79,9 @@ clock-calls place ns w p planned = (goes place ns w p planned).moves.call
 
 module _ (span : Span) (m : Moment) (closed : m.closed ≡ []) (hints : m.hints ≡ []) (none : m.call ≡ None) (clock : m.clock ≡ Some span) where
   ticks_one : (l : Live) → stepped m l ≡ ticked span l
-  unfolding stepped kqueue_step after_call happened
+  unfolding stepped kqueue_step after_call happened all_forks
   ticks_one l = rw (none, clock, closed, hints)
-      (ap (λ (kq : Kqueue). record l { kq = clocked (Some span) kq }) (ap (notified m.views []) (closed_none l.owner l.kq) ∙ notified_none m.views l.kq))
+      (ap (λ (kq : Kqueue). record l { kq = clocked (Some span) kq }) (none-follow m.version [] (notified m.views [] (shut.closed l.owner [] l.kq)) refl ∙ ap (notified m.views []) (closed_none l.owner l.kq) ∙ notified_none m.views l.kq))
 
   ticks_each : (ls : List Live) → map (stepped m) ls ≡ map (ticked span) ls
   ticks_each [] = refl

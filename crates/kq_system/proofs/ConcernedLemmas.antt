@@ -136,7 +136,7 @@ unheard views posted kq none =
     ap₂ (λ (ks : List Knote) (queue : List Key). let k : Kqueue = record { knotes = ks; queue = queue } in k)
     (knotes_same views posted kq.knotes none) (queue_same views posted kq.knotes kq.queue none)
 
-watched : (o : Option Target) (t : Target) → is_target o t ≡ true → o ≡ Some t
+pub watched : (o : Option Target) (t : Target) → is_target o t ≡ true → o ≡ Some t
 unfolding is_target
 watched None t is = absurd (cc)
 watched (Some w) t is = ap Some (same_target w t is)

@@ -6,6 +6,7 @@ use Rattle.std.specs.Map.Calls.{RetainsPairs}
 use Rattle.kq_model.specs.declared.key.Key.{Key}
 use Rattle.kq_model.specs.Close.{Pair, closed, has_pair, is_closed}
 use Rattle.kq_model.specs.Clock.{clocked}
+use Rattle.kq_model.specs.Following.{all_forks}
 use Rattle.kq_model.specs.Hints.{notified}
 use Rattle.kq_model.specs.Knote.{watches_number}
 use Rattle.kq_model.specs.Moment.{Moment, after_call, happened, kqueue_step}
@@ -14,6 +15,7 @@ use Rattle.kq_model.specs.Tallied.{Knote, Kqueue, Live}
 use Rattle.kq_model.specs.Targets.{Posted}
 use Rattle.kq_model.specs.Views.{Views}
 use Rattle.kq_process.specs.Effects.{pair_of, pairs_in}
+use Rattle.kq_system.proofs.SilentLemmas.{none-follow}
 use Rattle.kq_system.specs.SystemState.{AreOfVersion, AreUpTo, HaveStayed, NumberedKqueue, goes_on, happened_to, happened_to_all, live_of}
 use Rattle.kq_system.proofs.CallLemmas.{same_live}
 use Rattle.kq_system.proofs.QuietLemmas.{all_kept, closed_none, notified_none}
@@ -217,11 +219,13 @@ pub record IsTold (pairs : List Pair) (hints : List Posted) (views : Views) (m :
   pub views_is : m.views ≡ views
   pub clock : m.clock ≡ None
   pub call : m.call ≡ None
+  pub silent : all_forks hints ≡ []
 
 told_one : (pairs : List Pair) (hints : List Posted) (views : Views) (m : Moment) (l : Live)
     → IsTold pairs hints views m → stepped m l ≡ happened_to pairs hints views l
 unfolding stepped kqueue_step after_call happened clocked
-told_one pairs hints views m l told = rw (told.call, told.clock, told.closed_is, told.hints_is, told.views_is) refl
+told_one pairs hints views m l told = rw (told.call, told.clock, told.closed_is, told.hints_is, told.views_is)
+    (ap (λ (kq : Kqueue). record l { kq = kq }) (none-follow m.version hints (notified views hints (closed l.owner pairs l.kq)) told.silent))
 
 told_each : (pairs : List Pair) (hints : List Posted) (views : Views) (m : Moment) (ls : List Live)
     → IsTold pairs hints views m → map (stepped m) ls ≡ map (happened_to pairs hints views) ls

@@ -1,3 +1,4 @@
+pub mod SilentLemmas
 pub mod QuietLemmas
 pub mod CallLemmas
 pub mod SystemLemmas
@@ -15,3 +16,6 @@ pub mod ConcernedLemmas
 pub mod FoundLemmas
 pub mod RenewLemmas
 pub mod WatchedRuns
+pub mod ForkLemmas
+pub mod PrepareLemmas
+pub mod FollowLemmas

@@ -97,6 +97,16 @@ module _ (round : ℕ) (Told : NumberedKqueue → NumberedKqueue → Type 0) whe
     up_to = λ most all. up_to most es ns passed all;
   }
 
+  pub shown_kept : (last : ℕ) → last < round → (v w : NumberedKqueue) → IsPassed round Told v w → v.shown ≤ last
+      → w.shown ≤ round
+  shown_kept last later v w passed le =
+      by_test (λ b. nat_eq w.shown round ≡ b → w.shown ≤ round) (nat_eq w.shown round)
+      (λ _ is. grind (arith, nat_tests))
+      (λ _ other.
+      let unseen : w.shown ≡ round → ⊥ = λ same. grind (arith, nat_tests) in
+      let same : w.shown ≡ v.shown = ap (λ (x : NumberedKqueue). x.shown) (passed.unseen unseen) in
+      omega (arith, same, le, later)) refl
+
   -- what the record leaves as it was of the subjects of knotes, it leaves in all
   module _ (keeps : (P : Filter → ℕ → Option Target → Type 0) (v w : NumberedKqueue) → Told v w → w.ended ≡ false
       → HaveSubjects P v.kq.kq.knotes → HaveSubjects P w.kq.kq.knotes) where
@@ -124,15 +134,6 @@ module _ (round : ℕ) (Told : NumberedKqueue → NumberedKqueue → Type 0) whe
       pair_each P Q [] first second = tt
       pair_each P Q (e ∷ es) first second = ((first.0, second.0), pair_each P Q es first.1 second.1)
 
-      shown_kept : (v w : NumberedKqueue) → IsPassed round Told v w → v.shown ≤ last → w.shown ≤ round
-      shown_kept v w passed le =
-          by_test (λ b. nat_eq w.shown round ≡ b → w.shown ≤ round) (nat_eq w.shown round)
-          (λ _ is. grind (arith, nat_tests))
-          (λ _ other.
-          let unseen : w.shown ≡ round → ⊥ = λ same. grind (arith, nat_tests) in
-          let same : w.shown ≡ v.shown = ap (λ (x : NumberedKqueue). x.shown) (passed.unseen unseen) in
-          omega (arith, same, le, later)) refl
-
       pub found_after : (es ns : Entries) (spare spare' : ℕ) (prepared : Option (ℕ × ℕ))
           → AreFound es spare prepared owned watching last → ArePassed round Told es ns
           → AreFound (filter stands ns) spare' None owned watching round
@@ -144,7 +145,7 @@ module _ (round : ℕ) (Told : NumberedKqueue → NumberedKqueue → Type 0) whe
             (λ k v w was stays has. subjects_kept (IsListed k watching) v w was stays has.0 has.1) es ns passed
             (pair_each (λ place v. v.shown ≡ round → ⊥) Watches es (not_yet round last later es found.shown) found.by_target);
         shown = all_keep (λ place v. v.shown ≤ last) (λ place w. w.shown ≤ round)
-            (λ k v w was _ le. shown_kept v w was le) es ns passed found.shown;
+            (λ k v w was _ le. shown_kept last later v w was le) es ns passed found.shown;
         standing = all_keep (λ place v. v.ended ≡ false) (λ place w. w.ended ≡ false) (λ k v w was stays _. stays)
             es ns passed found.standing;
         room = λ birth is. absurd (cc);

@@ -3,6 +3,7 @@ use Rattle.std.proofs.Common.{◌≡◌, ◌∙◌, ◌==◌, ◌&&◌, ℕ, Boo
 use Rattle.kq_model.specs.declared.key.Key.{Key}
 use Rattle.kq_model.specs.Close.{closed, has_pair, is_closed}
 use Rattle.kq_model.specs.Descriptors.{Descriptor, without_closed}
+use Rattle.kq_model.specs.Following.{all_forks}
 use Rattle.kq_model.specs.Hints.{if_there, knotes_noticing, noticed, notified, queue_after_all, queue_noticing}
 use Rattle.kq_model.specs.Clock.{clocked}
 use Rattle.kq_model.specs.Knote.{watches_number}
@@ -11,6 +12,7 @@ use Rattle.kq_model.specs.System.{lived, stepped}
 use Rattle.kq_model.specs.Tallied.{Knote, Kqueue, Live}
 use Rattle.kq_model.specs.Views.{Views}
 use Rattle.kq_model.specs.World.{Call}
+use Rattle.kq_system.proofs.SilentLemmas.{none-follow}
 use Rattle.kq_system.specs.SystemState.{IsQuiet}
 
 pub all_kept : {X : Type 0} (p : X → Bool) (xs : List X) → ((x : X) → p x ≡ true) → filter p xs ≡ xs
@@ -49,9 +51,10 @@ notified_none views kq =
     (knotes_kept views kq.knotes) (queue_kept views kq.knotes kq.queue)
 
 pub unhappened : (m : Moment) (owner : ℕ) (kq : Kqueue) → IsQuiet m → happened owner m kq ≡ kq
-unfolding happened clocked
+unfolding happened clocked all_forks
 unhappened m owner kq quiet = rw (quiet.closed, quiet.hints, quiet.clock)
-    (ap (notified m.views []) (closed_none owner kq) ∙ notified_none m.views kq)
+    (none-follow m.version [] (notified m.views [] (closed owner [] kq)) refl
+    ∙ ap (notified m.views []) (closed_none owner kq) ∙ notified_none m.views kq)
 
 -- ---- one live kqueue
 

@@ -2,6 +2,8 @@
 use Rattle.std.proofs.Common.{◌≡◌, ◌∙◌, ◌+◌, ◌++◌, ◌||◌, ℕ, Bool, true, false, not, cond, List, map, length, nat_lt, Option, None, Some, Result, Ok, Err, IsOk, OnErr, is_some, refl, sym, ap, subst, append-nil, arith}
 use Rattle.std.proofs.lemmas.List.Elements.{All-weaker}
 use Rattle.std.specs.Map.{keys_of}
+use Rattle.kq_model.specs.Following.{all_forks}
+use Rattle.kq_model.proofs.BornFirst.{silent-records}
 use Rattle.kq_model.specs.declared.change.Change.{Change}
 use Rattle.kq_model.specs.declared.event.Event.{Event}
 use Rattle.kq_model.specs.declared.event.Event.TheVariants as event
@@ -47,7 +49,6 @@ pub lawful_after : (version applied : ℕ) (w w' : code.World) (es es' : List (�
     → AllWatchTheirNumbers (record { version = version; world = world_of w'; live = map live_of es' })
     → IsCountedWorld (applied + 1 + 1) (world_of w') → IsLawful version (applied + 1) w' es'
 lawful_after version applied w w' es es' old stayed live watched counted = record {
-  version_one = old.version_one;
   of_version = stayed.of_version version old.of_version;
   born = stayed.up_to (applied + 1) (up_to_more applied (applied + 1) (keys_of es) (omega arith) old.born);
   all_live = live;
@@ -60,7 +61,6 @@ pub lawful_unchanged : (version applied : ℕ) (w w' : code.World) (es es' : Lis
     → IsLawful version applied w es → world_of w' ≡ world_of w → es' ≡ es → IsLawful version applied w' es'
 lawful_unchanged version applied w w' es es' old same entries =
     subst (λ (l : List (ℕ × NumberedKqueue)). IsLawful version applied w' l) (sym entries) (record {
-      version_one = old.version_one;
       of_version = old.of_version;
       born = old.born;
       all_live = subst (λ (v : World). AreAllLive (record { version = version; world = v; live = map live_of es }))
@@ -76,7 +76,6 @@ pub lawful_same : (version applied : ℕ) (w : code.World) (es es' : List (ℕ �
     → IsLawful version applied w es → HaveStayed es es' → map live_of es' ≡ map live_of es
     → IsLawful version applied w es'
 lawful_same version applied w es es' old stayed same = record {
-  version_one = old.version_one;
   of_version = stayed.of_version version old.of_version;
   born = stayed.up_to applied old.born;
   all_live = subst (λ (ls : List Live). AreAllLive (record { version = version; world = world_of w; live = ls }))
@@ -100,16 +99,17 @@ refused_step place e old w why is world =
 -- ---- records that call nothing and make nothing
 
 pub happened_step : (place : ℕ) (e : Event) (old : System) (effect : Effect) (w : World) (live : List Live) → IsPlain e
+    → ((pid child : ℕ) → e ≡ event.Fork pid child → ⊥)
     → IsEffectOf (plan place e old.world) effect → IsOk effect.verdict
     → w ≡ world_after place (plan place e old.world) old.world
     → live ≡ happened_to_all (pairs_in effect.closed) effect.hints (views_of w) old.live
     → IsStep place e old (record old { world = w; live = live }) reply.Done
 unfolding born
-happened_step place e old effect w live plain is ok world lives =
+happened_step place e old effect w live plain no_fork is ok world lives =
     let d = done (plan place e old.world) effect is ok in
     let p = d.plan_is in
     told place e p old w live (pairs_in effect.closed) effect.hints d.is d.closed_is d.hints_is
-    (plain.clock place old.world p d.is) (plain.call place old.world p d.is)
+    (plain.clock place old.world p d.is) (plain.call place old.world p d.is) (ap all_forks d.hints_is ∙ silent-records place e old.world p no_fork d.is)
     (world ∙ ap (λ (q : Planned). world_after place q old.world) d.is)
     (lives ∙ sym (append-nil _) ∙ ap (λ (b : Option Pair). happened_to_all (pairs_in effect.closed) effect.hints
     (views_of w) old.live ++ born place b) (sym (plain.born place old.world p d.is)))

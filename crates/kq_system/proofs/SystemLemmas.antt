@@ -1,5 +1,6 @@
 -- One step of the system by its plan.
-use Rattle.std.proofs.Common.{◌≡◌, ◌∙◌, ℕ, List, ◌++◌, Option, None, Some, Result, Ok, Err, IsOk, refl, sym, ap, ap₂, subst, append-nil}
+use Rattle.std.proofs.Common.{[], ◌≡◌, ◌∙◌, ℕ, List, ◌++◌, Option, None, Some, Result, Ok, Err, IsOk, refl, sym, ap, ap₂, subst, append-nil}
+use Rattle.kq_model.specs.Following.{all_forks}
 use Rattle.kq_model.specs.declared.event.Event.{Event}
 use Rattle.kq_model.specs.declared.reply.Reply.{Reply}
 use Rattle.kq_model.specs.declared.reply.Reply.TheVariants as reply
@@ -112,27 +113,28 @@ done (Possible p) e is ok = record { plan_is = p; is = refl; closed_is = is.clos
 
 -- what is told at the moment of such a plan
 told_at : (version place : ℕ) (p : Plan) (w w' : World) (closed : List Pair) (hints : List Posted)
-    → closed ≡ p.closed → hints ≡ p.hints → p.clock ≡ None → p.call ≡ None → w' ≡ carried_out place p w
+    → closed ≡ p.closed → hints ≡ p.hints → p.clock ≡ None → p.call ≡ None → all_forks hints ≡ [] → w' ≡ carried_out place p w
     → IsTold closed hints (views_of w') (moment_of version place p w)
 unfolding moment_of
-told_at version place p w w' closed hints same_closed same_hints clock call world = record {
+told_at version place p w w' closed hints same_closed same_hints clock call silent world = record {
   closed_is = sym same_closed;
   hints_is = sym same_hints;
   views_is = ap views_of (seen-counted (carried_out place p w) ∙ sym world);
   clock = clock;
   call = call;
+  silent = silent;
 }
 
 pub told : (place : ℕ) (e : Event) (p : Plan) (old : System) (w : World) (live : List Live) (closed : List Pair)
     (hints : List Posted) → plan place e old.world ≡ Possible p
-    → closed ≡ p.closed → hints ≡ p.hints → p.clock ≡ None → p.call ≡ None → w ≡ carried_out place p old.world
+    → closed ≡ p.closed → hints ≡ p.hints → p.clock ≡ None → p.call ≡ None → all_forks hints ≡ [] → w ≡ carried_out place p old.world
     → live ≡ happened_to_all closed hints (views_of w) old.live ++ born place p.born
     → IsStep place e old (record old { world = w; live = live }) reply.Done
 unfolding step_by reply_to
-told place e p old w live closed hints is same_closed same_hints clock call world lives =
+told place e p old w live closed hints is same_closed same_hints clock call silent world lives =
     let m = moment_of old.version place p old.world in
     let all = told_all closed hints (views_of w) m old.live
-    (told_at old.version place p old.world w closed hints same_closed same_hints clock call world) in
+    (told_at old.version place p old.world w closed hints same_closed same_hints clock call silent world) in
     by_plan place e (Possible p) old (record old { world = w; live = live }) reply.Done is (
       ap₂ (λ (w : World) (ls : List Live). record old { world = w; live = ls }) world
           (lives ∙ ap (λ ls. ls ++ born place p.born) (sym all)),

@@ -1,3 +1,4 @@
 pub mod SystemState
 pub mod Places
 pub mod Showing
+pub mod Forking

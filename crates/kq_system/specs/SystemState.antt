@@ -9,6 +9,7 @@ use Rattle.kq_model.specs.declared.why.Why.{Why}
 use Rattle.kq_model.specs.Clock.{Span, clocked}
 use Rattle.kq_model.specs.Close.{Pair, closed, has_pair}
 use Rattle.kq_model.specs.CountedWorld.{IsCountedWorld}
+use Rattle.kq_model.specs.Following.{followed}
 use Rattle.kq_model.specs.Hints.{notified}
 use Rattle.kq_model.specs.LiveKqueues.{AreAllLive}
 use Rattle.kq_model.specs.Moment.{Moment}
@@ -112,6 +113,10 @@ goes_on pairs l = not (has_pair l.owner l.number pairs)
 abbrev pub happened_to_all : List Pair → List Posted → Views → List Live → List Live
 happened_to_all pairs hints views live = map (happened_to pairs hints views) (filter (goes_on pairs) live)
 
+-- a kqueue that hears of a fork, and then follows the child: none of its numbers is closed
+abbrev pub followed_to : ℕ → List Posted → Views → Live → Live
+followed_to version hints views l = record l { kq = followed version hints (notified views hints l.kq) }
+
 -- ---- what every system of the code keeps
 
 -- the numbers are at most this one
@@ -130,7 +135,6 @@ pub record HaveStayed (old new : List (ℕ × NumberedKqueue)) : Type 0 where
   pub up_to : (most : ℕ) → AreUpTo most (keys_of old) → AreUpTo most (keys_of new)
 
 pub record IsLawful (version applied : ℕ) (world : code.World) (live : List (ℕ × NumberedKqueue)) : Type 0 where
-  pub version_one : version ≡ 1
   pub of_version : AreOfVersion version live
   -- no place of birth is later than the last event
   pub born : AreUpTo applied (keys_of live)

@@ -2,6 +2,7 @@
 ghost use Rattle.std.specs.Prelude.{◌≡◌, ◌++◌, ◌<◌, ◌≤◌, ℕ, [], map, true, nat_eq, None, Some, All, IfOk, IfSome, OnErr, OnOk};
 ghost use Rattle.std.specs.Map.{keys_of, lookup};
 ghost use Rattle.kq_model.specs.declared.object.Target.TheVariants.{Own};
+ghost use Rattle.kq_model.specs.Following.{all_forks};
 ghost use Rattle.kq_model.specs.Moment.{Moment};
 ghost use Rattle.kq_model.specs.System.{born};
 ghost use Rattle.kq_model.specs.Ticks.{last_moment};
@@ -30,6 +31,7 @@ pub fn happen_to_all<V: Views>(
     hints: &[(Target, Hint)],
     views: &V,
 )
+    requires { all_forks hints.now ≡ [] }
     ensures happened { map live_of live.new.entries
         ≡ happened_to_all (pairs_in pairs.now) hints.now (V.sees views.now) (map live_of live.old.entries) }
     ensures stayed { HaveStayed live.old.entries live.new.entries }
@@ -163,18 +165,18 @@ fn prepare_one(live: &mut Kqueues, wanted: bool, place: u64, pid: u32) -> Result
     Ok(())
 }
 
-/// A kqueue is made by the record at a place, later than all others.
-pub fn bear(live: &mut Kqueues, place: u64, pid: u32, number: u32)
+/// A kqueue that goes by this version of the trace's format is made by the record at a place, later than all others.
+pub fn bear(live: &mut Kqueues, version: u32, place: u64, pid: u32, number: u32)
     requires ready { live.old.ready ≡ Some (place, pid) }
     requires absent { lookup (nat_eq place) live.old.entries ≡ None }
     ensures born { map live_of live.new.entries
         ≡ map live_of live.old.entries ++ born place (Some (record { pid = pid; number = number })) }
-    ensures version { AreOfVersion 1 live.old.entries → AreOfVersion 1 live.new.entries }
+    ensures version { AreOfVersion version live.old.entries → AreOfVersion version live.new.entries }
     ensures up_to { (most : ℕ) → place ≤ most → AreUpTo most (keys_of live.old.entries)
         → AreUpTo most (keys_of live.new.entries) }
 {
     live.ready = None;
-    let kq = Kq::new(*live.live.allocator(), pid);
+    let kq = Kq::in_version(*live.live.allocator(), pid, version);
     let one = Live {
         number,
         ended: false,

@@ -3,6 +3,7 @@ ghost use Rattle.kq_model.specs.ClosedNumbers.{AlwaysClosesAll};
 ghost use Rattle.kq_model.specs.Hearing.{listed};
 ghost use Rattle.kq_model.specs.Objects as objects;
 ghost use Rattle.kq_model.specs.System.{empty_system, row_of, rows};
+ghost use Rattle.kq_model.specs.VersionOne as one;
 ghost use Rattle.kq_model.specs.WatchedNumbers.{AlwaysWatchTheirNumbers};
 
 use crate::System;
@@ -15,6 +16,9 @@ impl System {
     /// behind that watches its number, and the others go on to watch what their numbers name.
     pub fn run(alloc: Global, trace: &Trace) -> Result<Vec<Row>, Memory>
         ensures rows { IfOk result (λ rs. rs.items ≡ rows trace.now.version trace.now.events) }
+
+        // In version 1 of the trace's format these are the rows that it gave while it had no other.
+        ensures version_one { trace.now.version ≡ 1 → IfOk result (λ rs. rs.items ≡ one.rows 1 trace.now.events) }
 
         // After each record no kqueue has a READ, WRITE or VNODE knote of a number that it closed.
         ensures closed { AlwaysClosesAll 1

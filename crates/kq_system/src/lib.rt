@@ -4,6 +4,7 @@
 
 mod all_live;
 mod fold;
+mod following;
 mod index;
 mod kqueues;
 mod live;

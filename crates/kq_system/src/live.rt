@@ -1,6 +1,7 @@
 ghost use Rattle.std.specs.Prelude.{◌≡◌, ◌≤◌, ◌==◌, ◌&&◌, ◌∷◌, [], Some, not, true};
 ghost use Rattle.kq_model.specs.Clock.{clocked};
 ghost use Rattle.kq_model.specs.Close.{closed, has_pair};
+ghost use Rattle.kq_model.specs.Following.{all_forks};
 ghost use Rattle.kq_model.specs.Hints.{notified};
 ghost use Rattle.kq_model.specs.Ticks.{last_moment};
 ghost use Rattle.kq_process.specs.Effects.{pair_of, pairs_in};
@@ -40,6 +41,7 @@ impl Live {
         hints: &[(Target, Hint)],
         views: &V,
     ) -> bool
+        requires { all_forks hints.now ≡ [] }
         ensures goes_on { result ≡ not (has_pair self.old.kq.owner self.old.number (pairs_in pairs.now)) }
         ensures kq { result ≡ true → self.new.kq.kq ≡ notified (V.sees views.now) hints.now
             (closed self.old.kq.owner (pairs_in pairs.now) self.old.kq.kq) }
@@ -65,6 +67,7 @@ impl Live {
         hints: &[(Target, Hint)],
         views: &V,
     ) -> bool
+        requires { all_forks hints.now ≡ [] }
         ensures passed { IsPassed round (IsTold (pairs_in pairs.now) hints.now (V.sees views.now)) self.old self.new }
         ensures seen { self.new.shown ≡ round }
         ensures ended { result ≡ self.new.ended }

@@ -1,5 +1,6 @@
 // How the kqueues that a record concerns are shown it, each once.
-ghost use Rattle.std.specs.Prelude.{◌≡◌, ◌||◌, false, filter, nat_eq, not};
+ghost use Rattle.std.specs.Prelude.{◌≡◌, ◌||◌, [], false, filter, nat_eq, not};
+ghost use Rattle.kq_model.specs.Following.{all_forks};
 ghost use Rattle.kq_process.specs.Effects.{pairs_in};
 ghost use Rattle.kq_system.specs.Places.{has_place};
 ghost use Rattle.kq_system.specs.Showing.{AreShown, Each, IsTold, asks_owned, asks_watching};
@@ -25,6 +26,7 @@ fn show_one<V: Views>(
     hints: &[(Target, Hint)],
     views: &V,
 ) -> bool
+    requires { all_forks hints.now ≡ [] }
     ensures { AreShown round (IsTold (pairs_in pairs.now) hints.now (V.sees views.now)) (λ p. nat_eq p place) result
         live.old.entries live.new.entries }
 {
@@ -43,6 +45,7 @@ fn show_each<V: Views>(
     hints: &[(Target, Hint)],
     views: &V,
 ) -> bool
+    requires { all_forks hints.now ≡ [] }
     ensures { AreShown round (IsTold (pairs_in pairs.now) hints.now (V.sees views.now)) (λ p. has_place p places.now) result
         live.old.entries live.new.entries }
 {
@@ -64,6 +67,7 @@ pub fn show_concerned<V: Views>(
     hints: &[(Target, Hint)],
     views: &V,
 ) -> bool
+    requires { all_forks hints.now ≡ [] }
     ensures { AreShown round (IsTold (pairs_in pairs.now) hints.now (V.sees views.now))
         (λ p. asks_owned owned.now.table pairs.now p || asks_watching watching.now.table hints.now p) result
         live.old.entries live.new.entries }
@@ -92,6 +96,7 @@ fn show_owned<V: Views>(
     hints: &[(Target, Hint)],
     views: &V,
 ) -> bool
+    requires { all_forks hints.now ≡ [] }
     ensures { AreShown round (IsTold (pairs_in pairs.now) hints.now (V.sees views.now))
         (asks_owned owned.now.table pairs.now) result live.old.entries live.new.entries }
 {
@@ -113,6 +118,7 @@ fn show_watching<V: Views>(
     hints: &[(Target, Hint)],
     views: &V,
 ) -> bool
+    requires { all_forks hints.now ≡ [] }
     ensures { AreShown round (IsTold (pairs_in pairs.now) hints.now (V.sees views.now))
         (asks_watching watching.now.table hints.now) result live.old.entries live.new.entries }
 {

@@ -2,6 +2,7 @@ ghost use Rattle.std.specs.Prelude.{◌≡◌, ◌+◌, ◌-◌, ◌^◌, ◌<�
 ghost use Rattle.kq_model.specs.declared.object.Named.TheVariants as named_as;
 
 use crate::all_live::{bear, call_on, happen_to_all, reserve_one, tick_all};
+use crate::following::fork_all;
 use crate::kqueues::Kqueues;
 use kq_model::{Change, Event, Memory, Named, Reply};
 use kq_process::World;
@@ -33,12 +34,13 @@ impl Model for System {
 }
 
 impl System {
+    ghost use Rattle.kq_model.specs.Limits.{IsVersion};
     ghost use Rattle.kq_model.specs.System.{empty_system};
     ghost use Rattle.kq_system.specs.SystemState.{system_of};
 
-    /// The system before the first record of a trace of this version, which is 1.
+    /// The system before the first record of a trace of this version, which is 1 or 2.
     pub fn new(alloc: Global, version: u32) -> Result<Self, Memory>
-        requires { version ≡ 1 }
+        requires { IsVersion version }
         ensures system { IfOk result (λ s. system_of s ≡ empty_system version) }
         ensures applied { IfOk result (λ s. s.applied ≡ 0) }
     {
@@ -128,6 +130,7 @@ impl System {
                 room,
             } => self.call(*pid, *fd, changes.as_slice(), *room),
             Event::Clock { ns } => self.tick(event, *ns),
+            Event::Fork { pid, child } => self.fork(event, *pid, *child),
             _ => self.happen(event),
         }
     }
@@ -158,6 +161,7 @@ impl System {
     fn happen(&mut self, event: &Event) -> Result<Reply, Memory>
         requires applied { self.old.applied < 2 ^ 31 - 1 }
         requires plain { IsPlain event.now }
+        requires no_fork { (pid child : ℕ) → event.now ≡ event_of.Fork pid child → ⊥ }
         ensures reply { IfOk result
             (IsStep (self.old.applied + 1) event.now (system_of self.old) (system_of self.new)) }
         ensures applied { IfOk result (λ _. self.new.applied ≡ self.old.applied + 1) }
@@ -176,6 +180,26 @@ impl System {
             effect.hints.as_slice(),
             &self.world,
         );
+        Ok(Reply::Done)
+    }
+
+    /// A process forks a child, which the knotes follow that track the process. All memory is asked for
+    /// before the world's step.
+    fn fork(&mut self, event: &Event, pid: u32, child: u32) -> Result<Reply, Memory>
+        requires applied { self.old.applied < 2 ^ 31 - 1 }
+        requires event { event.now ≡ event_of.Fork pid child }
+        ensures reply { IfOk result
+            (IsStep (self.old.applied + 1) event.now (system_of self.old) (system_of self.new)) }
+        ensures applied { IfOk result (λ _. self.new.applied ≡ self.old.applied + 1) }
+        ensures memory { OnErr result (IsUnchanged self.old self.new) }
+        ensures possible { OnErr result (IsPossible (plan (self.old.applied + 1) event.now (world_of self.old.world))) }
+    {
+        let place = self.applied + 1;
+        let effect = fork_all(&mut self.live, &mut self.world, place, event, pid, child)?;
+        self.applied = place;
+        if let Err(why) = effect.verdict {
+            return Ok(Reply::Impossible(why));
+        }
         Ok(Reply::Done)
     }
 
@@ -205,7 +229,7 @@ impl System {
         if let Err(why) = effect.verdict {
             return Ok(Reply::Impossible(why));
         }
-        bear(&mut self.live, place, pid, number);
+        bear(&mut self.live, self.version, place, pid, number);
         Ok(Reply::Done)
     }
 

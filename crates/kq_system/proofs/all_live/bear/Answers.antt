@@ -17,7 +17,7 @@ pub returns-clause-born : goal.returns-clause-born
 unfolding born
 returns-clause-born c =
     let es = c.live.inside.live.entries in
-    let v : NumberedKqueue = record { number = c.args.number; kq = c.new-kq.result; shown = 0; ended = false } in
+    let v : NumberedKqueue = record { number = c.args.number; kq = c.in_version-kq.result; shown = 0; ended = false } in
     let grown : c.insert.new.self.entries ≡ es ++ (c.args.place, v) ∷ [] =
     c.in-Ok.ensures.entries ∙ insert_entry-new nat_eq c.live.inside.live c.args.place v
     (ap (λ (l : LiveKqueues). lookup (nat_eq c.args.place) l.entries) c.live.view_is ∙ c.requires.absent) in
@@ -27,8 +27,8 @@ returns-clause-born c =
       number = c.args.number;
       kq = empty_kqueue;
     } =
-    same_live c.args.place c.new-kq.result.owner c.args.pid c.args.number c.args.number c.new-kq.result.kq
-    empty_kqueue c.new-kq.ensures.owner refl c.new-kq.ensures.kq in
+    same_live c.args.place c.in_version-kq.result.owner c.args.pid c.args.number c.args.number c.in_version-kq.result.kq
+    empty_kqueue c.in_version-kq.ensures.owner refl c.in_version-kq.ensures.kq in
     ap (map live_of) grown ∙ map-append live_of es ((c.args.place, v) ∷ [])
     ∙ ap (λ (l : Live). map live_of es ++ l ∷ []) one
     ∙ ap (λ (l : LiveKqueues). map live_of l.entries ++ born c.args.place (Some (record { pid = c.args.pid; number = c.args.number })))
@@ -37,17 +37,17 @@ returns-clause-born c =
 pub returns-clause-version : goal.returns-clause-version
 returns-clause-version c = λ all.
     let es = c.live.inside.live.entries in
-    let v : NumberedKqueue = record { number = c.args.number; kq = c.new-kq.result; shown = 0; ended = false } in
+    let v : NumberedKqueue = record { number = c.args.number; kq = c.in_version-kq.result; shown = 0; ended = false } in
     let grown : c.insert.new.self.entries ≡ es ++ (c.args.place, v) ∷ [] =
     c.in-Ok.ensures.entries ∙ insert_entry-new nat_eq c.live.inside.live c.args.place v
     (ap (λ (l : LiveKqueues). lookup (nat_eq c.args.place) l.entries) c.live.view_is ∙ c.requires.absent) in
-    subst (AreOfVersion 1) (sym grown) (version_push 1 es (c.args.place, v)
-    (subst (λ (l : LiveKqueues). AreOfVersion 1 l.entries) (sym c.live.view_is) all) c.new-kq.ensures.version)
+    subst (AreOfVersion c.args.version) (sym grown) (version_push c.args.version es (c.args.place, v)
+    (subst (λ (l : LiveKqueues). AreOfVersion c.args.version l.entries) (sym c.live.view_is) all) c.in_version-kq.ensures.version)
 
 pub returns-clause-up_to : goal.returns-clause-up_to
 returns-clause-up_to c = λ most le all.
     let es = c.live.inside.live.entries in
-    let v : NumberedKqueue = record { number = c.args.number; kq = c.new-kq.result; shown = 0; ended = false } in
+    let v : NumberedKqueue = record { number = c.args.number; kq = c.in_version-kq.result; shown = 0; ended = false } in
     let grown : c.insert.new.self.entries ≡ es ++ (c.args.place, v) ∷ [] =
     c.in-Ok.ensures.entries ∙ insert_entry-new nat_eq c.live.inside.live c.args.place v
     (ap (λ (l : LiveKqueues). lookup (nat_eq c.args.place) l.entries) c.live.view_is ∙ c.requires.absent) in
@@ -67,14 +67,14 @@ pub invariant_of-live : goal.invariant_of-live
 invariant_of-live c =
     let old = c.live.inside in
     let es = old.live.entries in
-    let v : NumberedKqueue = record { number = c.args.number; kq = c.new-kq.result; shown = 0; ended = false } in
+    let v : NumberedKqueue = record { number = c.args.number; kq = c.in_version-kq.result; shown = 0; ended = false } in
     let grown : c.insert.new.self.entries ≡ es ++ (c.args.place, v) ∷ [] =
     c.in-Ok.ensures.entries ∙ insert_entry-new nat_eq old.live c.args.place v
     (ap (λ (l : LiveKqueues). lookup (nat_eq c.args.place) l.entries) c.live.view_is ∙ c.requires.absent) in
-    let ready : old.ready ≡ Some (c.args.place, c.new-kq.result.owner) =
+    let ready : old.ready ≡ Some (c.args.place, c.in_version-kq.result.owner) =
     ap (λ (l : LiveKqueues). l.ready) c.live.view_is ∙ c.requires.ready
-    ∙ ap (λ pid. Some (c.args.place, pid)) (sym c.new-kq.ensures.owner) in
+    ∙ ap (λ pid. Some (c.args.place, pid)) (sym c.in_version-kq.ensures.owner) in
     subst (λ (es : Entries). AreFound es (spare c.insert.new.self) None old.owned.table old.watching.table old.round)
     (sym grown)
     (found_born old.watching.table old.round es (spare old.live) old.ready old.owned.table (spare c.insert.new.self)
-    c.args.place v c.live.invariant ready (ap (λ (k : Kqueue). k.knotes) c.new-kq.ensures.kq) refl refl)
+    c.args.place v c.live.invariant ready (ap (λ (k : Kqueue). k.knotes) c.in_version-kq.ensures.kq) refl refl)

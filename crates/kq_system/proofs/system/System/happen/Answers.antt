@@ -1,6 +1,8 @@
-use Rattle.std.proofs.Common.{◌∙◌, ◌+◌, ℕ, List, IsOk, map, refl, sym, ap₂, subst}
+use Rattle.std.proofs.Common.{◌∙◌, ◌+◌, ℕ, List, IsOk, map, refl, sym, ap, ap₂, subst}
 use Rattle.kq_model.specs.declared.reply.Reply.TheVariants as reply
+use Rattle.kq_model.specs.Following.{all_forks}
 use Rattle.kq_model.specs.Plans.{plan}
+use Rattle.kq_model.proofs.BornFirst.{silent-records}
 use Rattle.kq_model.specs.Targets.{Posted}
 use Rattle.kq_model.specs.World.{views_of}
 use Rattle.kq_process.specs.Effects.{pairs_in}
@@ -8,7 +10,7 @@ use Rattle.kq_process.specs.World.{world_of}
 use Rattle.kq_system.specs.SystemState.{IsStep, SystemState, happened_to_all, live_of, state_of, system_of}
 use Rattle.kq_system.proofs.HappenLemmas.{stayed_same}
 use Rattle.kq_system.proofs.StepLemmas.{happened_step, lawful_after, lawful_unchanged, refused_step}
-use Rattle.kq_system.proofs.SystemLemmas.{refused, stays_live, stays_watched}
+use Rattle.kq_system.proofs.SystemLemmas.{done, refused, stays_live, stays_watched}
 use Rattle.kq_system.proofs.system.System.happen.Goals as goal
 
 pub invariant_of-self : goal.invariant_of-self
@@ -54,7 +56,7 @@ invariant_of-self-2 c =
     let effect = c.in_ok-effect.effect in
     let ok : IsOk effect.verdict = subst IsOk (sym c.in_default.is) refl in
     let steps = happened_step place e (system_of s) effect (world_of c.apply.new.self)
-    (map live_of c.happen_to_all.new.live.entries) c.requires.plain c.in_ok-effect.ensures.effect ok
+    (map live_of c.happen_to_all.new.live.entries) c.requires.plain c.requires.no_fork c.in_ok-effect.ensures.effect ok
     c.in_ok-effect.ensures.world (c.happen_to_all.ensures.happened
     ∙ ap₂ (λ (ps : List (ℕ × ℕ)) (hs : List Posted). happened_to_all (pairs_in ps) hs
     (views_of (world_of c.apply.new.self)) (map live_of old.live.entries)) c.as_slice.ensures c.as_slice-2.ensures) in
@@ -78,7 +80,17 @@ returns-clause-reply c =
       live = map live_of c.happen_to_all.new.live.entries;
     }) reply.Done) c.self.view_is
     (happened_step place e (system_of s) effect (world_of c.apply.new.self)
-    (map live_of c.happen_to_all.new.live.entries) c.requires.plain c.in_ok-effect.ensures.effect ok
+    (map live_of c.happen_to_all.new.live.entries) c.requires.plain c.requires.no_fork c.in_ok-effect.ensures.effect ok
     c.in_ok-effect.ensures.world (c.happen_to_all.ensures.happened
     ∙ ap₂ (λ (ps : List (ℕ × ℕ)) (hs : List Posted). happened_to_all (pairs_in ps) hs
     (views_of (world_of c.apply.new.self)) (map live_of old.live.entries)) c.as_slice.ensures c.as_slice-2.ensures))
+
+pub happen_to_all-requires : goal.happen_to_all-requires
+happen_to_all-requires c =
+    let old = c.self.inside in
+    let place = old.applied + 1 in
+    let e = c.args.event.now in
+    let effect = c.in_ok-effect.effect in
+    let ok : IsOk effect.verdict = subst IsOk (sym c.in_default.is) refl in
+    let d = done (plan place e (world_of old.world)) effect c.in_ok-effect.ensures.effect ok in
+    ap all_forks (c.as_slice-2.ensures ∙ d.hints_is) ∙ silent-records place e (world_of old.world) d.plan_is c.requires.no_fork d.is

@@ -98,13 +98,10 @@ invariant_of-self-2 c =
     let steps = opened place c.args.pid c.args.number e p (system_of s) (world_of c.apply.new.self)
     (map live_of c.bear.new.live.entries) d.is opens.plan_is
     (c.in_ok-effect.ensures.world ∙ ap (λ (q : Planned). world_after place q w) d.is) live in
-    let one = c.self.invariant.version_one in
     let es = c.reserve_one.new.live.entries in
     record {
-      version_one = one;
-      of_version = subst (λ v. AreOfVersion v c.bear.new.live.entries) (sym one) (c.bear.ensures.version
-          (subst (λ v. AreOfVersion v es) one (subst (AreOfVersion old.version)
-          (sym c.in_ok-reserve_one.ensures.entries) c.self.invariant.of_version)));
+      of_version = c.bear.ensures.version (subst (AreOfVersion old.version)
+          (sym c.in_ok-reserve_one.ensures.entries) c.self.invariant.of_version);
       born = c.bear.ensures.up_to (old.applied + 1) (omega arith)
           (subst (λ (l : List (ℕ × NumberedKqueue)). AreUpTo (old.applied + 1) (keys_of l))
           (sym c.in_ok-reserve_one.ensures.entries)

@@ -1,7 +1,8 @@
-use Rattle.std.proofs.Common.{◌∙◌, ◌+◌, ◌++◌, ap}
+use Rattle.std.proofs.Common.{◌∙◌, ◌+◌, ◌++◌, ℕ, ap}
 use Rattle.kq_model.specs.Hearing.{listed}
 use Rattle.kq_model.specs.Objects as objects
 use Rattle.kq_model.specs.System.{empty_system, rows, rows_after}
+use Rattle.kq_model.proofs.VersionOne.{rows-version_one}
 use Rattle.kq_system.specs.SystemState.{system_of}
 use Rattle.kq_system.proofs.ClosedLemmas.{always_closes}
 use Rattle.kq_system.proofs.RowLemmas.{rows-begin, kept_row, rows-end}
@@ -35,6 +36,11 @@ returns-clause-rows c =
     rows-end c.as_slice-event-items.result.now c.loop-event.event-index (c.loop-event.event-index + 1)
     (system_of c.loop-event.system) c.loop-event.rows.items c.loop-event-test.false
     ∙ c.loop-event.invariant.0 ∙ ap (rows c.args.trace.now.version) c.as_slice-event-items.ensures
+
+pub returns-clause-version_one : goal.returns-clause-version_one
+returns-clause-version_one c = λ first.
+    returns-clause-rows c ∙ ap (λ (version : ℕ). rows version c.args.trace.now.events) first
+    ∙ rows-version_one c.args.trace.now.events
 
 pub returns-clause-closed : goal.returns-clause-closed
 returns-clause-closed c =
