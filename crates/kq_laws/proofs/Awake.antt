@@ -1,6 +1,7 @@
--- A level-triggered knote whose condition holds is active: one operation after the other, and over the whole life.
+-- A knote that is level-triggered or has a notice, and whose condition holds, is active: one operation after the other,
+-- and over the whole life.
 use Rattle.std.proofs.Common.{◌≡◌, ℕ, zero, suc, ◌+◌, ◌-◌, Bool, true, false, cond, ltb, not, ◌||◌, length, List, [], ◌∷◌, ◌++◌, map, Option, Some, None, refl, sym, ap, ◌∙◌}
-use Rattle.std.proofs.lemmas.Bool.{cond_both, true≢false}
+use Rattle.std.proofs.lemmas.Bool.{cond_both, true≢false, or_right}
 use Rattle.std.proofs.lemmas.List.Elements.{All-nil, All-cons, All-head, All-tail, All-append, All-filter, All-weaker}
 use Rattle.std.specs.List.{All}
 use Rattle.std.specs.Option.{is_some, option_and_then}
@@ -18,23 +19,24 @@ use Rattle.kq_model.specs.Caller.{Caller}
 use Rattle.kq_model.specs.ChangedKnote.{key_of, activated, attended, begun, fresh, replaced, restarted, changed, switched, made, modified}
 use Rattle.kq_model.specs.Clock.{Span, timers, expires_at, expired, waiting_of, clock_from, clocked}
 use Rattle.kq_model.specs.Close.{Pair, is_closed, closed}
+use Rattle.kq_model.specs.Following.{Fork, process_key, follows, child_knote, heir, with_heir, heir_in, forks_in, followed_each, followed}
 use Rattle.kq_model.specs.Hearing.{tallying}
 use Rattle.kq_model.specs.Hints.{hints_for, heard_by, hears_exit, unless_silent, noticed, if_there, knotes_noticing, notified}
-use Rattle.kq_model.specs.Knote.{find_knote}
-use Rattle.kq_model.specs.Look.{Seen, mark_of, look_user, look_by, look}
+use Rattle.kq_model.specs.Knote.{has_nothing, find_knote}
+use Rattle.kq_model.specs.Look.{Seen, mark_of, look_user, look_by, notice_or, look}
 use Rattle.kq_model.specs.Registration.{Refuse, Remove, Make, Modify, decision, carried_out, register}
-use Rattle.kq_model.specs.Retrieval.{stays, reset, rested, knotes_after, turned_at_look, turned_at, turned, delivered, after_turn, retrieve, retrieval}
+use Rattle.kq_model.specs.Retrieval.{stays, reset, rested, knotes_after, with_idle, without_notice, with_notice_told, settled, turned_at_look, turned_at, turned, delivered, after_turn, retrieve, retrieval}
 use Rattle.kq_model.specs.Tallied.{Decision, Knote, Kqueue, Processed, Retrieved}
 use Rattle.kq_model.specs.Targets.{Posted}
 use Rattle.kq_model.specs.TimerWalk.{Waiting, rung_at, walked}
 use Rattle.kq_model.specs.Views.{Views}
 use Rattle.kq_model.proofs.KnoteLaws.{by_test}
 use Rattle.kq_laws.specs.Life.{Life, Step, Closes, Hints, Passes, Calls, stepped, lived}
-use Rattle.kq_laws.specs.Wakes.{is_due, IsAnnounced, IsToldOfWorld, AreToldOfWorld}
-use Rattle.kq_laws.proofs.Lists.{with_knote-all, without_knote-all}
+use Rattle.kq_laws.specs.Wakes.{is_due, is_owed, IsAnnounced, IsToldOfWorld, AreToldOfWorld}
+use Rattle.kq_laws.proofs.Lists.{with_knote-all, without_knote-all, found-all}
 
 pub IsAwake : Views → Knote → Type 0
-IsAwake views k = stays k ≡ true → k.enabled ≡ true → is_due views k ≡ true → k.active ≡ true
+IsAwake views k = is_owed k ≡ true → k.enabled ≡ true → is_due views k ≡ true → k.active ≡ true
 
 -- ---- a look does not see whether the knote is active
 
@@ -56,30 +58,33 @@ look_by-active Empty view k b = refl
 
 look-active : (views : Views) (k : Knote) (b : Bool) → look views (record k { active = b }) ≡ look views k
 unfolding look
-look-active views k b = look_by-active k.key.filter (option_and_then views.view k.target) k b
+look-active views k b =
+    ap (notice_or k.notice) (look_by-active k.key.filter (option_and_then views.view k.target) k b)
 
 -- and sees no more of the world than its views
 pub look-view : (a b : Views) (k : Knote) → a.view ≡ b.view → look a k ≡ look b k
 unfolding look
-look-view a b k same = ap (λ (view : Target → Option View). look_by k.key.filter (option_and_then view k.target) k) same
+look-view a b k same =
+    ap (λ (view : Target → Option View). notice_or k.notice (look_by k.key.filter (option_and_then view k.target) k))
+    same
 
 -- ---- one knote
 
 awake-asleep : (views : Views) (k : Knote) → is_due views k ≡ false → IsAwake views k
 unfolding IsAwake
-awake-asleep views k off stays enabled due = absurd (true≢false (sym due ∙ off))
+awake-asleep views k off owed enabled due = absurd (true≢false (sym due ∙ off))
 
-awake-leaving : (views : Views) (k : Knote) → stays k ≡ false → IsAwake views k
+awake-unowed : (views : Views) (k : Knote) → is_owed k ≡ false → IsAwake views k
 unfolding IsAwake
-awake-leaving views k off stays enabled due = absurd (true≢false (sym stays ∙ off))
+awake-unowed views k off owed enabled due = absurd (true≢false (sym owed ∙ off))
 
 awake-active : (views : Views) (k : Knote) → k.active ≡ true → IsAwake views k
 unfolding IsAwake
-awake-active views k on stays enabled due = on
+awake-active views k on owed enabled due = on
 
 awake-disabled : (views : Views) (k : Knote) → k.enabled ≡ false → IsAwake views k
 unfolding IsAwake
-awake-disabled views k off stays enabled due = absurd (true≢false (sym enabled ∙ off))
+awake-disabled views k off owed enabled due = absurd (true≢false (sym enabled ∙ off))
 
 looked-awake : (views : Views) (k : Knote) (seen : Option Seen) → look views k ≡ seen → IsAwake views (activated seen k)
 unfolding activated
@@ -107,21 +112,34 @@ abbrev IfAwake : Views → Option Knote → Type 0
 IfAwake views None = Unit {0}
 IfAwake views (Some k) = IsAwake views k
 
-stays-oneshot : (k : Knote) → stays (record k { oneshot = true }) ≡ false
-unfolding stays
-stays-oneshot k = refl
+notice-seen : (notice : Option ℕ) (seen : Option Seen) → is_some notice ≡ true
+    → is_some (notice_or notice seen) ≡ true
+unfolding notice_or
+notice-seen None seen there = absurd (true≢false (sym there))
+notice-seen (Some parent) seen there = refl
+
+notice-due : (views : Views) (k : Knote) → is_some k.notice ≡ true → is_due views k ≡ true
+unfolding look
+notice-due views k there = notice-seen k.notice (look_by k.key.filter (option_and_then views.view k.target) k) there
+
+-- with ONESHOT only its notice is owed
+oneshot-awake : (views : Views) (k : Knote) → IsAwake views k → IsAwake views (record k { oneshot = true })
+unfolding IsAwake stays
+oneshot-awake views k awake owed enabled due =
+    awake (or_right (not (k.oneshot || k.clear || k.dispatch)) (is_some k.notice) owed) enabled
+    (notice-due views k owed)
 
 unless_silent-awake : (views : Views) (exits : Bool) (k : Knote) → IsAwake views k → IfAwake views (unless_silent exits k)
 unfolding unless_silent
 unless_silent-awake views false k awake = awake
 unless_silent-awake views true k awake =
-    cond_both (tallying.is_empty k.seen) _ _ (IfAwake views) (λ _. tt)
-    (λ _. awake-leaving views (record k { oneshot = true }) (stays-oneshot k))
+    cond_both (has_nothing k) _ _ (IfAwake views) (λ _. tt)
+    (λ _. oneshot-awake views k awake)
 
 noticed-awake : (before views : Views) (hints : List Hint) (k : Knote) → IsAwake before k
     → (hints ≡ [] → is_due views k ≡ true → is_due before k ≡ true) → IfAwake views (noticed views hints k)
 unfolding noticed IsAwake
-noticed-awake before views [] k awake announced = λ stays enabled due. awake stays enabled (announced refl due)
+noticed-awake before views [] k awake announced = λ owed enabled due. awake owed enabled (announced refl due)
 noticed-awake before views (hint ∷ hints) k awake announced =
     let heard = heard_by (hint ∷ hints) k in
     unless_silent-awake views (hears_exit (hint ∷ hints) k) (activated (look views heard) heard)
@@ -148,6 +166,35 @@ pub notified-awake : (before views : Views) (posted : List Posted) (kq : Kqueue)
     → All (IsAnnounced before posted views) kq.knotes → All (IsAwake views) (notified views posted kq).knotes
 unfolding notified
 notified-awake before views posted kq all announced = noticing-awake before views posted kq.knotes all announced
+
+-- ---- children that are followed: a new knote is active
+
+heir-awake : (views : Views) (f : Fork) (parent present : Option Knote) → IfAwake views (heir f parent present)
+unfolding heir
+heir-awake views f (Some k) None =
+    cond_both (follows f.parent k) (Some (child_knote f k)) None (IfAwake views)
+    (λ _. awake-active views (child_knote f k) refl) (λ _. tt)
+heir-awake views f None present = tt
+heir-awake views f (Some k) (Some x) = tt
+
+with_heir-awake : (views : Views) (found : Option Knote) (kq : Kqueue) → IfAwake views found
+    → All (IsAwake views) kq.knotes → All (IsAwake views) (with_heir found kq).knotes
+unfolding with_heir
+with_heir-awake views None kq awake all = all
+with_heir-awake views (Some k) kq awake all =
+    All-append (IsAwake views) kq.knotes (k ∷ []) all (All-cons (IsAwake views) k [] awake (All-nil (IsAwake views)))
+
+each-awake : (views : Views) (fs : List Fork) (kq : Kqueue) → All (IsAwake views) kq.knotes
+    → All (IsAwake views) (followed_each fs kq).knotes
+unfolding followed_each
+each-awake views [] kq all = all
+each-awake views (f ∷ fs) kq all =
+    each-awake views fs (with_heir (heir_in f kq) kq) (with_heir-awake views (heir_in f kq) kq
+    (heir-awake views f (find_knote (process_key f.parent) kq.knotes) (find_knote (process_key f.child) kq.knotes)) all)
+
+pub followed-awake : (views : Views) (version : ℕ) (posted : List Posted) (kq : Kqueue) → All (IsAwake views) kq.knotes
+    → All (IsAwake views) (followed version posted kq).knotes
+followed-awake views version posted kq all = each-awake views (forks_in version posted) kq all
 
 -- ---- the clock, and closes
 
@@ -192,29 +239,63 @@ module _ (views : Views) where
       by_flags true = refl
       by_flags false = ap not rests
 
-  after-awake : (k : Knote) (ks : List Knote) → All (IsAwake views) ks → All (IsAwake views) (knotes_after k ks)
+  rested-notice : (k : Knote) → (rested k).notice ≡ k.notice
+  unfolding rested reset
+  rested-notice k =
+      by_test (λ b. (cond b (record k { seen = tallying.empty; triggered = false }) k).notice ≡ k.notice) k.clear
+      (λ _. refl) (λ _. refl)
+
+  rested-unowed : (k : Knote) → k.notice ≡ None → k.clear || k.dispatch ≡ true → is_owed (rested k) ≡ false
+  rested-unowed k silent rests =
+      ap (λ b. b || is_some (rested k).notice) (rested-stays k rests) ∙ ap is_some (rested-notice k ∙ silent)
+
+  after-awake : (k : Knote) (ks : List Knote) → k.notice ≡ None → All (IsAwake views) ks
+      → All (IsAwake views) (knotes_after k ks)
   unfolding knotes_after
-  after-awake k ks all =
+  after-awake k ks silent all =
       cond_both k.oneshot _ _ (All (IsAwake views)) (λ _. without_knote-all (IsAwake views) k.key ks all)
       (λ _. cond_both (k.clear || k.dispatch) _ _ (All (IsAwake views))
-      (λ rests. with_knote-all (IsAwake views) (rested k) ks (awake-leaving views (rested k) (rested-stays k rests)) all)
+      (λ rests. with_knote-all (IsAwake views) (rested k) ks
+      (awake-unowed views (rested k) (rested-unowed k silent rests)) all)
       (λ _. all))
 
-  looked-left : (k : Knote) (kq : Kqueue) (seen : Option Seen) → look views k ≡ seen → Are kq → Are (turned_at_look k kq seen).kq
-  unfolding turned_at_look
-  looked-left k kq None nothing all =
+  idle-left : (k : Knote) (kq : Kqueue) → look views k ≡ None → Are kq → Are (with_idle k kq)
+  idle-left k kq nothing all =
       with_knote-all (IsAwake views) (record k { active = false }) kq.knotes
       (awake-asleep views (record k { active = false }) (ap is_some (look-active views k false ∙ nothing))) all
-  looked-left k kq (Some seen) there all = after-awake k kq.knotes all
 
-  found-left : (kq : Kqueue) (found : Option Knote) → Are kq → Are (turned_at views kq found).kq
+  -- a notice was told: what was active is, unless nothing is seen any more
+  told-left : (k : Knote) (kq : Kqueue) (seen : Option Seen) → look views k ≡ seen
+      → (is_owed k ≡ true → k.enabled ≡ true → k.active ≡ true) → Are kq → Are (with_notice_told k kq seen)
+  unfolding with_notice_told IsAwake
+  told-left k kq None nothing on all = idle-left k kq nothing all
+  told-left k kq (Some seen) there on all =
+      with_knote-all (IsAwake views) k kq.knotes (λ owed enabled due. on owed enabled) all
+
+  settled-left : (k : Knote) (kq : Kqueue) (notice : Option ℕ) → k.notice ≡ notice
+      → (is_owed k ≡ true → k.enabled ≡ true → k.active ≡ true) → Are kq → Are (settled views k kq notice)
+  unfolding settled stays
+  settled-left k kq None silent on all = after-awake k kq.knotes silent all
+  settled-left k kq (Some parent) there on all =
+      told-left (without_notice k) kq (look views (without_notice k)) refl
+      (λ owed. on (or_right (not (k.oneshot || k.clear || k.dispatch)) (is_some k.notice) (ap is_some there))) all
+
+  looked-left : (k : Knote) (kq : Kqueue) (seen : Option Seen) → look views k ≡ seen → IsAwake views k → Are kq
+      → Are (turned_at_look views k kq seen).kq
+  unfolding turned_at_look IsAwake
+  looked-left k kq None nothing awake all = idle-left k kq nothing all
+  looked-left k kq (Some seen) there awake all =
+      settled-left k kq k.notice refl (λ owed enabled. awake owed enabled (ap is_some there)) all
+
+  found-left : (kq : Kqueue) (found : Option Knote) → IfAwake views found → Are kq → Are (turned_at views kq found).kq
   unfolding turned_at
-  found-left kq None all = all
-  found-left kq (Some k) all = looked-left k kq (look views k) refl all
+  found-left kq None awake all = all
+  found-left kq (Some k) awake all = looked-left k kq (look views k) refl awake all
 
   turned-left : (key : Key) (kq : Kqueue) → Are kq → Are (turned views key kq).kq
   unfolding turned
-  turned-left key kq all = found-left kq (find_knote key kq.knotes) all
+  turned-left key kq all =
+      found-left kq (find_knote key kq.knotes) (found-all (IsAwake views) key kq.knotes all) all
 
   turn-left : (rest : ℕ → Kqueue → Retrieved) → ((room : ℕ) (kq : Kqueue) → Are kq → Are (rest room kq).kq)
       → (room : ℕ) (kq : Kqueue) (event : Option Kevent) → Are kq → Are (after_turn rest room kq event).kq
@@ -292,14 +373,16 @@ pub awake-view : (a b : Views) (ks : List Knote) → a.view ≡ b.view → All (
 unfolding IsAwake
 awake-view a b ks same all =
     All-weaker (IsAwake a) (IsAwake b)
-    (λ k awake stays enabled due. awake stays enabled (ap is_some (look-view a b k same) ∙ due)) ks all
+    (λ k awake owed enabled due. awake owed enabled (ap is_some (look-view a b k same) ∙ due)) ks all
 
 abbrev pub AreAwake : Life → Type 0
 AreAwake l = All (IsAwake l.views) l.kq.knotes
 
 step-awake : (s : Step) (l : Life) → IsToldOfWorld s l → AreAwake l → AreAwake (stepped s l)
 step-awake (Closes owner pairs) l told all = closed-awake l.views owner pairs l.kq all
-step-awake (Hints posted views) l told all = notified-awake l.views views posted l.kq all told
+step-awake (Hints posted views) l told all =
+    followed-awake views l.version posted (notified views posted l.kq)
+    (notified-awake l.views views posted l.kq all told)
 step-awake (Passes moment) l told all = clocked-awake l.views (record { from = l.now; to = moment }) l.kq all
 step-awake (Calls caller changes room) l told all =
     awake-view caller.views l.views (call caller room changes l.kq).kq.knotes told
@@ -309,6 +392,7 @@ pub life-awake : (steps : List Step) (l : Life) → AreToldOfWorld steps l → A
 life-awake [] l told all = all
 life-awake (s ∷ steps) l told all = life-awake steps (stepped s l) told.1 (step-awake s l told.0 all)
 
-pub awake-is : (views : Views) (k : Knote) → IsAwake views k → stays k ≡ true → k.enabled ≡ true → is_due views k ≡ true → k.active ≡ true
+pub awake-is : (views : Views) (k : Knote) → IsAwake views k → is_owed k ≡ true → k.enabled ≡ true
+    → is_due views k ≡ true → k.active ≡ true
 unfolding IsAwake
 awake-is views k awake = awake

@@ -1,6 +1,6 @@
 -- How often a timer expires, from one moment to the next.
-use Rattle.std.proofs.Common.{◌≡◌, ℕ, zero, suc, ◌+◌, ◌-◌, ◌<◌, ◌≤◌, Bool, true, false, cond, refl, ap, ◌∙◌, arith}
-use Rattle.std.proofs.lemmas.Bool.{and_right}
+use Rattle.std.proofs.Common.{◌≡◌, ◌≢◌, ℕ, zero, suc, ◌+◌, ◌-◌, ◌*◌, ◌<◌, ◌≤◌, Bool, true, false, cond, ◌⊎◌, inl, inr, refl, sym, ap, ◌∙◌, arith}
+use Rattle.std.proofs.lemmas.Bool.{and_right, cases_order, true≢false}
 use Rattle.std.proofs.Math.Nat.{le-mul_of_pos_right}
 use Rattle.kq_model.specs.Clock.{expires_at, ticking}
 use Rattle.kq_model.specs.Knote.{is_timer}
@@ -48,6 +48,23 @@ pub ticks-unstarted : (k : Knote) (since now : ℕ) → 0 < k.period → since �
 ticks-unstarted k since now positive ordered early =
     counted-none (expires_at k) since (now - since)
     (λ m within. expires-after_start k m positive (omega arith))
+
+-- a timer without a period expires at its start alone
+pub expires-at_start : (k : Knote) (m : ℕ) → k.period ≡ 0 → expires_at k m ≡ true → m ≡ k.start
+expires-at_start k m still rings = by_order (cases_order m k.start)
+  where
+    other : ((j : ℕ) → k.start + suc j * k.period ≢ m) → m ≡ k.start
+    other none =
+        let no : is_tick (ticking k) m ≡ false = is_tick-false (ticking k) m none in
+        absurd (true≢false (sym rings ∙ rw no (and_right (is_timer k.key.filter) _ refl)))
+
+    moments : (j : ℕ) → k.start + suc j * k.period ≡ k.start
+    moments j = let none : k.start + suc j * 0 ≡ k.start = omega arith in rw still none
+
+    by_order : (m ≡ k.start) ⊎ ((m < k.start) ⊎ (k.start < m)) → m ≡ k.start
+    by_order (inl e) = e
+    by_order (inr (inl h)) = other (λ j e. absurd (omega (arith, moments j, e, h)))
+    by_order (inr (inr h)) = other (λ j e. absurd (omega (arith, moments j, e, h)))
 
 -- from a moment to itself there is none
 pub ticks-none_yet : (test : ℕ → Bool) (now : ℕ) → ticks_between test now now ≡ 0

@@ -29,3 +29,4 @@ pub mod RunCalls
 pub mod RunPlaces
 pub mod RunTold
 pub mod RunRows
+pub mod Children

@@ -48,7 +48,7 @@ abbrev third : List Step
 third = second ++ Hints ((target.Pipe 1, hint.Readable) ∷ []) (world 5 60) ∷ []
 
 abbrev after : List Step → Life
-after steps = lived steps (born 0 (world 0 0))
+after steps = lived steps (born 1 0 (world 0 0))
 
 abbrev polled : Caller → List Step → Reply
 polled by steps = (call by 4 [] (after steps).kq).reply
@@ -69,7 +69,7 @@ three_more : polled (caller 0 60) second ≡ Events (expired 3 ∷ [])
 unfolding system_opened walked queue_at is_tick is_among_first counted
 three_more = refl
 
-returned_then : last_returned (timer 7) second (born 0 (world 0 0)) 0 ≡ 35
+returned_then : last_returned (timer 7) second (born 1 0 (world 0 0)) 0 ≡ 35
 unfolding system_opened walked queue_at is_tick is_among_first counted
 returned_then = refl
 

@@ -6,6 +6,7 @@ use Rattle.std.specs.Prelude.{All}
 use Rattle.kq_model.specs.declared.event.Event.{Event}
 use Rattle.kq_model.specs.Clock.{Span, clocked}
 use Rattle.kq_model.specs.Close.{Pair, closed, has_pair, is_closed}
+use Rattle.kq_model.specs.Following.{followed}
 use Rattle.kq_model.specs.Hints.{notified}
 use Rattle.kq_model.specs.Kqueue.{IsSound}
 use Rattle.kq_model.specs.Moment.{Moment, moment_of, caller_at, happened, called_at, after_call, kqueue_step}
@@ -17,9 +18,9 @@ use Rattle.kq_model.specs.World.{Call, Plan, Planned, Impossible, Possible, seen
 use Rattle.kq_kevent.proofs.SoundLaws.{IsSound-empty}
 use Rattle.kq_laws.specs.Runs.{HaveLedTo, IsToldBy}
 use Rattle.kq_laws.specs.Wakes.{IsAnnounced}
-use Rattle.kq_laws.proofs.Awake.{IsAwake, closed-awake, notified-awake, clocked-awake, call-awake}
+use Rattle.kq_laws.proofs.Awake.{IsAwake, closed-awake, notified-awake, followed-awake, clocked-awake, call-awake}
 use Rattle.kq_laws.proofs.Runs.{IsRun, run-empty, run-step, all-told}
-use Rattle.kq_laws.proofs.Sound.{closed-sound, notified-sound, clocked-sound, call-sound}
+use Rattle.kq_laws.proofs.Sound.{closed-sound, notified-sound, followed-sound, clocked-sound, call-sound}
 
 -- a live kqueue in a world
 pub record IsReady (views : Views) (l : Live) : Type 0 where
@@ -42,7 +43,8 @@ module _ (before : Views) (m : Moment) where
   pub happened-sound : (owner : ℕ) (kq : Kqueue) → IsSound kq → IsSound (happened owner m kq)
   unfolding happened
   happened-sound owner kq sound =
-      clocked-sound m.clock _ (notified-sound m.views m.hints _ (closed-sound owner m.closed kq sound))
+      clocked-sound m.clock _ (followed-sound m.version m.hints _
+      (notified-sound m.views m.hints _ (closed-sound owner m.closed kq sound)))
 
   closed-told : (l : Live) → IsTold l → All (IsAnnounced before m.hints m.views) (closed l.owner m.closed l.kq).knotes
   unfolding closed
@@ -54,8 +56,9 @@ module _ (before : Views) (m : Moment) where
   unfolding happened
   happened-awake l all told =
       let kq = closed l.owner m.closed l.kq in
-      clock-awake m.clock (notified m.views m.hints kq)
-      (notified-awake before m.views m.hints kq (closed-awake before l.owner m.closed l.kq all) (closed-told l told))
+      clock-awake m.clock (followed m.version m.hints (notified m.views m.hints kq))
+      (followed-awake m.views m.version m.hints (notified m.views m.hints kq)
+      (notified-awake before m.views m.hints kq (closed-awake before l.owner m.closed l.kq all) (closed-told l told)))
 
   abbrev IsKept : Kqueue → Type 0
   IsKept kq = IsSound kq × All (IsAwake m.views) kq.knotes

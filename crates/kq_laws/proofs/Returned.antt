@@ -15,7 +15,7 @@ use Rattle.kq_model.specs.Knote.{key_eq, has_key, find_knote}
 use Rattle.kq_model.specs.Kqueue.{AreOnce, is_waiting, IsSound}
 use Rattle.kq_model.specs.Look.{Seen, look}
 use Rattle.kq_model.specs.Registration.{register}
-use Rattle.kq_model.specs.Retrieval.{event_of, rested, knotes_after, with_idle, with_delivered, turned_at_look, turned_at, turned, delivered, after_turn, retrieve, retrieval}
+use Rattle.kq_model.specs.Retrieval.{event_of, rested, knotes_after, with_idle, without_notice, with_notice_told, settled, with_delivered, turned_at_look, turned_at, turned, delivered, after_turn, retrieve, retrieval}
 use Rattle.kq_model.specs.Tallied.{Called, Knote, Kqueue, Processed, Retrieved, Turned}
 use Rattle.kq_model.specs.Views.{Views}
 use Rattle.kq_model.proofs.KeyLaws.{same_key, key_eq-refl}
@@ -43,18 +43,32 @@ after-other other k ks apart =
     Same : List Knote → Type 0
     Same after = find_knote other after ≡ find_knote other ks
 
-looked-other : (other : Key) (k : Knote) (kq : Kqueue) (seen : Option Seen) → key_eq k.key other ≡ false
-    → find_knote other (turned_at_look k kq seen).kq.knotes ≡ find_knote other kq.knotes
+told-other : (other : Key) (k : Knote) (kq : Kqueue) (seen : Option Seen) → key_eq k.key other ≡ false
+    → find_knote other (with_notice_told k kq seen).knotes ≡ find_knote other kq.knotes
+unfolding with_notice_told
+told-other other k kq None apart = find_knote-with_other other (record k { active = false }) kq.knotes apart
+told-other other k kq (Some seen) apart = find_knote-with_other other k kq.knotes apart
+
+settled-other : (views : Views) (other : Key) (k : Knote) (kq : Kqueue) (notice : Option ℕ) → key_eq k.key other ≡ false
+    → find_knote other (settled views k kq notice).knotes ≡ find_knote other kq.knotes
+unfolding settled
+settled-other views other k kq None apart = after-other other k kq.knotes apart
+settled-other views other k kq (Some parent) apart =
+    told-other other (without_notice k) kq (look views (without_notice k)) apart
+
+looked-other : (views : Views) (other : Key) (k : Knote) (kq : Kqueue) (seen : Option Seen) → key_eq k.key other ≡ false
+    → find_knote other (turned_at_look views k kq seen).kq.knotes ≡ find_knote other kq.knotes
 unfolding turned_at_look
-looked-other other k kq None apart = find_knote-with_other other (record k { active = false }) kq.knotes apart
-looked-other other k kq (Some seen) apart = after-other other k kq.knotes apart
+looked-other views other k kq None apart = find_knote-with_other other (record k { active = false }) kq.knotes apart
+looked-other views other k kq (Some seen) apart = settled-other views other k kq k.notice apart
 
 found-other : (views : Views) (key other : Key) (kq : Kqueue) (found : Option Knote) → find_knote key kq.knotes ≡ found
     → key_eq key other ≡ false → find_knote other (turned_at views kq found).kq.knotes ≡ find_knote other kq.knotes
 unfolding turned_at
 found-other views key other kq None is apart = refl
 found-other views key other kq (Some k) is apart =
-    looked-other other k kq (look views k) (ap (λ (o : Key). key_eq o other) (sym (find_knote-key key kq.knotes k is)) ∙ apart)
+    looked-other views other k kq (look views k)
+    (ap (λ (o : Key). key_eq o other) (sym (find_knote-key key kq.knotes k is)) ∙ apart)
 
 turned-other : (views : Views) (key other : Key) (kq : Kqueue) → key_eq key other ≡ false
     → find_knote other (turned views key kq).kq.knotes ≡ find_knote other kq.knotes
@@ -110,7 +124,7 @@ module _ (views : Views) (first : List Knote) (key : Key) (k : Knote) (seen : Se
   at_front : (keys : List Key) (room : ℕ) (kq : Kqueue) → find_knote key kq.knotes ≡ Some k → Finds (following views keys room (turned views key kq))
   at_front keys room kq found =
       subst (λ (t : Turned). Finds (following views keys room t)) (sym (turned-delivered views key kq k seen found holds))
-      (following-this keys room (with_delivered k kq))
+      (following-this keys room (with_delivered views k kq))
 
   ahead-is : (front : Key) (keys : List Key) (d : Bool) → key_eq key front ≡ false → due_at views (find_knote front first) ≡ d
       → ahead views first key (front ∷ keys) ≡ cond d (suc (ahead views first key keys)) (ahead views first key keys)
@@ -142,7 +156,7 @@ module _ (views : Views) (first : List Knote) (key : Key) (k : Knote) (seen : Se
     looked_front x found same None nothing =
         idle_front (with_idle x kq) (turned-idle views front kq x found nothing) (ap (due_at views) same ∙ ap is_some nothing)
     looked_front x found same (Some sees) there_is =
-        due_front (with_delivered x kq) (event_of x sees) (turned-delivered views front kq x sees found there_is)
+        due_front (with_delivered views x kq) (event_of x sees) (turned-delivered views front kq x sees found there_is)
         (ap (due_at views) same ∙ ap is_some there_is)
 
     other_front : find_knote front kq.knotes ≡ find_knote front first → (found : Option Knote) → find_knote front first ≡ found
@@ -206,9 +220,9 @@ pub returns_due : (caller : Caller) (room : ℕ) (changes : List Change) (kq : K
     → All (IsAwake caller.views) kq.knotes → reply ≡ (call caller room changes kq).reply → AreQuiet caller changes kq
     → ReturnsDue caller.views room (kqueue_after_changes caller room changes kq) reply
 returns_due caller room changes kq reply sound all is quiet =
-    λ key k seen found level enabled holds left.
+    λ key k seen found owed enabled holds left.
     let awake : IsAwake caller.views k = found-is (IsAwake caller.views) key next.knotes k all_next found in
-    let active = awake-is caller.views k awake level enabled (ap is_some holds) in (
+    let active = awake-is caller.views k awake owed enabled (ap is_some holds) in (
       (retrieval caller.views room next).events,
       is ∙ quiet-reply caller room changes kq quiet,
       retrieval-finds caller.views room next key k seen sound_next.once found holds
@@ -227,7 +241,8 @@ returns_due caller room changes kq reply sound all is quiet =
 pub loses_no_wake_up : (caller : Caller) (room : ℕ) (changes : List Change) (kq : Kqueue) (reply : Reply) → IsSound kq
     → reply ≡ (call caller room changes kq).reply → LosesNoWakeUp caller room changes kq reply
 loses_no_wake_up caller room changes kq reply sound is birth views steps told reached same quiet =
+    let start = born caller.version birth views in
     returns_due caller room changes kq reply sound
     (subst (λ (q : Kqueue). All (IsAwake caller.views) q.knotes) reached
-    (awake-view (lived steps (born birth views)).views caller.views (lived steps (born birth views)).kq.knotes (sym same)
-    (life-awake steps (born birth views) told (All-nil (IsAwake views))))) is quiet
+    (awake-view (lived steps start).views caller.views (lived steps start).kq.knotes (sym same)
+    (life-awake steps start told (All-nil (IsAwake views))))) is quiet

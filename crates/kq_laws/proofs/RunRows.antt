@@ -1,6 +1,6 @@
 -- A run by example: a process watches the reading end of a pipe and has a timer of 10 ns. The clock goes on, bytes come, and it
--- polls.
-use Rattle.std.proofs.Common.{◌≡◌, ℕ, pos, List, [], ◌∷◌, refl}
+-- polls. And a run of version 2, in which it follows the children of another process.
+use Rattle.std.proofs.Common.{◌≡◌, ℕ, ◌+◌, pos, List, [], ◌∷◌, refl}
 use Rattle.kq_model.specs.declared.change.Change.{Change}
 use Rattle.kq_model.specs.declared.event.Event.{Event}
 use Rattle.kq_model.specs.declared.event.Event.TheVariants as record_of
@@ -9,9 +9,9 @@ use Rattle.kq_model.specs.declared.filter.Filter.TheVariants as by
 use Rattle.kq_model.specs.declared.kevent.Kevent.{Kevent}
 use Rattle.kq_model.specs.declared.reply.Reply.{Reply}
 use Rattle.kq_model.specs.declared.reply.Reply.TheVariants.{Events}
-use Rattle.kq_model.specs.Bits.{add, clear}
+use Rattle.kq_model.specs.Bits.{add, clear, fork_note, track_note, child_note}
 use Rattle.kq_model.specs.ObjectRecordPlans.{with_objects, plan_act, plan_at, unless_open, if_live, plan_pipe}
-use Rattle.kq_model.specs.ProcessPlans.{plan_clock, plan_clock_at}
+use Rattle.kq_model.specs.ProcessPlans.{plan_clock, plan_clock_at, plan_fork}
 use Rattle.kq_model.specs.System.{empty_system, step, system_after}
 use Rattle.kq_model.specs.Tallied.{System}
 use Rattle.kq_model.specs.TimerWalk.{queue_at, walked}
@@ -76,3 +76,35 @@ bytes_stay = refl
 returned_then : last_returned_over (timer 7) 2 6 early later 0 ≡ 35
 unfolding system_opened objects_opened walked queue_at is_tick is_among_first counted with_objects plan_act plan_at unless_open if_live plan_pipe plan_clock plan_clock_at
 returned_then = refl
+
+-- ---- children
+
+abbrev told : ℕ → ℕ → ℕ → Kevent
+told pid fflags datum = record {
+  ident = pid;
+  filter = by.Proc;
+  flags = record { 0 = clear };
+  fflags = fflags;
+  datum = pos datum;
+  udata = 0;
+}
+
+-- process 2 is followed, and forks process 3
+abbrev forked : System
+forked = system_after 1 (empty_system 2) (
+    record_of.Proc 1 ∷ record_of.Kqueue 1 9 ∷ record_of.Proc 2
+    ∷ kevent (adds by.Proc 2 (fork_note + track_note) 0 ∷ []) 0 ∷ record_of.Fork 2 3 ∷ [])
+
+-- with room for one event, the fork is told first
+parent_first : (step 6 (kevent [] 1) forked).reply ≡ Events (told 2 fork_note 0 ∷ [])
+unfolding system_opened plan_fork
+parent_first = refl
+
+-- the notice of the child waits, and is told once
+child_then : (step 7 (kevent [] 1) (step 6 (kevent [] 1) forked).system).reply ≡ Events (told 3 child_note 2 ∷ [])
+unfolding system_opened plan_fork
+child_then = refl
+
+told_once : (step 7 (kevent [] 4) (step 6 (kevent [] 4) forked).system).reply ≡ Events []
+unfolding system_opened plan_fork
+told_once = refl

@@ -10,6 +10,7 @@ use Rattle.kq_model.specs.CallLaws.{kqueue_after_changes}
 use Rattle.kq_model.specs.Caller.{Caller}
 use Rattle.kq_model.specs.Clock.{Span, clocked}
 use Rattle.kq_model.specs.Close.{Pair, closed, has_pair}
+use Rattle.kq_model.specs.Following.{followed}
 use Rattle.kq_model.specs.Hints.{notified}
 use Rattle.kq_model.specs.Moment.{Moment, moment_of, caller_at, happened, called_at, after_call, kqueue_step}
 use Rattle.kq_model.specs.Plans.{plan}
@@ -25,7 +26,7 @@ use Rattle.kq_laws.proofs.Lives.{IsReady, ready-led}
 use Rattle.kq_laws.proofs.RunCalls.{live-is, call-planned, reply-is}
 use Rattle.kq_laws.proofs.RunPlaces.{Rise, IsAnswered, rise-step, replies-all}
 use Rattle.kq_laws.proofs.Runs.{IsRun, run-empty, run-step}
-use Rattle.kq_laws.proofs.Told.{AreTold, closed-told, notified-told, clocked-told}
+use Rattle.kq_laws.proofs.Told.{AreTold, closed-told, notified-told, followed-told, clocked-told}
 use Rattle.kq_laws.proofs.ToldByCall.{call-told, process-told}
 use Rattle.kq_laws.proofs.ToldOverLife.{answer-counts}
 use Rattle.kq_laws.proofs.WorldWakes.{TellsPlanned, IsForward, tells-record}
@@ -60,9 +61,12 @@ module _ (ident : ℕ) where
         → AreTold ident since m.views.now (happened owner m kq).knotes
     unfolding happened
     happened-told since owner kq past all =
-        subst (λ (n : ℕ). AreTold ident since n (clocked m.clock (notified m.views m.hints (closed owner m.closed kq))).knotes) clock
-        (clock-told m.clock since now (notified m.views m.hints (closed owner m.closed kq)) goes past within
-        (notified-told ident since now m.views m.hints (closed owner m.closed kq) (closed-told ident since now owner m.closed kq all)))
+        let heard : Kqueue = notified m.views m.hints (closed owner m.closed kq) in
+        subst (λ (n : ℕ). AreTold ident since n (clocked m.clock (followed m.version m.hints heard)).knotes) clock
+        (clock-told m.clock since now (followed m.version m.hints heard) goes past within
+        (followed-told ident since now m.version m.hints heard
+        (notified-told ident since now m.views m.hints (closed owner m.closed kq)
+        (closed-told ident since now owner m.closed kq all))))
 
     -- since when, after a record that gives this reply
     abbrev since_after : Option Call → Reply → ℕ → ℕ → ℕ

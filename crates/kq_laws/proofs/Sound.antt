@@ -10,6 +10,7 @@ use Rattle.kq_model.specs.Call.{process, returned, by_entries, by_answer, conclu
 use Rattle.kq_model.specs.Caller.{Caller}
 use Rattle.kq_model.specs.Clock.{Span, expires_at, expired, timers, waiting_of, kqueue_of_waiting, clock_from, clocked}
 use Rattle.kq_model.specs.Close.{Pair, is_closed, closed}
+use Rattle.kq_model.specs.Following.{Fork, with_heir, heir_in, forks_in, followed_each, followed}
 use Rattle.kq_model.specs.Hints.{notified}
 use Rattle.kq_model.specs.Knote.{key_eq, has_key, find_knote}
 use Rattle.kq_model.specs.Kqueue.{AreOnce, HaveOwnKeys, is_waiting, IsSound}
@@ -19,12 +20,14 @@ use Rattle.kq_model.specs.Tallied.{Knote, Kqueue, Processed, Retrieved}
 use Rattle.kq_model.specs.Targets.{Posted}
 use Rattle.kq_model.specs.TimerWalk.{Waiting, rung_at, queue_at, moment_step, walked}
 use Rattle.kq_model.specs.Views.{Views}
+use Rattle.kq_model.proofs.Following.{heir-absent}
 use Rattle.kq_model.proofs.HintLaws.{notified-law}
 use Rattle.kq_model.proofs.KeyLaws.{same_key, key_eq-sym}
 use Rattle.kq_model.proofs.KeyLists.{and_false, or_false, has_key-filter, AreOnce-filter}
 use Rattle.kq_model.proofs.KnoteLaws.{by_test, find_knote-here, find_knote-later}
 use Rattle.kq_kevent.proofs.AnswerLaws.{IsSound-process}
 use Rattle.kq_kevent.proofs.QueueLaws.{has_key-push_same, has_key-push_other, AreOnce-push}
+use Rattle.kq_kevent.proofs.SoundLaws.{IsSound-made}
 use Rattle.kq_kevent.proofs.TurnLaws.{kqueue_of, length-turned, going, after_going, retrieval-going, going-none, going-full, going-turned}
 use Rattle.kq_kevent.proofs.TurnSound.{IsSound-with_idle, IsSound-with_delivered, front_present}
 
@@ -93,6 +96,24 @@ closed-sound owner pairs kq sound = kept-sound (λ key. not (is_closed owner pai
 
 pub notified-sound : (views : Views) (posted : List Posted) (kq : Kqueue) → IsSound kq → IsSound (notified views posted kq)
 notified-sound views posted kq sound = (notified-law views posted kq sound).sound
+
+-- ---- children that are followed: each new knote has a key of its own
+
+heir-sound : (found : Option Knote) (kq : Kqueue) → IsSound kq
+    → ((k : Knote) → found ≡ Some k → find_knote k.key kq.knotes ≡ None) → IsSound (with_heir found kq)
+unfolding with_heir
+heir-sound None kq sound new = sound
+heir-sound (Some k) kq sound new = IsSound-made kq k sound (new k refl)
+
+each-sound : (fs : List Fork) (kq : Kqueue) → IsSound kq → IsSound (followed_each fs kq)
+unfolding followed_each
+each-sound [] kq sound = sound
+each-sound (f ∷ fs) kq sound =
+    each-sound fs (with_heir (heir_in f kq) kq) (heir-sound (heir_in f kq) kq sound (heir-absent f kq))
+
+pub followed-sound : (version : ℕ) (posted : List Posted) (kq : Kqueue) → IsSound kq
+    → IsSound (followed version posted kq)
+followed-sound version posted kq sound = each-sound (forks_in version posted) kq sound
 
 -- ---- the clock: at each moment those that expire become active, and go to the queue where they are enabled
 
@@ -221,10 +242,10 @@ clocked-sound (Some span) kq sound = walked-sound span.from (span.to - span.from
 
 module _ (views : Views) where
   looked-sound : (ks : List Knote) (key : Key) (rest : List Key) (k : Knote) (seen : Option Seen) → IsSound (kqueue_of ks (key ∷ rest))
-      → find_knote key ks ≡ Some k → IsSound (turned_at_look k (kqueue_of ks rest) seen).kq
+      → find_knote key ks ≡ Some k → IsSound (turned_at_look views k (kqueue_of ks rest) seen).kq
   unfolding turned_at_look
   looked-sound ks key rest k None sound here = IsSound-with_idle ks key rest k sound here
-  looked-sound ks key rest k (Some seen) sound here = IsSound-with_delivered ks key rest k sound here
+  looked-sound ks key rest k (Some seen) sound here = IsSound-with_delivered views ks key rest k sound here
 
   found-sound : (ks : List Knote) (key : Key) (rest : List Key) (found : Option Knote) → find_knote key ks ≡ found
       → IsSound (kqueue_of ks (key ∷ rest)) → IsSound (turned_at views (kqueue_of ks rest) found).kq

@@ -1,6 +1,6 @@
 -- What a timer was told so far is its expirations since it was last returned: one operation after the other.
-use Rattle.std.proofs.Common.{◌≡◌, ℕ, zero, suc, ◌+◌, ◌-◌, ◌≤◌, Bool, true, false, cond, not, List, [], ◌∷◌, map, Option, Some, None, refl, sym, ap, ◌∙◌, subst, arith}
-use Rattle.std.proofs.lemmas.Bool.{true≢false}
+use Rattle.std.proofs.Common.{◌≡◌, ℕ, zero, suc, ◌+◌, ◌-◌, ◌==◌, ◌<◌, ◌≤◌, Bool, true, false, cond, not, List, [], ◌∷◌, map, Option, Some, None, refl, sym, ap, ◌∙◌, subst, arith}
+use Rattle.std.proofs.lemmas.Bool.{cond_both, true≢false}
 use Rattle.std.proofs.lemmas.List.Elements.{All-nil, All-cons, All-head, All-tail, All-append, All-filter}
 use Rattle.std.specs.List.{All, filter}
 use Rattle.kq_model.specs.declared.filter.Filter.{Filter}
@@ -10,25 +10,31 @@ use Rattle.kq_model.specs.declared.object.Hint.{Hint}
 use Rattle.kq_model.specs.declared.object.Target.{Target}
 use Rattle.kq_model.specs.Clock.{expires_at, expired, timers, waiting_of, clock_from, clocked}
 use Rattle.kq_model.specs.Close.{Pair, is_closed, closed}
+use Rattle.kq_model.specs.Following.{Fork, process_key, follows, child_knote, heir, with_heir, heir_in, forks_in, followed_each, followed}
 use Rattle.kq_model.specs.Hearing.{tallying}
 use Rattle.kq_model.specs.Hints.{takes, hints_for, noticed, if_there, knotes_noticing, notified}
-use Rattle.kq_model.specs.Knote.{key_eq}
+use Rattle.kq_model.specs.Knote.{key_eq, find_knote}
 use Rattle.kq_model.specs.Tallied.{Knote, Kqueue}
 use Rattle.kq_model.specs.Targets.{Posted, is_target}
 use Rattle.kq_model.specs.Ticks.{last_moment, ticks_between}
 use Rattle.kq_model.specs.TimerWalk.{Waiting, rung_at, walked}
 use Rattle.kq_model.specs.Views.{Views}
 use Rattle.kq_model.proofs.KeyLaws.{same_key}
+use Rattle.kq_model.proofs.KeyLists.{and_false}
 use Rattle.kq_model.proofs.KnoteLaws.{by_test}
 use Rattle.kq_model.proofs.SubjectsCall.{noticed-subject}
 use Rattle.kq_model.proofs.TimerWalkQueue.{filter-none}
 use Rattle.kq_laws.specs.Timers.{timer}
-use Rattle.kq_laws.proofs.Counting.{ticks-next, ticks-most}
+use Rattle.kq_laws.proofs.Counting.{ticks-next, ticks-most, expires-at_start}
 
 -- the knote was told its expirations, and forgets them when it is returned
 pub record Told (since now : ℕ) (k : Knote) : Type 0 where
   pub clear : k.clear ≡ true
-  pub count : k.seen.count ≡ ticks_between (expires_at k) since now
+  -- a notice is a child's alone
+  pub notice : k.notice ≡ None
+  pub count : 0 < k.period → k.seen.count ≡ ticks_between (expires_at k) since now
+  -- without a period it expires once, at its start
+  pub once : k.period ≡ 0 → (k.seen.count ≤ 1) × (now < k.start → k.seen.count ≡ 0)
 
 module _ (ident : ℕ) where
   -- the knote, if it is the timer of this number
@@ -108,6 +114,37 @@ module _ (ident : ℕ) where
   unfolding notified
   notified-told since now views posted kq all = noticing-told since now views posted kq.knotes all
 
+  -- ---- children that are followed: their knotes are no timers
+
+  heir-told : (since now : ℕ) (f : Fork) (parent present : Option Knote) → Stays since now (heir f parent present)
+  unfolding heir
+  heir-told since now f (Some k) None =
+      cond_both (follows f.parent k) (Some (child_knote f k)) None (Stays since now)
+      (λ _. other-told since now (Some (child_knote f k)) (and_false (ident == f.child))) (λ _. tt)
+  heir-told since now f None present = tt
+  heir-told since now f (Some k) (Some x) = tt
+
+  with_heir-told : (since now : ℕ) (found : Option Knote) (kq : Kqueue) → Stays since now found
+      → AreTold since now kq.knotes → AreTold since now (with_heir found kq).knotes
+  unfolding with_heir
+  with_heir-told since now None kq told all = all
+  with_heir-told since now (Some k) kq told all =
+      All-append (IsTold since now) kq.knotes (k ∷ []) all
+      (All-cons (IsTold since now) k [] told (All-nil (IsTold since now)))
+
+  each-told : (since now : ℕ) (fs : List Fork) (kq : Kqueue) → AreTold since now kq.knotes
+      → AreTold since now (followed_each fs kq).knotes
+  unfolding followed_each
+  each-told since now [] kq all = all
+  each-told since now (f ∷ fs) kq all =
+      each-told since now fs (with_heir (heir_in f kq) kq) (with_heir-told since now (heir_in f kq) kq
+      (heir-told since now f (find_knote (process_key f.parent) kq.knotes)
+      (find_knote (process_key f.child) kq.knotes)) all)
+
+  pub followed-told : (since now version : ℕ) (posted : List Posted) (kq : Kqueue) → AreTold since now kq.knotes
+      → AreTold since now (followed version posted kq).knotes
+  followed-told since now version posted kq all = each-told since now (forks_in version posted) kq all
+
   -- ---- the clock
 
   at_moment : (since now : ℕ) (k : Knote) → since ≤ now → suc now ≤ last_moment → Told since now k → (b : Bool)
@@ -117,12 +154,22 @@ module _ (ident : ℕ) where
       let one = rw rings at next in
       record {
         clear = told.clear;
-        count = omega (arith, told.count, one, ticks-most (expires_at k) since now);
+        notice = told.notice;
+        count = λ positive. omega (arith, told.count positive, one, ticks-most (expires_at k) since now);
+        once = λ none.
+            let at : suc now ≡ k.start = expires-at_start k (suc now) none rings in
+            let before : k.seen.count ≡ 0 = (told.once none).1 (omega (arith, at)) in
+            (omega (arith, before), λ later. absurd (omega (arith, at, later)));
       }
   at_moment since now k ordered within told false rings =
       let next = ticks-next (expires_at k) since now ordered in
       let none = rw rings at next in
-      record { clear = told.clear; count = omega (arith, told.count, none) }
+      record {
+        clear = told.clear;
+        notice = told.notice;
+        count = λ positive. omega (arith, told.count positive, none);
+        once = λ still. ((told.once still).0, λ later. (told.once still).1 (omega (arith, later)));
+      }
 
   key-at_moment : (k : Knote) (b : Bool) → (cond b (expired k) k).key ≡ k.key
   key-at_moment k true = refl

@@ -1,6 +1,7 @@
 -- A call returns a timer, which then was told nothing, or leaves it what it was told.
-use Rattle.std.proofs.Common.{◌≡◌, ℕ, zero, suc, ◌≤◌, Bool, true, false, cond, ltb, not, ◌||◌, ◌&&◌, length, List, [], ◌∷◌, ◌++◌, Option, Some, None, refl, sym, ap, ◌∙◌, subst}
+use Rattle.std.proofs.Common.{◌≡◌, ℕ, zero, suc, ◌≤◌, Bool, true, false, cond, ltb, not, ◌||◌, ◌&&◌, length, List, [], ◌∷◌, ◌++◌, Option, Some, None, refl, sym, ap, ◌∙◌, subst, arith}
 use Rattle.std.proofs.lemmas.Bool.{cond_both, true≢false}
+use Rattle.std.proofs.lemmas.Option.{none-some}
 use Rattle.std.specs.List.{All, list_any}
 use Rattle.kq_model.specs.declared.change.Change.{Change}
 use Rattle.kq_model.specs.declared.errno.Errno.{Errno}
@@ -15,7 +16,7 @@ use Rattle.kq_model.specs.Hearing.{tallying}
 use Rattle.kq_model.specs.Knote.{key_eq, find_knote, with_knote}
 use Rattle.kq_model.specs.Look.{Seen, look}
 use Rattle.kq_model.specs.Registration.{register}
-use Rattle.kq_model.specs.Retrieval.{event_flags, event_of, reset, rested, knotes_after, turned_at_look, turned_at, turned, delivered, after_turn, retrieve, retrieval}
+use Rattle.kq_model.specs.Retrieval.{event_flags, event_of, reset, rested, knotes_after, with_idle, without_notice, with_notice_told, settled, with_delivered, turned_at_look, turned_at, turned, delivered, after_turn, retrieve, retrieval}
 use Rattle.kq_model.specs.Tallied.{Called, Knote, Kqueue, Processed, Retrieved, Turned}
 use Rattle.kq_model.specs.Views.{Views}
 use Rattle.kq_model.proofs.KeyLaws.{same_key}
@@ -111,12 +112,17 @@ module _ (ident now : ℕ) where
   abbrev Is : ℕ → Knote → Type 0
   Is since k = IsTold ident since now k
 
-  rested-told : (k : Knote) → k.clear ≡ true → Told now now (rested k)
+  rested-told : (k : Knote) → k.clear ≡ true → k.notice ≡ None → Told now now (rested k)
   unfolding rested reset
-  rested-told k clears =
+  rested-told k clears silent =
       subst (λ b. Told now now (record (cond b (record k { seen = tallying.empty; triggered = false }) k)
       { active = false; enabled = k.enabled && not k.dispatch })) (sym clears)
-      (record { clear = clears; count = sym (ticks-none_yet _ now) })
+      (record {
+        clear = clears;
+        notice = silent;
+        count = λ _. sym (ticks-none_yet _ now);
+        once = λ _. (omega arith, λ _. refl);
+      })
 
   rested-key : (k : Knote) → (rested k).key ≡ k.key
   unfolding rested reset
@@ -139,7 +145,7 @@ module _ (ident now : ℕ) where
       cond_both k.oneshot _ _ (All (Is now))
       (λ _. without_knote-others (Is since) (Is now) k.key ks others all)
       (λ _. subst (λ b. All (Is now) (cond (b || k.dispatch) (with_knote (rested k) ks) ks)) (sym clears)
-      (with_knote-others (Is since) (Is now) (rested k) ks (λ _. rested-told k clears)
+      (with_knote-others (Is since) (Is now) (rested k) ks (λ _. rested-told k clears (told same).notice)
       (λ x other has. others x (ap (λ (o : Key). key_eq o x.key) (sym (rested-key k)) ∙ other) has) all))
 
   delivered-other : (since : ℕ) (k : Knote) (ks : List Knote) → key_eq (timer ident) k.key ≡ false → All (Is since) ks
@@ -158,29 +164,60 @@ module _ (ident now : ℕ) where
   abbrev AreLeft : ℕ → Turned → Type 0
   AreLeft since t = All (Is (since_by (is_event t.event) since)) t.kq.knotes
 
-  delivered-told : (since : ℕ) (k : Knote) (seen : Seen) (kq : Kqueue) → Is since k → All (Is since) kq.knotes
-      → All (Is (since_by (is_event_of (timer ident) (event_of k seen)) since)) (knotes_after k kq.knotes)
-  delivered-told since k seen kq told all =
-      subst (λ b. All (Is (since_by b since)) (knotes_after k kq.knotes)) (sym (event-is (timer ident) k seen))
-      (by_test (λ b. key_eq (timer ident) k.key ≡ b → All (Is (since_by b since)) (knotes_after k kq.knotes))
-      (key_eq (timer ident) k.key)
-      (λ _ same. delivered-timer since k kq.knotes same told all)
-      (λ _ other. delivered-other since k kq.knotes other all) refl)
-
-  looked-told : (since : ℕ) (k : Knote) (kq : Kqueue) (seen : Option Seen) → Is since k → All (Is since) kq.knotes
-      → AreLeft since (turned_at_look k kq seen)
-  unfolding turned_at_look
-  looked-told since k kq None told all =
+  idle-told : (since : ℕ) (k : Knote) (kq : Kqueue) → Is since k → All (Is since) kq.knotes
+      → All (Is since) (with_idle k kq).knotes
+  idle-told since k kq told all =
       with_knote-all (Is since) (record k { active = false }) kq.knotes
-      (λ same. record { clear = (told same).clear; count = (told same).count }) all
-  looked-told since k kq (Some seen) told all = delivered-told since k seen kq told all
+      (λ same. record {
+        clear = (told same).clear;
+        notice = (told same).notice;
+        count = (told same).count;
+        once = (told same).once;
+      }) all
+
+  -- a notice that was told is no timer's
+  noticed-told : (since : ℕ) (k : Knote) (kq : Kqueue) (seen : Option Seen) → key_eq (timer ident) k.key ≡ false
+      → All (Is since) kq.knotes → All (Is since) (with_notice_told k kq seen).knotes
+  unfolding with_notice_told
+  noticed-told since k kq None other all = idle-told since k kq (apart since k other) all
+  noticed-told since k kq (Some seen) other all = with_knote-all (Is since) k kq.knotes (apart since k other) all
+
+  settled-timer : (since : ℕ) (views : Views) (k : Knote) (kq : Kqueue) (notice : Option ℕ) → notice ≡ None
+      → key_eq (timer ident) k.key ≡ true → Is since k → All (Is since) kq.knotes
+      → All (Is now) (settled views k kq notice).knotes
+  unfolding settled
+  settled-timer since views k kq None silent same told all = delivered-timer since k kq.knotes same told all
+  settled-timer since views k kq (Some parent) silent same told all = absurd (none-some parent (sym silent))
+
+  settled-other : (since : ℕ) (views : Views) (k : Knote) (kq : Kqueue) (notice : Option ℕ)
+      → key_eq (timer ident) k.key ≡ false → All (Is since) kq.knotes → All (Is since) (settled views k kq notice).knotes
+  unfolding settled
+  settled-other since views k kq None other all = delivered-other since k kq.knotes other all
+  settled-other since views k kq (Some parent) other all =
+      noticed-told since (without_notice k) kq (look views (without_notice k)) other all
+
+  delivered-told : (since : ℕ) (views : Views) (k : Knote) (seen : Seen) (kq : Kqueue) → Is since k
+      → All (Is since) kq.knotes
+      → All (Is (since_by (is_event_of (timer ident) (event_of k seen)) since)) (with_delivered views k kq).knotes
+  delivered-told since views k seen kq told all =
+      subst (λ b. All (Is (since_by b since)) (with_delivered views k kq).knotes) (sym (event-is (timer ident) k seen))
+      (by_test (λ b. key_eq (timer ident) k.key ≡ b → All (Is (since_by b since)) (with_delivered views k kq).knotes)
+      (key_eq (timer ident) k.key)
+      (λ _ same. settled-timer since views k kq k.notice (told same).notice same told all)
+      (λ _ other. settled-other since views k kq k.notice other all) refl)
+
+  looked-told : (since : ℕ) (views : Views) (k : Knote) (kq : Kqueue) (seen : Option Seen) → Is since k
+      → All (Is since) kq.knotes → AreLeft since (turned_at_look views k kq seen)
+  unfolding turned_at_look
+  looked-told since views k kq None told all = idle-told since k kq told all
+  looked-told since views k kq (Some seen) told all = delivered-told since views k seen kq told all
 
   found-told : (since : ℕ) (views : Views) (kq : Kqueue) (key : Key) (found : Option Knote) → find_knote key kq.knotes ≡ found
       → All (Is since) kq.knotes → AreLeft since (turned_at views kq found)
   unfolding turned_at
   found-told since views kq key None is all = all
   found-told since views kq key (Some k) is all =
-      looked-told since k kq (look views k) (found-is (Is since) key kq.knotes k all is) all
+      looked-told since views k kq (look views k) (found-is (Is since) key kq.knotes k all is) all
 
   turned-told : (since : ℕ) (views : Views) (key : Key) (kq : Kqueue) → All (Is since) kq.knotes
       → AreLeft since (turned views key kq)

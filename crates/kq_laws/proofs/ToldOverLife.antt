@@ -1,6 +1,6 @@
 -- Over the whole life of a kqueue a timer is told its expirations, and its events tell them.
-use Rattle.std.proofs.Common.{◌≡◌, ℕ, ◌≤◌, Bool, true, false, cond, eqb, not, inl, inr, List, [], ◌∷◌, min, pos, Some, None, refl, sym, ap, ◌∙◌, subst, arith}
-use Rattle.std.proofs.lemmas.Bool.{true≢false, and_parts}
+use Rattle.std.proofs.Common.{◌≡◌, ◌==◌, ℕ, zero, suc, ◌<◌, ◌≤◌, Bool, true, false, cond, eqb, not, inl, inr, List, [], ◌∷◌, min, pos, Option, Some, None, refl, sym, ap, ◌∙◌, subst, arith}
+use Rattle.std.proofs.lemmas.Bool.{true≢false, and_parts, eqb-true}
 use Rattle.std.proofs.lemmas.List.Elements.{All-nil}
 use Rattle.std.proofs.lemmas.Option.{none-some, same_Some}
 use Rattle.std.specs.Option.{option_and_then}
@@ -17,11 +17,12 @@ use Rattle.kq_model.specs.CallLaws.{Each, key_of_event, IsDue, IsAnswer, kqueue_
 use Rattle.kq_model.specs.Caller.{Caller}
 use Rattle.kq_model.specs.Clock.{expires_at}
 use Rattle.kq_model.specs.Hearing.{most_counted}
+use Rattle.kq_model.specs.Hints.{notified}
 use Rattle.kq_model.specs.Knote.{key_eq, find_knote}
-use Rattle.kq_model.specs.Look.{Seen, count_seen, look_by, look}
+use Rattle.kq_model.specs.Look.{Seen, count_seen, look_by, notice_or, look}
 use Rattle.kq_model.specs.Retrieval.{event_of}
 use Rattle.kq_model.specs.Tallied.{Knote, Kqueue}
-use Rattle.kq_model.specs.Ticks.{last_moment}
+use Rattle.kq_model.specs.Ticks.{last_moment, ticks_between}
 use Rattle.kq_model.specs.Views.{Views}
 use Rattle.kq_model.proofs.KeyLaws.{same_key, key_eq-refl}
 use Rattle.kq_model.proofs.KnoteLaws.{by_test, find_knote-key}
@@ -29,7 +30,7 @@ use Rattle.kq_laws.specs.Life.{Life, Step, Closes, Hints, Passes, Calls, born, s
 use Rattle.kq_laws.specs.Timers.{timer, returns, returned_in, last_returned, expirations, Counts, CountsAll, TellsExpirations}
 use Rattle.kq_laws.proofs.Counting.{ticks-most}
 use Rattle.kq_laws.proofs.Lists.{found-is}
-use Rattle.kq_laws.proofs.Told.{Told, IsTold, AreTold, closed-told, notified-told, clocked-told}
+use Rattle.kq_laws.proofs.Told.{Told, IsTold, AreTold, closed-told, notified-told, followed-told, clocked-told}
 use Rattle.kq_laws.proofs.ToldByCall.{call-told, process-told}
 
 -- ---- the life
@@ -63,7 +64,8 @@ module _ (ident : ℕ) where
   step-told (Hints posted views) l since kept is = record {
     past = is.past;
     within = is.within;
-    told = notified-told ident since l.now views posted l.kq is.told;
+    told = followed-told ident since l.now l.version posted (notified views posted l.kq)
+        (notified-told ident since l.now views posted l.kq is.told);
   }
   step-told (Passes moment) l since kept is = record {
     past = omega (arith, is.past, kept.0);
@@ -91,20 +93,47 @@ count-datum n seen is =
     (eqb n 0) (λ _ e. absurd (none-some seen e))
     (λ _ e. sym (ap (λ (s : Seen). s.datum) (same_Some (record { fflags = 0; datum = pos n; eof = false }) seen e))) is
 
-look-datum : (views : Views) (k : Knote) (seen : Seen) → k.key.filter ≡ Timer → look views k ≡ Some seen
-    → seen.datum ≡ pos (min k.seen.count most_counted)
-unfolding look look_by
-look-datum views k seen of is =
-    count-datum (min k.seen.count most_counted) seen
-    (subst (λ (f : Filter). look_by f (option_and_then views.view k.target) k ≡ Some seen) of is)
+-- a timer shows how often it expired, and has no notice to show
+look-timer : (views : Views) (k : Knote) (seen : Seen) → k.key.filter ≡ Timer → k.notice ≡ None
+    → look views k ≡ Some seen → count_seen (min k.seen.count most_counted) ≡ Some seen
+unfolding look look_by notice_or
+look-timer views k seen of silent is =
+    subst (λ (f : Filter). look_by f (option_and_then views.view k.target) k ≡ Some seen) of
+    (subst (λ (n : Option ℕ). notice_or n (look_by k.key.filter (option_and_then views.view k.target) k) ≡ Some seen)
+    silent is)
+
+look-datum : (views : Views) (k : Knote) (seen : Seen) → k.key.filter ≡ Timer → k.notice ≡ None
+    → look views k ≡ Some seen → seen.datum ≡ pos (min k.seen.count most_counted)
+look-datum views k seen of silent is =
+    count-datum (min k.seen.count most_counted) seen (look-timer views k seen of silent is)
+
+-- it was told at least once
+count-some : (n : ℕ) (seen : Seen) → count_seen n ≡ Some seen → 0 < n
+unfolding count_seen
+count-some zero seen is = absurd (none-some seen is)
+count-some (suc n) seen is = omega arith
+
+look-some : (views : Views) (k : Knote) (seen : Seen) → k.key.filter ≡ Timer → k.notice ≡ None
+    → look views k ≡ Some seen → 0 < min k.seen.count most_counted
+look-some views k seen of silent is =
+    count-some (min k.seen.count most_counted) seen (look-timer views k seen of silent is)
+
+some_period : (n : ℕ) → (n == 0) ≡ false → 0 < n
+some_period zero goes = absurd (true≢false goes)
+some_period (suc n) goes = omega arith
 
 event-datum : (k : Knote) (seen : Seen) → (event_of k seen).datum ≡ seen.datum
 unfolding event_of
 event-datum k seen = refl
 
 module _ (ident since now : ℕ) (views : Views) (ks : List Knote) (within : now ≤ last_moment) (all : AreTold ident since now ks) where
-  told-count : (k : Knote) → Told since now k → min k.seen.count most_counted ≡ expirations k since now
-  told-count k told = omega (arith, told.count, ticks-most (expires_at k) since now, within)
+  told-count : (k : Knote) → Told since now k → 0 < min k.seen.count most_counted
+      → min k.seen.count most_counted ≡ expirations k since now
+  told-count k told some =
+      by_test (λ b. (k.period == 0) ≡ b → min k.seen.count most_counted ≡ cond b 1 (ticks_between (expires_at k) since now))
+      (k.period == 0)
+      (λ _ still. omega (arith, some, (told.once (eqb-true k.period 0 still)).0))
+      (λ _ goes. omega (arith, told.count (some_period k.period goes), ticks-most (expires_at k) since now, within)) refl
 
   due-counts : (e : Kevent) → IsDue views ks e → Counts ident ks since now e
   due-counts e due is =
@@ -117,8 +146,9 @@ module _ (ident since now : ℕ) (views : Views) (ks : List Knote) (within : now
         due.knote,
         found,
         ap (λ (x : Kevent). x.datum) due.is ∙ event-datum due.knote due.seen
-            ∙ look-datum views due.knote due.seen (sym (ap (λ (x : Key). x.filter) of)) due.holds
-            ∙ ap pos (told-count due.knote told),
+            ∙ look-datum views due.knote due.seen (sym (ap (λ (x : Key). x.filter) of)) told.notice due.holds
+            ∙ ap pos (told-count due.knote told (look-some views due.knote due.seen
+            (sym (ap (λ (x : Key). x.filter) of)) told.notice due.holds)),
       )
 
   all-count : (es : List Kevent) → Each (IsDue views ks) es → Each (Counts ident ks since now) es
@@ -149,7 +179,7 @@ pub tells_expirations : (ident : ℕ) (caller : Caller) (room : ℕ) (changes : 
     → IsAnswer caller.views room (kqueue_after_changes caller room changes kq) after reply
     → TellsExpirations ident caller room changes kq reply
 tells_expirations ident caller room changes kq after reply answer birth views steps begins kept reached clock =
-    let start = born birth views in
+    let start = born caller.version birth views in
     let since = last_returned (timer ident) steps start birth in
     let is = life-told ident steps start birth kept
     (record { past = omega arith; within = begins; told = All-nil (IsTold ident birth birth) }) in

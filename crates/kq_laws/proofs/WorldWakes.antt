@@ -16,7 +16,7 @@ use Rattle.kq_model.specs.declared.object.Named.TheVariants as named
 use Rattle.kq_model.specs.declared.object.Target.{Target}
 use Rattle.kq_model.specs.declared.why.Why.{Why}
 use Rattle.kq_model.specs.declared.why.Why.TheVariants.{UsedPid, UsedDescriptor, ClockBack, TooMany}
-use Rattle.kq_model.specs.Bits.{fork_note, exec_note, exit_note}
+use Rattle.kq_model.specs.Bits.{exec_note, exit_note}
 use Rattle.kq_model.specs.Clock.{Span}
 use Rattle.kq_model.specs.CountedWorld.{IsCountedWorld}
 use Rattle.kq_model.specs.DescriptorPlans.{close_doings, close_hints, closes, duplicated, plan_call, plan_close, plan_dup, plan_kevent, plan_kqueue}
@@ -30,7 +30,7 @@ use Rattle.kq_model.specs.Objects.{counted, all_done, view_of}
 use Rattle.kq_model.specs.Planning as object_planning
 use Rattle.kq_model.specs.Plans.{plan}
 use Rattle.kq_model.specs.Processes.{ignored_by, ignores_none, process_of, was_used}
-use Rattle.kq_model.specs.ProcessPlans.{delivery, descriptors_of, hold_all, inherited, is_signal, names_of, noted, pairs_of, plan_clock, plan_clock_at, plan_exec, plan_exit, plan_fork, plan_proc, plan_sig, plan_sigset}
+use Rattle.kq_model.specs.ProcessPlans.{delivery, descriptors_of, forked, hold_all, inherited, is_signal, names_of, noted, pairs_of, plan_clock, plan_clock_at, plan_exec, plan_exit, plan_fork, plan_proc, plan_sig, plan_sigset}
 use Rattle.kq_model.specs.World.{World, Plan, Planned, Impossible, Possible, idle, named_by}
 use Rattle.kq_model.proofs.CountedTables.{has_pair-one, inherited-all, times-without}
 use Rattle.kq_model.proofs.HeldNames.{counted-fewer}
@@ -247,7 +247,7 @@ module _ (place : ℕ) (w : World counted) where
       let forks : Planned = Possible (record idle {
         opened = ds;
         doings = hold_all (names_of ds);
-        hints = noted pid fork_note ∷ [];
+        hints = forked pid child;
         started = Some (record { pid = child; ignores = ignored_by (process_of pid w.processes) });
       }) in
       unless_gone K refused w pid (if was_used child w.processes then Impossible UsedPid else forks)
@@ -255,7 +255,7 @@ module _ (place : ℕ) (w : World counted) where
         tells = λ c l calm. (
           λ t _. hold_all-tells (names_of ds) w.objects (names_of w.table) c.counts
               (All-map (λ n. IsNamed n (names_of w.table)) (λ (d : Descriptor). d.named) ds
-              (inherited-all (λ n. IsNamed n (names_of w.table)) pid child w.table (all-named w.table))) (noted pid fork_note ∷ []) t,
+              (inherited-all (λ n. IsNamed n (names_of w.table)) pid child w.table (all-named w.table))) (forked pid child) t,
           calm-all (hold_all (names_of ds)) w.objects (hold_all-none (names_of ds)),
           tt,
         );

@@ -1,3 +1,4 @@
+pub mod Children
 pub mod Life
 pub mod Runs
 pub mod Timers

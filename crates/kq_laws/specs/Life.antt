@@ -6,6 +6,7 @@ use Rattle.kq_model.specs.Call.{call}
 use Rattle.kq_model.specs.Caller.{Caller}
 use Rattle.kq_model.specs.Clock.{clocked}
 use Rattle.kq_model.specs.Close.{Pair, closed}
+use Rattle.kq_model.specs.Following.{followed}
 use Rattle.kq_model.specs.Hints.{notified}
 use Rattle.kq_model.specs.Kqueue.{empty_kqueue}
 use Rattle.kq_model.specs.Tallied.{Kqueue}
@@ -16,7 +17,7 @@ use Rattle.kq_model.specs.Views.{Views}
 pub data Step : Type 0 where
   -- processes close descriptors; the kqueue's owner is this one
   Closes : ℕ → List Pair → Step
-  -- the hints of a record, and the world after it
+  -- the hints of a record, and the world after it; where they tell of forks, knotes follow the children
   Hints : List Posted → Views → Step
   -- the clock goes on to a moment
   Passes : ℕ → Step
@@ -25,18 +26,21 @@ pub data Step : Type 0 where
 
 pub record Life : Type 0 where
   pub kq : Kqueue
+  -- of the traces by which the kqueue goes
+  pub version : ℕ
   -- the clock, in ns
   pub now : ℕ
   -- the world, as the last record left it
   pub views : Views
 
--- made at a moment, in a world
-abbrev pub born : ℕ → Views → Life
-born now views = record { kq = empty_kqueue; now = now; views = views }
+-- made for traces of a version, at a moment, in a world
+abbrev pub born : ℕ → ℕ → Views → Life
+born version now views = record { kq = empty_kqueue; version = version; now = now; views = views }
 
 abbrev pub stepped : Step → Life → Life
 stepped (Closes owner pairs) l = record l { kq = closed owner pairs l.kq }
-stepped (Hints posted views) l = record l { kq = notified views posted l.kq; views = views }
+stepped (Hints posted views) l =
+    record l { kq = followed l.version posted (notified views posted l.kq); views = views }
 stepped (Passes moment) l = record l { kq = clocked (Some (record { from = l.now; to = moment })) l.kq; now = moment }
 stepped (Calls caller changes room) l = record l { kq = (call caller room changes l.kq).kq }
 

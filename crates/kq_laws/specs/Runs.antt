@@ -58,7 +58,7 @@ owner_in s l = record { views = views_of (seen_world s.world); owner = l.owner; 
 -- ---- no lost wake-up
 
 -- The events led to the old system, and the next is a call whose changes place no entry, as one without changes. Then
--- it returns what is due.
+-- it returns what is due, the notices of children too.
 abbrev pub ReturnsAllDue : ℕ → Event → System → System → Reply → Type 0
 ReturnsAllDue applied e old new reply =
     (events : List Event) → HaveLedTo events applied old

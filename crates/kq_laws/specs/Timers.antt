@@ -1,6 +1,6 @@
 -- What a timer tells over the life of its kqueue (kqueue(2), EVFILT_TIMER): the data of its event is the number of its
 -- expirations since it was last returned or started.
-use Rattle.std.specs.Prelude.{◌≡◌, ℕ, pos, ◌≤◌, Bool, true, false, not, ◌&&◌, List, [], ◌∷◌, if◌then◌else◌, Some}
+use Rattle.std.specs.Prelude.{◌≡◌, ◌==◌, ℕ, pos, ◌≤◌, Bool, true, false, not, ◌&&◌, List, [], ◌∷◌, if◌then◌else◌, Some}
 use Rattle.std.specs.List.{list_any}
 use Rattle.kq_model.specs.declared.change.Change.{Change}
 use Rattle.kq_model.specs.declared.filter.Filter.TheVariants.{Timer}
@@ -45,9 +45,10 @@ abbrev pub last_returned : Key → List Step → Life → ℕ → ℕ
 last_returned key [] l earlier = earlier
 last_returned key (s ∷ steps) l earlier = last_returned key steps (stepped s l) (returned_in key s l earlier)
 
--- how often the timer, as it is set now, expires after one moment and up to another
+-- how often the timer, as it is set now, expires after one moment and up to another; one without a period, which is at
+-- a single moment, has done so once where it is returned, also if its moment had come before it was set
 abbrev pub expirations : Knote → ℕ → ℕ → ℕ
-expirations k from to = ticks_between (expires_at k) from to
+expirations k from to = if k.period == 0 then 1 else ticks_between (expires_at k) from to
 
 -- an event of the timer has as data its expirations after one moment and up to another; a timer expires only after
 -- its start, so that one that was started since has those since its start
@@ -67,7 +68,8 @@ CountsAll ident knotes from to (Impossible why) = Unit {0}
 abbrev pub TellsExpirations : ℕ → Caller → ℕ → List Change → Kqueue → Reply → Type 0
 TellsExpirations ident caller room changes kq reply =
     (birth : ℕ) (views : Views) (steps : List Step)
-    → birth ≤ last_moment → KeepTime steps (born birth views) → (lived steps (born birth views)).kq ≡ kq
-    → caller.views.now ≡ (lived steps (born birth views)).now
+    → birth ≤ last_moment → KeepTime steps (born caller.version birth views)
+    → (lived steps (born caller.version birth views)).kq ≡ kq
+    → caller.views.now ≡ (lived steps (born caller.version birth views)).now
     → CountsAll ident (kqueue_after_changes caller room changes kq).knotes
-    (last_returned (timer ident) steps (born birth views) birth) caller.views.now reply
+    (last_returned (timer ident) steps (born caller.version birth views) birth) caller.views.now reply

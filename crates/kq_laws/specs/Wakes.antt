@@ -1,6 +1,7 @@
 -- That no wake-up is lost (kqueue(2): a filter without EV_CLEAR is level-triggered): where the condition of a knote
--- holds that is enabled and has neither ONESHOT nor CLEAR nor DISPATCH, a call with room for it returns it.
-use Rattle.std.specs.Prelude.{◌≡◌, ℕ, suc, ◌<◌, Bool, true, false, List, [], ◌∷◌, Option, Some, None, if◌then◌else◌}
+-- holds that is enabled and has neither ONESHOT nor CLEAR nor DISPATCH, a call with room for it returns it. So it does
+-- with the enabled knote of a child whose notice was not told yet.
+use Rattle.std.specs.Prelude.{◌≡◌, ℕ, suc, ◌<◌, Bool, true, false, ◌||◌, List, [], ◌∷◌, Option, Some, None, if◌then◌else◌}
 use Rattle.std.specs.Prelude.{All, ◌⊎◌}
 use Rattle.std.specs.Option.{is_some}
 use Rattle.kq_model.specs.declared.change.Change.{Change}
@@ -22,6 +23,10 @@ use Rattle.kq_laws.specs.Life.{Life, Step, Closes, Hints, Passes, Calls, born, s
 -- its condition holds in this world
 abbrev pub is_due : Views → Knote → Bool
 is_due views k = is_some (look views k)
+
+-- it is returned whenever it is enabled and its condition holds: it is level-triggered, or has a notice to tell
+abbrev pub is_owed : Knote → Bool
+is_owed k = stays k || is_some k.notice
 
 -- ---- the world says what happens in it
 
@@ -64,11 +69,12 @@ IsAmong e (x ∷ events) = (e ≡ x) ⊎ IsAmong e events
 abbrev pub IsReturned : Kevent → Reply → Type 0
 IsReturned e reply = (events : List Kevent) × (reply ≡ Events events) × IsAmong e events
 
--- The kqueue as a call's changes left it: a level-triggered knote that is enabled and whose condition holds is
--- returned, with what is seen of it now, where there is room for it and for those that wait in front of it.
+-- The kqueue as a call's changes left it: a knote that is level-triggered, or has a notice, that is enabled and whose
+-- condition holds is returned, with what is seen of it now, where there is room for it and for those that wait in front
+-- of it. What is seen of one with a notice is its notice.
 abbrev pub ReturnsDue : Views → ℕ → Kqueue → Reply → Type 0
 ReturnsDue views room kq reply =
-    (key : Key) (k : Knote) (seen : Seen) → find_knote key kq.knotes ≡ Some k → stays k ≡ true → k.enabled ≡ true
+    (key : Key) (k : Knote) (seen : Seen) → find_knote key kq.knotes ≡ Some k → is_owed k ≡ true → k.enabled ≡ true
     → look views k ≡ Some seen → ahead views kq.knotes key kq.queue < room → IsReturned (event_of k seen) reply
 
 -- The steps led from the kqueue's birth to what it is now, and it was told of the world. Then a call whose changes
@@ -76,6 +82,7 @@ ReturnsDue views room kq reply =
 abbrev pub LosesNoWakeUp : Caller → ℕ → List Change → Kqueue → Reply → Type 0
 LosesNoWakeUp caller room changes kq reply =
     (birth : ℕ) (views : Views) (steps : List Step)
-    → AreToldOfWorld steps (born birth views) → (lived steps (born birth views)).kq ≡ kq
-    → caller.views.view ≡ (lived steps (born birth views)).views.view → AreQuiet caller changes kq
+    → AreToldOfWorld steps (born caller.version birth views)
+    → (lived steps (born caller.version birth views)).kq ≡ kq
+    → caller.views.view ≡ (lived steps (born caller.version birth views)).views.view → AreQuiet caller changes kq
     → ReturnsDue caller.views room (kqueue_after_changes caller room changes kq) reply

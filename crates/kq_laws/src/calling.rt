@@ -24,7 +24,8 @@ pub fn call<V: Views>(
     ensures timers { IfOk result (λ reply. (ident : ℕ)
         → TellsExpirations ident (caller (V.sees views.now) kqueue.old) room changes.now kqueue.old.kq reply) }
 
-    // What is level-triggered and enabled, and whose condition holds, is returned where there is room.
+    // What is level-triggered and enabled, and whose condition holds, is returned where there is room. So is the notice
+    // of a child.
     ensures wakes { IfOk result (LosesNoWakeUp (caller (V.sees views.now) kqueue.old) room changes.now kqueue.old.kq) }
 
     ensures owner { kqueue.new.owner ≡ kqueue.old.owner }

@@ -1,5 +1,6 @@
 use Rattle.std.proofs.lemmas.Result.{IfOk-weaker}
 use Rattle.kq_system.specs.SystemState.{system_of}
+use Rattle.kq_laws.proofs.Children.{follows_children}
 use Rattle.kq_laws.proofs.RunCalls.{returns_all_due}
 use Rattle.kq_laws.proofs.RunTold.{counts_expirations}
 use Rattle.kq_laws.proofs.Runs.{announces_all}
@@ -23,4 +24,10 @@ returns-clause-timers c =
     IfOk-weaker c.apply.result _ _
     (λ r steps. counts_expirations c.args.system.now.applied c.args.event.now (system_of c.args.system.now) (system_of c.apply.new.self) r
     steps.0 steps.1)
+    c.apply.ensures.reply
+
+pub returns-clause-children : goal.returns-clause-children
+returns-clause-children c =
+    IfOk-weaker c.apply.result _ _
+    (λ r steps. follows_children c.args.system.now.applied c.args.event.now (system_of c.args.system.now) (system_of c.apply.new.self) steps.0)
     c.apply.ensures.reply
