@@ -33,8 +33,15 @@ impl<M: Machine> TurnLock<M> {
     {
         let table = &self.table.shared;
         let ticket = draw(rt, table, &mut seat.token, self.last)?;
-        await_turn(rt, table, &mut seat.token, ticket);
-        make_call(table, &mut seat.token, &mut seat.seen_len, ticket, step)
+        await_turn(rt, table, &self.waiting, &mut seat.token, ticket);
+        make_call(
+            table,
+            &self.waiting,
+            &mut seat.token,
+            &mut seat.seen_len,
+            ticket,
+            step,
+        )
     }
 
     /// The same in a single try, which waits for nobody. Where more than one refusal would fit,
@@ -65,6 +72,13 @@ impl<M: Machine> TurnLock<M> {
         if found != ticket {
             return Err(TurnError::Busy);
         }
-        make_call(table, &mut seat.token, &mut seat.seen_len, ticket, step)
+        make_call(
+            table,
+            &self.waiting,
+            &mut seat.token,
+            &mut seat.seen_len,
+            ticket,
+            step,
+        )
     }
 }

@@ -51,6 +51,7 @@ mod rule;
 mod seat;
 mod turn;
 mod view;
+mod waiting;
 
 pub use entry::{Entry, Receipt};
 pub use error::TurnError;

@@ -12,6 +12,7 @@ use crate::machine::Machine;
 use crate::rule::{LockTable, SERVING, Slot, TICKET};
 use crate::seat::TurnSeat;
 use crate::view::About;
+use crate::waiting::Waiting;
 use std::alloc::Global;
 use std::marker::Model;
 use std::snapshot::Snapshot;
@@ -20,6 +21,8 @@ use std::snapshot::Snapshot;
 #[derive(Drop)]
 pub struct TurnLock<M: Machine> {
     pub(crate) table: LockTable<M>,
+    /// Where calls sleep that wait for their turn, which no contract sees.
+    pub(crate) waiting: Waiting,
     /// How many tickets there are.
     pub(crate) last: u64,
 }
@@ -90,7 +93,12 @@ impl<M: Machine> TurnLock<M> {
         else {
             return Err(TurnError::Memory);
         };
-        Ok((TurnLock { table, last }, TurnSeat { token, seen_len: 0 }))
+        let lock = TurnLock {
+            table,
+            waiting: Waiting::new(),
+            last,
+        };
+        Ok((lock, TurnSeat { token, seen_len: 0 }))
     }
 
     /// A seat of its own that has seen as much. It waits for nobody.

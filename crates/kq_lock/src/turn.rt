@@ -10,9 +10,13 @@ use crate::kept::take_step;
 use crate::machine::Machine;
 use crate::plays::{Draw, Enter, LookAtTicket, PassOn, Raise};
 use crate::rule::{LENGTH, SERVING, SharedTable, TICKET, TableSeat};
+use crate::waiting::Waiting;
 use crossbeam_utils::Backoff;
 use kq_model::Memory;
 use std::sync::Wait;
+
+// How many rounds a call spins before it sleeps.
+const SPINS: u32 = 7;
 
 // Draws the next ticket, unless all are drawn.
 pub fn draw<M: Machine, R: Wait>(
@@ -46,10 +50,11 @@ pub fn draw<M: Machine, R: Wait>(
     unreachable!()
 }
 
-// Waits for the turn of the ticket.
+// Waits for the turn of the ticket. It spins a little, and then sleeps until the turn is passed on.
 pub fn await_turn<M: Machine, R: Wait>(
     rt: &R,
     table: &SharedTable<M>,
+    waiting: &Waiting,
     token: &mut TableSeat<M>,
     ticket: u64,
 )
@@ -59,18 +64,30 @@ pub fn await_turn<M: Machine, R: Wait>(
     ensures turn { HasTurn M.leads ticket token.new.me }
 {
     let backoff = Backoff::new();
+    let mut rounds = 0u32;
     for _ in rt.forever() {
+        let key = if rounds < SPINS {
+            None
+        } else {
+            Some(waiting.announce(ticket))
+        };
         if table.load::<Enter<M>>(token, SERVING) == ticket {
             return;
         }
-        backoff.snooze();
+        match key {
+            Some(key) => key.wait(rt),
+            None => backoff.spin(),
+        }
+        rounds = rounds.saturating_add(1);
     }
     unreachable!()
 }
 
-// Takes the step and passes the turn on. After `Memory` the history has not got the call.
+// Takes the step, passes the turn on and wakes who has the next ticket. After `Memory` the history has
+// not got the call.
 pub fn take_turn<M: Machine>(
     table: &SharedTable<M>,
+    waiting: &Waiting,
     token: &mut TableSeat<M>,
     ticket: u64,
     step: M::Step,
@@ -91,11 +108,13 @@ pub fn take_turn<M: Machine>(
             table.exchange(token, 0, Some(kept));
             table.store::<Raise>(token, LENGTH, at);
             table.store::<PassOn>(token, SERVING, ticket + 1);
+            waiting.wake(ticket + 1);
             Ok((at, answer))
         }
         Err(memory) => {
             table.exchange(token, 0, Some(kept));
             table.store::<PassOn>(token, SERVING, ticket + 1);
+            waiting.wake(ticket + 1);
             Err(memory)
         }
     }
@@ -104,6 +123,7 @@ pub fn take_turn<M: Machine>(
 // Takes the turn, and counts the call among those that the seat has seen.
 pub fn make_call<M: Machine>(
     table: &SharedTable<M>,
+    waiting: &Waiting,
     token: &mut TableSeat<M>,
     seen_len: &mut u64,
     ticket: u64,
@@ -121,7 +141,7 @@ pub fn make_call<M: Machine>(
     ensures uncounted { OnErr result (seen_len.new ≡ seen_len.old) }
     ensures others { KeepsOthers token.old.me.0 token.new.me.0 }
 {
-    let (at, answer) = take_turn(table, token, ticket, step)?;
+    let (at, answer) = take_turn(table, waiting, token, ticket, step)?;
     let receipt = Receipt {
         at,
         answer,
