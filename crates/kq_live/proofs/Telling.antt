@@ -12,6 +12,7 @@ use Rattle.kq_serve.specs.Shares.{Serves, shares}
 use Rattle.kq_serve.proofs.Sharing.{total_all}
 use Rattle.kq_model.specs.declared.event.Event.{Event}
 use Rattle.kq_model.specs.declared.reply.Reply.{Reply}
+use Rattle.kq_model.specs.Limits.{IsVersion}
 use Rattle.kq_live.specs.declared.machine.LiveMachine.{LiveMachine}
 use Rattle.kq_live.specs.LiveSteps.{IsEmpty}
 use Rattle.kq_live.specs.Lives.{IsCalled, IsWhole, LiveCall, LiveName, LiveSeated, OpensEmpty, Replays, events_of, replies_of}
@@ -67,7 +68,7 @@ ended_book lock version v value history opens end =
     let empty = subst (λ (o : LiveMachine). IsEmpty version o) begun opens.2 in
     let short = end.short in let last = opens.4 in
     let long : length history ≡ length end.log = ap length end.is ∙ length-map end.log entry_of in record {
-      version_one = opens.3;
+      version_known = opens.3;
       replays = book_replays version end.log history end.is
           (legal_replays version legal.0 value end.log legal.2 empty);
       countable = omega arith;
@@ -94,14 +95,14 @@ merge_length ls (x ∷ xs) h =
     let less = sum_set length ls h.0 (x ∷ h.1) h.1 h.2 in omega arith
 
 pub run_book : (version threads : ℕ) (events : List Event) (o value : LiveMachine) (history : List (Entry Event Reply))
-    → version ≡ 1 → 1 ≤ threads → length events < 2 ^ 31 → IsEmpty version o
+    → IsVersion version → 1 ≤ threads → length events < 2 ^ 31 → IsEmpty version o
     → Serves next_step o value (shares actor threads threads events) history → IsBook version history
-run_book version threads events o value history one there few empty h =
+run_book version threads events o value history known there few empty h =
     let long = merge_length (shares actor threads threads events) (events_in history) h.merged in
     let all = total_all actor threads events there in
     let same : length (events_in history) ≡ length history = length-map history (λ (e : Entry Event Reply). e.step) in
     record {
-      version_one = one;
+      version_known = known;
       replays = book_replays version h.log history h.is (legal_replays version o value h.log h.legal empty);
       countable = omega arith;
     }

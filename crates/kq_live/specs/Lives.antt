@@ -8,6 +8,7 @@ use Rattle.kq_lock.specs.Seats.{LockName, Seated, own_calls}
 use Rattle.kq_model.specs.declared.event.Event.{Event}
 use Rattle.kq_model.specs.declared.reply.Reply.{Reply}
 use Rattle.kq_live.specs.declared.machine.LiveMachine.{LiveMachine}
+use Rattle.kq_model.specs.Limits.{IsVersion}
 use Rattle.kq_live.specs.LiveSteps.{IsEmpty}
 use Rattle.kq_live.specs.Recorded.{Recorded}
 use Rattle.kq_live.specs.Replies.{replies}
@@ -36,7 +37,7 @@ Replays version log = replies_of log ≡ replies version (events_of log)
 -- the lock was opened on the empty system, with no more tickets than there can be events
 abbrev pub OpensEmpty : LockName LiveMachine → ℕ → Type 0
 OpensEmpty lock version =
-    (o : LiveMachine) × (lock.opening ≡ Some o) × IsEmpty version o × (version ≡ 1) × (lock.last ≤ 2 ^ 31 - 1)
+    (o : LiveMachine) × (lock.opening ≡ Some o) × IsEmpty version o × IsVersion version × (lock.last ≤ 2 ^ 31 - 1)
 
 -- The seat v called the system with this event and got this reply, and is w afterwards. All that it had seen
 -- begins what it sees now, which ends with this call, replays, and has each call of the seat once.

@@ -5,6 +5,7 @@ use Rattle.kq_lock.specs.Merging.{IsMerge}
 use Rattle.kq_serve.specs.Shares.{shares}
 use Rattle.kq_model.specs.declared.event.Event.{Event}
 use Rattle.kq_model.specs.declared.reply.Reply.{Reply}
+use Rattle.kq_model.specs.Limits.{IsVersion}
 use Rattle.kq_live.specs.Owners.{actor}
 use Rattle.kq_live.specs.Replies.{replies}
 
@@ -27,9 +28,9 @@ replies_in entries = map (λ (e : Entry Event Reply). e.answer) entries
 abbrev pub recorded : ℕ → List (Entry Event Reply) → Recorded
 recorded version entries = record { version = version; events = events_in entries; replies = replies_in entries }
 
--- The entries replay, in a format whose version is 1, and a trace can have as many events.
+-- The entries replay, in a version of the trace's format, and a trace can have as many events.
 pub record IsBook (version : ℕ) (entries : List (Entry Event Reply)) : Type 0 where
-  pub version_one : version ≡ 1
+  pub version_known : IsVersion version
   pub replays : IsReplayed (recorded version entries)
   pub countable : length entries < 2 ^ 31
 

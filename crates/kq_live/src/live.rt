@@ -3,6 +3,7 @@ ghost use Rattle.std.specs.Prelude.{◌≡◌, ◌≢◌, ◌+◌, ◌-◌, ◌^
 ghost use mathlib.Core.List.{IsPrefix};
 ghost use Rattle.kq_lock.specs.Calls.{calls_by, longer};
 ghost use Rattle.kq_lock.specs.Seats.{AllParted, AreApart, AreHalves, EachSeat, IsFresh, Refused, own_calls};
+ghost use Rattle.kq_model.specs.Limits.{IsVersion};
 ghost use Rattle.kq_live.specs.Lives.{IsCalled, IsWhole};
 
 use crate::book::Book;
@@ -47,14 +48,14 @@ impl Model for Live {
 }
 
 impl Live {
-    /// The empty system of this version of the trace's format, which is 1, with `seats` seats, 1 to 64 of them. It
+    /// The empty system of this version of the trace's format, which is 1 or 2, with `seats` seats, 1 to 64 of them. It
     /// takes as many calls as a trace has events at most, 2^31 - 1. `Memory` comes only where a growth was refused.
     pub fn new(
         alloc: Global,
         version: u32,
         seats: usize,
     ) -> Result<(Live, Vec<LiveSeat>), LiveError>
-        requires version { version ≡ 1 }
+        requires version { IsVersion version }
         requires seats { (1 ≤ seats) × (seats ≤ 64) }
         ensures live { IfOk result (λ r. (r.0.version ≡ version) × (r.0.lock.last ≡ 2 ^ 31 - 1)) }
         ensures count { IfOk result (λ r. vec_len r.1 ≡ seats) }
@@ -73,7 +74,7 @@ impl Live {
         seats: usize,
         last: u64,
     ) -> Result<(Live, Vec<LiveSeat>), LiveError>
-        requires version { version ≡ 1 }
+        requires version { IsVersion version }
         requires seats { (1 ≤ seats) × (seats ≤ 64) }
         requires last { last ≤ 2 ^ 31 - 1 }
         ensures live { IfOk result (λ r. (r.0.version ≡ version) × (r.0.lock.last ≡ last)) }

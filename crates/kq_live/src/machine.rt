@@ -1,5 +1,6 @@
 //! The system as a machine under the lock.
 ghost use Rattle.std.specs.Prelude.{◌≡◌, IfOk};
+ghost use Rattle.kq_model.specs.Limits.{IsVersion};
 ghost use Rattle.kq_live.specs.LiveSteps.{IsEmpty, IsNextStep};
 ghost use Rattle.kq_live.specs.Owners.{actor};
 
@@ -39,9 +40,9 @@ impl Model for LiveMachine {
 }
 
 impl LiveMachine {
-    /// The system before the first event of a trace of this version, which is 1.
+    /// The system before the first event of a trace of this version, which is 1 or 2.
     pub(crate) fn new(alloc: Global, version: u32) -> Result<Self, Memory>
-        requires { version ≡ 1 }
+        requires { IsVersion version }
         ensures { IfOk result (λ m. IsEmpty version m) }
     {
         let system = System::new(alloc, version)?;
@@ -61,7 +62,8 @@ impl Machine for LiveMachine {
 
     ghost leads = { λ v e a w. IsNextStep v e a w };
 
-    // Memory comes before the step, for the second reply too: after the step there is no way back.
+    // Memory comes before the step, for the copy too: after the step there is no way back. The history keeps the
+    // system's own reply, since the copy holds on to memory for as many events as the call had room for.
     fn apply(&mut self, event: &Event) -> Result<(Reply, Reply), Memory> {
         if self.system.applied() >= MOST_EVENTS {
             return Err(Memory);
@@ -70,7 +72,7 @@ impl Machine for LiveMachine {
         let reply = self.system.apply(event)?;
         self.settled = Snapshot::of(&self.system);
         let copy = spare.copy_of(&reply);
-        Ok((reply, copy))
+        Ok((copy, reply))
     }
 }
 

@@ -14,7 +14,7 @@ use std::thread::Threads;
 /// Runs the trace on one live system by so many threads, 1 to 64. Thread t among n makes the calls of the events
 /// whose pid leaves t when divided by n, in their order, and thread 0 those without a pid too; the calling thread is
 /// thread 0. The gate is asked before each call, and `starts` before each thread.
-#[tactic(auto, using(crate::proofs::Telling::run_book, crate::proofs::Telling::run_is))]
+#[tactic(auto, using(crate::proofs::Telling::run_is))]
 pub fn live_run<R: Threads + Wait + Sync, G: Gate + Sync, S: Starts>(
     rt: &R,
     alloc: Global,

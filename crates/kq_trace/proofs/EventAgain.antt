@@ -18,7 +18,7 @@ use Rattle.kq_model.specs.ChangeText.{are_changes, change_list, change_of, chang
 use Rattle.kq_model.specs.Members.{has_just, i64_in, is_whole, from_zero, member_count, moment_in, optional, or_else, required, shaped, u32_in, u64_in, width}
 use Rattle.kq_model.specs.Names.{filter_among, filter_name, filter_named, mode_name, mode_named, note_name, note_named, side_name, side_named}
 use Rattle.kq_model.specs.Kinds.{kind_among, kind_named}
-use Rattle.kq_model.specs.Reading.{event_by, event_of, header_version, is_version, version_in}
+use Rattle.kq_model.specs.Reading.{event_by, event_of, header_version, version_in}
 use Rattle.kq_model.specs.RecordText.{changes_at, event_as, i64_at, is_of, is_record, mode_at, mode_in, moment_at, note_at, note_in, read_as, side_at, side_in, truth_at, u32_at}
 use Rattle.kq_model.specs.Spelling.{change_data, header_data, integer, members_of, natural, record_data}
 use Rattle.kq_trace.specs.Again.{FitsChange, FitsChanges, FitsInteger, FitsRecord, HasNamedFlags, HaveNamedFlags, IsFromTheStart, NamesItsFlags}
@@ -138,6 +138,10 @@ event_again (event.Note file note) fits named start = rw (whole_natural file, no
 event_again (event.Clock ns) fits named start = rw (whole_integer ns, i64_again ns fits.1, start) refl
 event_again (event.Kevent pid fd changes room) fits named start = rw (whole_natural pid, whole_natural fd, are_changes_again changes named, whole_natural room, u32_again pid fits.2.2.2.1, u32_again fd fits.2.1, changes_again changes fits.1 named, u32_again room fits.2.2.2.2.1) refl
 
-pub header_again : header_version (Some (header_data 1)) ≡ Some 1
-unfolding header_version has_just width member_count version_in is_version header_data natural
-header_again = refl
+pub first_header_again : header_version (Some (header_data 1)) ≡ Some 1
+unfolding header_version has_just width member_count version_in header_data natural
+first_header_again = refl
+
+pub second_header_again : header_version (Some (header_data 2)) ≡ Some 2
+unfolding header_version has_just width member_count version_in header_data natural
+second_header_again = refl

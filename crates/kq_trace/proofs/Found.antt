@@ -1,5 +1,5 @@
 -- What serde_json finds in a value, by the kinds of a record's members.
-use Rattle.std.proofs.Common.{◌≡◌, ℕ, suc, ◌+◌, ◌^◌, Bool, true, false, ◌||◌, ◌&&◌, ◌==◌, List, [], ◌∷◌, length, Some, None, Option, option_and_then, nat_lt, cond, refl, sym, ap, ◌∙◌, Bor, map, arith, add-one, ◌<◌, ◌≤◌, Result, Ok, Err}
+use Rattle.std.proofs.Common.{◌≡◌, ℕ, suc, ◌+◌, ◌^◌, Bool, true, false, ◌||◌, ◌&&◌, ◌==◌, List, [], ◌∷◌, length, Some, None, Option, option_and_then, nat_lt, cond, refl, sym, ap, ap₂, ◌∙◌, Bor, map, arith, add-one, ◌<◌, ◌≤◌, Result, Ok, Err}
 use Rattle.std.proofs.lemmas.Bool.{lt-ltb, le-ltb}
 use Rattle.std.specs.Option.{is_some, option_map_or}
 use Rattle.std.specs.Result.{OkIff, result_ok}
@@ -137,10 +137,10 @@ unfolding is_record
 other_record members d all = rw (← all_at typed (is_there d) members, ← all) refl
 
 version_of : ℕ → Option ℕ
-version_of n = cond (n == 1) (Some n) None
+version_of n = cond (is_version n) (Some n) None
 
 found_version : (d : Data) → option_and_then version_of (option_and_then as_u64 (as_number d)) ≡ version_in d
-unfolding version_in is_version version_of
+unfolding version_in version_of
 found_version null = refl
 found_version (boolean b) = refl
 found_version (number (unsigned n)) = refl
@@ -150,13 +150,17 @@ found_version (string s) = refl
 found_version (array ds) = refl
 found_version (object ms) = refl
 
-pub version_there : (d : Data) (n : ℕ) → Some n ≡ option_and_then as_u64 (as_number d) → n ≡ 1 → Some 1 ≡ version_in d
+pub version_there : (d : Data) (n version : ℕ) → Some n ≡ option_and_then as_u64 (as_number d) → n ≡ version → is_version version ≡ true
+    → Some version ≡ version_in d
 unfolding version_of
-version_there d n found one = ap (option_and_then version_of) (ap Some (sym one) ∙ found) ∙ found_version d
+version_there d n version found same known =
+    ap (λ b. cond b (Some version) None) (sym known) ∙ ap (option_and_then version_of) (ap Some (sym same) ∙ found) ∙ found_version d
 
-pub other_there : (d : Data) (n : ℕ) → Some n ≡ option_and_then as_u64 (as_number d) → (n == 1) ≡ false → None ≡ version_in d
+pub other_there : (d : Data) (n : ℕ) → Some n ≡ option_and_then as_u64 (as_number d) → (n == 1) ≡ false → (n == 2) ≡ false
+    → None ≡ version_in d
 unfolding version_of
-other_there d n found other = ap (λ b. cond b (Some n) None) (sym other) ∙ ap (option_and_then version_of) found ∙ found_version d
+other_there d n found first second =
+    ap₂ (λ a b. cond (a || b) (Some n) None) (sym first) (sym second) ∙ ap (option_and_then version_of) found ∙ found_version d
 
 pub none_there : (d : Data) → None ≡ option_and_then as_u64 (as_number d) → None ≡ version_in d
 unfolding version_of

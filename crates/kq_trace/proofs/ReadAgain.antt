@@ -1,18 +1,19 @@
 -- Reading the canonical text gives its trace again.
-use Rattle.std.proofs.Common.{◌≡◌, ℕ, zero, suc, ◌+◌, ◌^◌, ◌<◌, ◌≤◌, ◌==◌, Bool, true, false, not, ◌&&◌, List, [], ◌∷◌, ◌++◌, length, take, get_or, Ok, refl, sym, ap, ◌∙◌, append_assoc, subst, add-one, arith}
+use Rattle.std.proofs.Common.{◌≡◌, ℕ, zero, suc, ◌+◌, ◌^◌, ◌<◌, ◌≤◌, ◌==◌, Bool, true, false, not, ◌&&◌, List, [], ◌∷◌, ◌++◌, length, take, get_or, Ok, Some, refl, sym, ap, ◌∙◌, append_assoc, subst, add-one, arith}
 use Rattle.std.proofs.lemmas.Bool.{le-ltb}
 use Rattle.std.proofs.lemmas.List.{take_all}
 use Rattle.std.specs.Fmt.{digits}
 use Rattle.serde_json.proofs.OnLiterals.{serde_json_on_literals}
 use Rattle.serde_json.specs.Written.{compact_text}
 use Rattle.kq_model.specs.declared.event.Event.{Event}
+use Rattle.kq_model.specs.Limits.{IsVersion}
 use Rattle.kq_model.specs.Lines.{lines_among, lines_of, onto_first, pieces_of, without_empty_end}
 use Rattle.kq_model.specs.Reading.{Good, behind_header, header_version, joined, read_lines, read_records, reading, record_on, with_event}
 use Rattle.kq_model.specs.Spelling.{header_data, line_text, natural, record_data, records_text, spelling}
 use Rattle.kq_trace.specs.Again.{ArePlain, CanBeReadAgain, FitsRecord, IsPlain}
 use Rattle.kq_trace.specs.Rest.{lines_behind}
 use Rattle.kq_trace.proofs.Cuts.{keeps}
-use Rattle.kq_trace.proofs.EventAgain.{event_again, header_again}
+use Rattle.kq_trace.proofs.EventAgain.{event_again, first_header_again, second_header_again}
 use Rattle.kq_trace.proofs.ReadsBack.{header_reads_back, record_reads_back}
 use Rattle.kq_trace.proofs.Visible.{has_no_feed, header_visible, record_visible, visible_no_feed}
 use Rattle.kq_trace.proofs.TraceLines.{right_header}
@@ -66,20 +67,30 @@ records_again version number (e ∷ es) room fits plain =
 
 -- ---- the whole
 
-header_is_short : length (compact_text (header_data 1)) ≤ 2 ^ 20
+first_header_short : length (compact_text (header_data 1)) ≤ 2 ^ 20
 unfolding header_data natural digits serde_json_on_literals
-header_is_short = omega arith
+first_header_short = omega arith
 
-pub read_again : (version : ℕ) (events : List Event) → version ≡ 1 → FitRecords events → CanBeReadAgain events
+second_header_short : length (compact_text (header_data 2)) ≤ 2 ^ 20
+unfolding header_data natural digits serde_json_on_literals
+second_header_short = omega arith
+
+read_at : (version : ℕ) (events : List Event) → version < 2 ^ 64 → length (compact_text (header_data version)) ≤ 2 ^ 20
+    → header_version (Some (header_data version)) ≡ Some version → FitRecords events → CanBeReadAgain events
     → reading (spelling version events) ≡ Good version events
 unfolding reading read_lines behind_header spelling line_text
-read_again version events one fits can =
-    ap (λ v. reading (spelling v events)) one
-    ∙ ap read_lines (line_first (compact_text (header_data 1)) (records_text events) (visible_no_feed (compact_text (header_data 1)) (header_visible 1 (omega arith))))
+read_at version events small short again fits can =
+    ap read_lines (line_first (compact_text (header_data version)) (records_text events) (visible_no_feed (compact_text (header_data version)) (header_visible version small)))
     ∙ ap (λ m. behind_header m (lines_behind (records_text events)))
-    (right_header (compact_text (header_data 1)) 1 header_is_short (sym (ap header_version (header_reads_back 1 (omega arith)) ∙ header_again)))
-    ∙ records_again 1 2 events (omega (arith, can.count)) fits can.plain
-    ∙ ap (λ v. Good v events) (sym one)
+    (right_header (compact_text (header_data version)) version short (sym (ap header_version (header_reads_back version small) ∙ again)))
+    ∙ records_again version 2 events (omega (arith, can.count)) fits can.plain
+
+pub read_again : (version : ℕ) (events : List Event) → IsVersion version → FitRecords events → CanBeReadAgain events
+    → reading (spelling version events) ≡ Good version events
+read_again zero events known fits can = absurd (omega (arith, known.0))
+read_again (suc zero) events known fits can = read_at 1 events (omega arith) first_header_short first_header_again fits can
+read_again (suc (suc zero)) events known fits can = read_at 2 events (omega arith) second_header_short second_header_again fits can
+read_again (suc (suc (suc n))) events known fits can = absurd (omega (arith, known.1))
 
 -- ---- one event more
 

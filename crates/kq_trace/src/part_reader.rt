@@ -1,6 +1,7 @@
 //! The records of a trace, many lines at a time.
 
 ghost use Rattle.std.specs.Prelude.{◌≡◌, ◌≤◌, ◌<◌, IfErr, IfNone, IfOk, IfSome, OnErr};
+ghost use Rattle.kq_model.specs.Limits.{IsVersion};
 ghost use Rattle.kq_model.specs.Reading.{reading};
 ghost use Rattle.kq_trace.specs.Faults.{IsFault};
 ghost use Rattle.kq_trace.specs.Unread.{IsFaultAhead, IsPart};
@@ -45,6 +46,7 @@ pub struct PartReader<'a> {
 
 impl<'a> Model for PartReader<'a> {
     ghost use Rattle.std.specs.Prelude.{◌≡◌, ◌≤◌};
+    ghost use Rattle.kq_model.specs.Limits.{IsVersion};
     ghost use Rattle.kq_model.specs.Reading.{read_records};
     ghost use Rattle.kq_trace.specs.Rest.{lines_behind};
     ghost use Rattle.kq_trace.specs.Unread.{Unread};
@@ -57,7 +59,7 @@ impl<'a> Model for PartReader<'a> {
       meaning = read_records r.version r.number (lines_behind r.rest.now);
     } };
 
-    ghost invariant = { λ r. (r.version ≡ 1) × (r.number ≤ 1000002) };
+    ghost invariant = { λ r. IsVersion r.version × (r.number ≤ 1000002) };
 }
 
 impl<'a> PartReader<'a> {
@@ -80,7 +82,7 @@ impl<'a> PartReader<'a> {
     /// The version that the header names.
     pub fn version(&self) -> u32
         ensures version { result ≡ self.now.version }
-        ensures known { result ≡ 1 }
+        ensures known { IsVersion result }
     {
         self.version
     }

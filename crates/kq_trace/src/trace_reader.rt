@@ -1,6 +1,7 @@
 //! The records of a trace, one after the other, for who keeps none of them.
 
 ghost use Rattle.std.specs.Prelude.{◌≡◌, ◌≤◌, IfErr, IfOk, OnErr, OnOk};
+ghost use Rattle.kq_model.specs.Limits.{IsVersion};
 ghost use Rattle.kq_model.specs.Reading.{reading, record_on};
 ghost use Rattle.kq_trace.specs.Faults.{IsFault};
 ghost use Rattle.kq_trace.specs.Unread.{IsFaultAhead, IsNext};
@@ -48,6 +49,7 @@ pub struct TraceReader<'a> {
 
 impl<'a> Model for TraceReader<'a> {
     ghost use Rattle.std.specs.Prelude.{◌≡◌, ◌≤◌};
+    ghost use Rattle.kq_model.specs.Limits.{IsVersion};
     ghost use Rattle.kq_model.specs.Reading.{read_records};
     ghost use Rattle.kq_trace.specs.Rest.{lines_behind};
     ghost use Rattle.kq_trace.specs.Unread.{Unread};
@@ -60,7 +62,7 @@ impl<'a> Model for TraceReader<'a> {
       meaning = read_records r.version r.number (lines_behind r.rest.now);
     } };
 
-    ghost invariant = { λ r. (r.version ≡ 1) × (r.number ≤ 1000002) };
+    ghost invariant = { λ r. IsVersion r.version × (r.number ≤ 1000002) };
 }
 
 impl<'a> TraceReader<'a> {
@@ -93,7 +95,7 @@ impl<'a> TraceReader<'a> {
     /// The version that the header names.
     pub fn version(&self) -> u32
         ensures version { result ≡ self.now.version }
-        ensures known { result ≡ 1 }
+        ensures known { IsVersion result }
     {
         self.version
     }

@@ -17,6 +17,6 @@ records-preserved g c =
 
 pub invariant_of-result : goal.invariant_of-result
 invariant_of-result g c = record {
-  version_one = c.version.ensures.known;
+  version_known = c.version.ensures.known;
   countable = omega (arith, ap length c.from_vec.ensures, c.records.invariant.counted, c.records.invariant.in_limit);
 }

@@ -54,7 +54,7 @@ invariant_of-result g c =
     let lines = c.as_slice.result.now in
     let few : length lines ≤ most_records = omega (arith, c.as_slice.ensures.len, c.in_ok-lines.ensures.few) in
     record {
-      version_one = c.in_ok-version.ensures.known;
+      version_known = c.in_ok-version.ensures.known;
       countable = omega (
         arith,
         ap length c.from_vec.ensures,

@@ -28,6 +28,6 @@ returns-clause-text c =
 pub returns-clause-read_again : goal.returns-clause-read_again
 returns-clause-read_again c = λ can.
     ap reading (text_ends c.as_slice-event-items.result.now c.loop-event.event-index _ c.loop-event.text.items c.loop-event-test.false c.loop-event.invariant.so_far)
-    ∙ read_again c.args.trace.now.version c.args.trace.now.events c.args.trace.now.version_one
+    ∙ read_again c.args.trace.now.version c.args.trace.now.events c.args.trace.now.version_known
     (subst FitRecords c.as_slice-event-items.ensures
     (fits_all c.as_slice-event-items.result.now c.loop-event.event-index c.loop-event-test.false c.loop-event.invariant.fits)) can
