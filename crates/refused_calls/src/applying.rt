@@ -1,0 +1,44 @@
+//! A trace that is applied record by record.
+ghost use Rattle.std.specs.Prelude.{◌-◌, ◌^◌, ◌<◌};
+
+use crate::Outcome;
+use crate::fault::Fault;
+use kq_merge::ReportText;
+use kq_model::limits::MOST_RECORDS;
+use kq_model::{Event, Memory, Reply};
+use kq_system::System;
+use kq_trace::TraceReader;
+use std::alloc::Global;
+
+/// The report of the trace that the bytes are. Each record is applied once more where `Memory` was answered.
+pub fn applied(alloc: Global, bytes: &[u8]) -> Result<Outcome, Fault> {
+    let mut reader = TraceReader::new(alloc, bytes)?;
+    let mut system = System::new(alloc, reader.version())?;
+    let mut report = ReportText::new(alloc);
+    let mut again = 0;
+    for _ in 0..MOST_RECORDS {
+        let Some(event) = reader.next_event()? else {
+            break;
+        };
+        if system.applied() >= MOST_RECORDS {
+            break;
+        }
+        let reply = tried(&mut system, &event, &mut again)?;
+        report = report.with_row(system.applied(), &reply)?;
+    }
+    let text = report.end(system.applied())?;
+    Ok(Outcome { text, again })
+}
+
+/// The reply to the event, which is applied once more where `Memory` was answered.
+fn tried(system: &mut System, event: &Event, again: &mut u64) -> Result<Reply, Memory>
+    requires { system.old.applied < 2 ^ 31 - 1 }
+{
+    match system.apply(event) {
+        Err(Memory) => {
+            *again = again.saturating_add(1);
+            system.apply(event)
+        }
+        replied => replied,
+    }
+}
