@@ -64,9 +64,12 @@ fn watching(alloc: Global) -> Result<Kq, Memory> {
     Ok(kq)
 }
 
-/// The hints of a write to the file, looked at where it has this size.
-fn notify(kq: &mut Kq, size: i64) {
-    kq.notify(&[(Target::Open(7), Hint::Readable)], &OneFile { size });
+/// The hints of a write to the file, looked at where it has this size, with room for the children of which they tell.
+fn notify(kq: &mut Kq, size: i64) -> Result<(), Memory> {
+    let hints = [(Target::Open(7), Hint::Readable)];
+    kq.reserve_to_follow(&hints)?;
+    kq.notify(&hints, &OneFile { size });
+    Ok(())
 }
 
 /// How many events a poll returns once the file has 5 bytes.
@@ -80,7 +83,7 @@ fn polled(kq: &mut Kq) -> Result<usize, Memory> {
 /// How many events such a poll returns after a write whose hints were looked at where the file had this size.
 fn returned(alloc: Global, size: i64) -> Result<usize, Memory> {
     let mut kq = watching(alloc)?;
-    notify(&mut kq, size);
+    notify(&mut kq, size)?;
     polled(&mut kq)
 }
 

@@ -28,6 +28,7 @@ fn user(ident: u64) -> Knote {
         start: 0,
         period: 0,
         bits: 5,
+        notice: None,
         triggered: false,
     }
 }

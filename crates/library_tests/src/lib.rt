@@ -3,6 +3,8 @@
 #![tactic(auto)]
 
 #[cfg(test)]
+mod following;
+#[cfg(test)]
 mod hints;
 #[cfg(test)]
 mod knotes;
@@ -14,5 +16,7 @@ mod system;
 mod text;
 #[cfg(test)]
 mod timers;
+#[cfg(test)]
+mod traces;
 #[cfg(test)]
 mod world;

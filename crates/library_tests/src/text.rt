@@ -30,7 +30,7 @@ fn fault_of<R: AllocGlobal + Threads + Sync>(rt: &R, text: &[u8]) -> Option<(u64
 }
 
 #[test]
-fn a_text_begins_with_a_header_of_version_1(rt: HostRuntime) {
+fn a_text_begins_with_a_header_of_a_known_version(rt: HostRuntime) {
     assert!(rt; fault_of(&rt, b"") == Some((1, LineFault::Header)));
     assert!(rt; fault_of(&rt, b"{\"kqsim\":3}\n") == Some((1, LineFault::Header)));
     assert!(rt; fault_of(&rt, b"{\"kqsim\":1}").is_none());

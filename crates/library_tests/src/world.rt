@@ -94,11 +94,14 @@ fn an_effect_tells_its_hint(rt: HostRuntime) {
     assert_told(&rt, told, pipe, Hint::Writable);
 }
 
-/// Process 1 starts, and forks process 2.
+/// Process 1 starts, and forks process 2: of the fork is told, and of the child.
 fn assert_started(rt: &impl Abort, world: &mut World) {
     assert_quiet(rt, world.proc(1));
-    let forked = world.fork(1, 2);
-    assert_told(rt, forked, Target::Process(1), Hint::Note(NOTE_FORK));
+    let told = [
+        (Target::Process(1), Hint::Note(NOTE_FORK)),
+        (Target::Process(1), Hint::Child(2)),
+    ];
+    assert_effect(rt, world.fork(1, 2), &[], &told);
 }
 
 /// Process 2 runs another program, and gets a signal.

@@ -7,8 +7,9 @@ mod tries;
 ghost use Rattle.std.specs.Prelude.{◌≡◌, IfOk, IfSome};
 ghost use Rattle.kq_lock.specs.Seats.{EachSeat, IsFresh};
 
+use bitflags::Flags;
 use kq_live::{Live, LiveError, LiveReceipt, LiveSeat};
-use kq_model::{Change, EvFlags, Event, Filter, Memory, Reply, Series};
+use kq_model::{Change, EvFlags, Event, Filter, Kevent, Memory, Reply, Series};
 use std::alloc::Global;
 use std::process::Abort;
 use std::sync::Wait;
@@ -38,12 +39,12 @@ fn both_seats(live: &Live, seats: &mut Vec<LiveSeat>) -> Result<(LiveSeat, LiveS
     Ok((one, two))
 }
 
-// The process, under the number 9 of its kqueue, adds the user event 7 with these flags of the filter.
-fn add(alloc: Global, pid: u32, fflags: u32) -> Result<Event, Memory> {
+// The process, under the number 9 of its kqueue, changes the user event 7 by these flags.
+fn user(alloc: Global, pid: u32, flags: EvFlags, fflags: u32) -> Result<Event, Memory> {
     let change = Change {
         ident: 7,
         filter: Filter::User,
-        flags: EvFlags::ADD,
+        flags,
         fflags,
         datum: 0,
         udata: 0,
@@ -57,6 +58,11 @@ fn add(alloc: Global, pid: u32, fflags: u32) -> Result<Event, Memory> {
     })
 }
 
+// The process adds the event with these flags of the filter.
+fn add(alloc: Global, pid: u32, fflags: u32) -> Result<Event, Memory> {
+    user(alloc, pid, EvFlags::ADD, fflags)
+}
+
 fn poll(alloc: Global, pid: u32) -> Event {
     Event::Kevent {
         pid,
@@ -66,19 +72,53 @@ fn poll(alloc: Global, pid: u32) -> Event {
     }
 }
 
-// Process 1 with a user event that has happened, up to the event that is told of it.
+// Process 1 adds a user event, lets it happen, and asks for what did.
 fn event_at(alloc: Global, place: u32) -> Result<Event, Memory> {
     match place {
         1 => Ok(Event::Proc { pid: 1 }),
         2 => Ok(Event::Kqueue { pid: 1, fd: 9 }),
         3 => add(alloc, 1, 0),
-        4 => add(alloc, 1, TRIGGER),
+        4 => user(alloc, 1, EvFlags::empty(), TRIGGER),
         _ => Ok(poll(alloc, 1)),
     }
 }
 
-// A call's place, how much its seat had seen, and how many events were returned.
-type Told = Result<(u64, u64, usize), LiveError>;
+// What a reply comes to.
+#[derive(Debug, Drop, Clone, Copy, PartialEq, Eq)]
+enum Answer {
+    Done,
+    NoEvent,
+    // This event alone.
+    One(Kevent),
+    Otherwise,
+}
+
+// The user event has happened, and nothing else.
+fn happened() -> Answer {
+    Answer::One(Kevent {
+        ident: 7,
+        filter: Filter::User,
+        flags: EvFlags::empty(),
+        fflags: 0,
+        datum: 0,
+        udata: 0,
+    })
+}
+
+fn said(reply: &Reply) -> Answer {
+    match reply {
+        Reply::Done => Answer::Done,
+        Reply::Events(events) => match events.as_slice() {
+            [] => Answer::NoEvent,
+            [event] => Answer::One(*event),
+            _ => Answer::Otherwise,
+        },
+        _ => Answer::Otherwise,
+    }
+}
+
+// A call's place, how much its seat had seen, and what was replied.
+type Told = Result<(u64, u64, Answer), LiveError>;
 
 fn told(answered: Result<LiveReceipt, LiveError>) -> Told {
     let LiveReceipt {
@@ -86,11 +126,7 @@ fn told(answered: Result<LiveReceipt, LiveError>) -> Told {
         answer,
         seen_len,
     } = answered?;
-    let returned = match &answer {
-        Reply::Events(events) => events.len(),
-        _ => 0,
-    };
-    Ok((at, seen_len, returned))
+    Ok((at, seen_len, said(&answer)))
 }
 
 fn assert_told(rt: &impl Abort, told: Told, expected: &Told) {

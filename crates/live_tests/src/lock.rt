@@ -1,7 +1,8 @@
-//! What no clause says: that calls succeed, which refusal comes where another call has the turn, and
-//! that threads end.
+//! What no clause says: that calls succeed, which refusal comes where another call has the turn, that
+//! calls which sleep are woken, and that threads end.
 mod machines;
 mod single;
+mod sleeps;
 mod threads;
 
 ghost use Rattle.std.specs.Prelude.{◌≡◌, ◌≤◌, ◌^◌, IfOk, IfSome};

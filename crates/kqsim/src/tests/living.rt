@@ -147,7 +147,10 @@ fn two_threads_are_inside_at_once(rt: HostRuntime) -> Result<(), Fail> {
     };
     let book = live_run_with(&rt, &trace, 2, &gate, &Always)?;
     assert_eq!(rt; book.len(), 17);
-    assert_eq!(rt; gate.given_up.load(SeqCst), 0);
+    assert_eq!(rt;
+        (gate.entered.load(SeqCst), gate.given_up.load(SeqCst)),
+        (2, 0)
+    );
     Ok(())
 }
 

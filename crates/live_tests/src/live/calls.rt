@@ -1,15 +1,16 @@
 //! Calls of one thread.
 ghost use Rattle.std.specs.Prelude.{◌≡◌};
 
-use super::{Told, assert_told, both_seats, called, next_seat, told};
+use super::{Answer, Told, assert_told, both_seats, called, happened, next_seat, said, told};
 use kq_live::{Book, Live, LiveError, LiveSeat};
-use kq_model::{Event, Memory};
+use kq_model::{Event, Memory, Row};
+use kq_system::System;
 use std::alloc::Global;
 use std::process::Abort;
 use std::sync::Wait;
 use std::test::Fail;
 
-// Process 1 comes to a user event that has happened.
+// Process 1 adds a user event, and lets it happen.
 fn assert_happens<R: Abort + Wait>(
     rt: &R,
     alloc: Global,
@@ -20,10 +21,10 @@ fn assert_happens<R: Abort + Wait>(
     ensures { result.lock ≡ live.now.lock }
 {
     let calls = [
-        (1, (1, 0, 0)),
-        (2, (2, 1, 0)),
-        (3, (3, 2, 0)),
-        (4, (4, 3, 0)),
+        (1, (1, 0, Answer::Done)),
+        (2, (2, 1, Answer::Done)),
+        (3, (3, 2, Answer::NoEvent)),
+        (4, (4, 3, Answer::NoEvent)),
     ];
     for (place, expected) in calls {
         assert_told(rt, called(rt, alloc, live, &mut seat, place), &Ok(expected));
@@ -36,7 +37,11 @@ fn assert_polled<R: Abort + Wait>(rt: &R, alloc: Global, live: &Live, seat: &mut
     requires { seat.old.lock ≡ live.now.lock }
 {
     assert_eq!(rt; Live::seen_len(seat), 4);
-    assert_told(rt, called(rt, alloc, live, seat, 5), &Ok((5, 4, 1)));
+    assert_told(
+        rt,
+        called(rt, alloc, live, seat, 5),
+        &Ok((5, 4, happened())),
+    );
 }
 
 // The first seat, which has seen four calls of five, makes another in a single try.
@@ -45,17 +50,25 @@ fn assert_tried(rt: &impl Abort, live: &Live, seat: &mut LiveSeat)
     ensures { seat.new.lock ≡ live.now.lock }
 {
     let alone = live.try_call(seat, Event::Clock { ns: 0 });
-    assert_told(rt, told(alone), &Ok((6, 4, 0)));
+    assert_told(rt, told(alone), &Ok((6, 4, Answer::Done)));
 }
 
-// Six calls, of which three have a row, the last at the fifth place.
-fn assert_book(rt: &impl Abort, book: &Book) -> Result<(), Memory> {
+// The rows of the calls at the places 3 to 5.
+fn assert_rows(rt: &impl Abort, rows: &[Row]) {
+    let expected = [(3, Answer::NoEvent), (4, Answer::NoEvent), (5, happened())];
+    assert_eq!(rt; rows.len(), 3);
+    for (row, expected) in rows.iter().zip(&expected) {
+        assert_eq!(rt; (row.at, said(&row.reply)), *expected);
+    }
+}
+
+// Six calls, of which three have a row; their trace replays to these rows.
+fn assert_book(rt: &impl Abort, alloc: Global, book: &Book) -> Result<(), Memory> {
     assert_eq!(rt; book.len(), 6);
+    assert_rows(rt, book.rows()?.as_slice());
     let trace = book.trace()?;
     assert_eq!(rt; trace.events.len(), 6);
-    let rows = book.rows()?;
-    assert_eq!(rt; rows.len(), 3);
-    assert_eq!(rt; rows.last().map(|row| row.at), Some(5));
+    assert_rows(rt, System::run(alloc, &trace)?.as_slice());
     Ok(())
 }
 
@@ -69,7 +82,7 @@ fn seats_share_one_system(rt: HostRuntime) -> Result<(), Fail> {
     assert_polled(&rt, rt.alloc(), &live, &mut two);
     assert_tried(&rt, &live, &mut one);
     let book = live.close(one)?;
-    assert_book(&rt, &book)?;
+    assert_book(&rt, rt.alloc(), &book)?;
     Ok(())
 }
 
@@ -92,8 +105,8 @@ fn a_live_system_wears_out(rt: HostRuntime) -> Result<(), Fail> {
     let (live, mut seats) = Live::with_last(rt.alloc(), 1, 1, 2)?;
     let mut seat = next_seat(&live, &mut seats).ok_or("a seat")?;
     let worn_out = Err(LiveError::WornOut);
-    assert_starts(&rt, &live, &mut seat, 1, &Ok((1, 0, 0)));
-    assert_starts(&rt, &live, &mut seat, 1, &Ok((2, 1, 0)));
+    assert_starts(&rt, &live, &mut seat, 1, &Ok((1, 0, Answer::Done)));
+    assert_starts(&rt, &live, &mut seat, 1, &Ok((2, 1, Answer::Otherwise)));
     assert_starts(&rt, &live, &mut seat, 2, &worn_out);
     let tried = live.try_call(&mut seat, Event::Proc { pid: 2 });
     assert_told(&rt, told(tried), &worn_out);

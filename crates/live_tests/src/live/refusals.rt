@@ -2,7 +2,7 @@
 ghost use Rattle.std.specs.Prelude.{◌≡◌, IfOk};
 ghost use Rattle.kq_lock.specs.Seats.{EachSeat, IsFresh};
 
-use super::{Told, assert_told, both_seats, called};
+use super::{Answer, Told, assert_told, both_seats, called, happened};
 use kq_live::{Book, Live, LiveError, LiveSeat};
 use kq_model::Memory;
 use std::alloc::Global;
@@ -36,7 +36,7 @@ fn made_twice(alloc: Global) -> Result<(Live, Vec<LiveSeat>), LiveError>
     }
 }
 
-// Process 1 comes to a user event that has happened.
+// Process 1 adds a user event, and lets it happen.
 fn assert_happens<R: Abort + Wait>(
     rt: &R,
     alloc: Global,
@@ -47,10 +47,10 @@ fn assert_happens<R: Abort + Wait>(
     ensures { result.lock ≡ live.now.lock }
 {
     let calls = [
-        (1, (1, 0, 0)),
-        (2, (2, 1, 0)),
-        (3, (3, 2, 0)),
-        (4, (4, 3, 0)),
+        (1, (1, 0, Answer::Done)),
+        (2, (2, 1, Answer::Done)),
+        (3, (3, 2, Answer::NoEvent)),
+        (4, (4, 3, Answer::NoEvent)),
     ];
     for (place, expected) in calls {
         assert_told(
@@ -80,7 +80,7 @@ fn a_refused_call_is_made_again(rt: HostRuntime) -> Result<(), Fail> {
     let part = live.split(&mut one);
     live.join(&mut two, part);
     let polled = called_twice(&rt, rt.alloc(), &live, &mut two, 5);
-    assert_told(&rt, polled, &Ok((5, 4, 1)));
+    assert_told(&rt, polled, &Ok((5, 4, happened())));
     let book = live.close(one)?;
     assert_book(&rt, &book)?;
     Ok(())

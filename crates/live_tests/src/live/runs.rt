@@ -4,6 +4,7 @@ use kq_live::{Book, live_run};
 use kq_model::{Event, Memory, Reply, Series, Trace};
 use kq_serve::{Always, Gate, Open, ServeError, Starts};
 use std::alloc::Global;
+use std::process::Abort;
 use std::sync::atomic::AtomicU64;
 use std::sync::atomic::Ordering::SeqCst;
 use std::test::Fail;
@@ -70,21 +71,33 @@ fn a_start_is_refused(rt: HostRuntime) -> Result<(), Fail> {
 /// How often a thread yields before it gives up on the other.
 const TURNS: u64 = 10_000_000;
 
-// Holds the first two places each until the other was entered.
+// Holds so many places, the first ones, each until all of them were entered.
 #[derive(Drop)]
 struct Meeting {
+    places: u32,
     entered: AtomicU64,
     given_up: AtomicU64,
 }
 
+impl Meeting {
+    // Nobody has come to it.
+    fn of(places: u32) -> Meeting {
+        Meeting {
+            places,
+            entered: AtomicU64::new(0),
+            given_up: AtomicU64::new(0),
+        }
+    }
+}
+
 impl Gate for Meeting {
     fn enter(&self, _thread: u32, place: u32) {
-        if place > 2 {
+        if place > self.places {
             return;
         }
         self.entered.fetch_add(1, SeqCst);
         for _ in 0..TURNS {
-            if self.entered.load(SeqCst) >= 2 {
+            if self.entered.load(SeqCst) >= u64::from(self.places) {
                 return;
             }
             yield_now();
@@ -93,18 +106,46 @@ impl Gate for Meeting {
     }
 }
 
+// All came to the meeting.
+fn assert_met(rt: &impl Abort, gate: &Meeting) {
+    assert_eq!(rt;
+        (gate.entered.load(SeqCst), gate.given_up.load(SeqCst)),
+        (u64::from(gate.places), 0)
+    );
+}
+
 #[test]
 fn two_threads_are_inside_at_once(rt: HostRuntime) -> Result<(), Fail> {
     let trace = two_processes(rt.alloc())?;
-    let gate = Meeting {
-        entered: AtomicU64::new(0),
-        given_up: AtomicU64::new(0),
-    };
+    let gate = Meeting::of(2);
     let book = live_run(&rt, rt.alloc(), &gate, &Always, &trace, 2)?;
     assert_eq!(rt; book.len(), 8);
-    assert_eq!(rt;
-        (gate.entered.load(SeqCst), gate.given_up.load(SeqCst)),
-        (2, 0)
-    );
+    assert_met(&rt, &gate);
+    Ok(())
+}
+
+/// How many processes start: a hundred for each of 64 threads.
+const STARTS: u32 = 6400;
+
+fn starts(alloc: Global) -> Result<Trace, Memory> {
+    let mut events = Vec::new(alloc);
+    for before in 0..STARTS {
+        let event = Event::Proc { pid: before + 1 };
+        events.push(event).map_err(|_| Memory)?;
+    }
+    Ok(Trace {
+        version: 1,
+        events: Series::from_vec(events),
+    })
+}
+
+// More threads than processors: most of them sleep, and each is woken for its turn.
+#[test]
+fn sixty_four_threads_get_their_turns(rt: HostRuntime) -> Result<(), Fail> {
+    let trace = starts(rt.alloc())?;
+    let gate = Meeting::of(64);
+    let book = live_run(&rt, rt.alloc(), &gate, &Always, &trace, 64)?;
+    assert_eq!(rt; (book.len(), book.rows()?.len()), (6400, 0));
+    assert_met(&rt, &gate);
     Ok(())
 }

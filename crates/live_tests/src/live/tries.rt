@@ -90,6 +90,8 @@ fn a_seat_in_eight_parts_tries(rt: HostRuntime) -> Result<(), Fail> {
     let (live, mut seats) = Live::new(rt.alloc(), 1, 1)?;
     let seat = next_seat(&live, &mut seats).ok_or("a seat")?;
     let (calls, seat) = by_eight(&rt, &live, seat);
+    // The first of them to take a ticket had nobody before it.
+    assert!(rt; calls > 0);
     assert_eq!(rt; Live::seen_len(&seat), calls);
     let book = live.close(seat)?;
     assert_eq!(rt; book.len() as u64, calls);

@@ -82,3 +82,34 @@ impl Machine for Held {
         Ok((seen, seen))
     }
 }
+
+/// How often a machine that lingers yields: long enough for a call that begins meanwhile to come to sleep.
+const LINGER: u64 = 20_000;
+
+/// Sets the word to 1, and lingers in its first step. That one it answers with `Memory` where it refuses it,
+/// and each other step with 1.
+#[derive(Drop)]
+pub struct Lingering {
+    pub word: Arc<AtomicU64, Global>,
+    pub refuses: bool,
+}
+
+impl Machine for Lingering {
+    type Step = ();
+
+    type Answer = u64;
+
+    ghost leads = { λ _ _ _ _. Unit {0} };
+
+    fn apply(&mut self, _step: &()) -> Result<(u64, u64), Memory> {
+        if self.word.swap(1, SeqCst) == 0 {
+            for _ in 0..LINGER {
+                yield_now();
+            }
+            if self.refuses {
+                return Err(Memory);
+            }
+        }
+        Ok((1, 1))
+    }
+}
