@@ -2,7 +2,7 @@
 # make run       the report of an example, within two minutes on a fresh machine
 # make test      proves and tests everything; the last line is 'N passed, M failed'
 # make bench     measures the program beside one that only reads
-# make install   puts the program into PREFIX/bin
+# make install   puts the program into PREFIX/bin, and its manual pages into PREFIX/share/man
 #
 # Needed: the kit's `rt`, bash, make, cc and python3.
 
@@ -13,7 +13,7 @@ REPLAY_BENCH := crates/replay_bench/out/replay_bench
 EXAMPLE ?= examples/doorbell.trace
 PREFIX ?= /usr/local
 
-.PHONY: all run test bench install
+.PHONY: all run test bench install install-man
 
 # (rt run proves and builds where something has changed, and runs the program, so it is given its stored run)
 all:
@@ -37,5 +37,9 @@ bench: all
 	bench/live $(KQSIM)
 	bench/workers $(KQSIM) $(REPLAY_BENCH)
 
-install: all
+install: all install-man
 	install -D -m 755 $(KQSIM) $(DESTDIR)$(PREFIX)/bin/kqsim
+
+install-man:
+	install -D -m 644 man/kqsim.1 $(DESTDIR)$(PREFIX)/share/man/man1/kqsim.1
+	install -D -m 644 man/kqsim.5 $(DESTDIR)$(PREFIX)/share/man/man5/kqsim.5
