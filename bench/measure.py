@@ -49,7 +49,7 @@ def last_line(path):
         return file.read().splitlines()[-1]
 
 
-def marginal(room, kqsim, lines, before, lengths, repeats):
+def marginal(room, kqsim, lines, before, lengths, repeats, version=1):
     """Returns what a record costs, in seconds, behind the first `before` of a trace that is cut at each of these
     lengths, and the run itself.
 
@@ -57,7 +57,7 @@ def marginal(room, kqsim, lines, before, lengths, repeats):
     """
     def ran(records):
         each = Measure([kqsim, "replay", "-"], f"{room}/{records}", f"{room}/{records}.report")
-        traces.write(each.given, lines(), records)
+        traces.write(each.given, lines(), records, version)
         each.write()
         with open(each.taken, "rb") as report:
             is_possible = b'"impossible"' not in report.read(1 << 20)

@@ -1,11 +1,15 @@
-"""The traces of the benchmark. Each is an endless list of lines behind the header, of which `write` takes the first."""
+"""The traces of the benchmark. Each is an endless list of lines behind the header, of which `write` takes the first.
+Those that want version 2 of the format say so."""
 import itertools
 
 TRIGGER = 16777216
 POLL_ROOM = 4
+QUIET_ROOM = 1024
 CHANGES = 1000
 NOTE_WRITE = 2
 NOTE_NSECONDS = 8
+AT_A_MOMENT = NOTE_NSECONDS | 16
+NOTE_TRACK, NOTE_EXEC = 1, 536870912
 SIGNALS = 64
 MILLISECOND = 1_000_000
 
@@ -84,17 +88,17 @@ def calls_setup(kevents):
     return len(OPENING) - (-kevents // CHANGES)
 
 
-def with_polls(lines):
-    """Yields these lines, and a poll after each three of them."""
+def with_polls(lines, between=3, room=POLL_ROOM):
+    """Yields these lines, and a poll after each three of them, or so many."""
     while True:
-        yield from itertools.islice(lines, 3)
-        yield call([], POLL_ROOM)
+        yield from itertools.islice(lines, between)
+        yield call([], room)
 
 
-def write(path, lines, records):
+def write(path, lines, records, version=1):
     """Writes the first so many records of a trace."""
     with open(path, "w", encoding="ascii") as file:
-        file.write('{"kqsim":1}\n')
+        file.write('{"kqsim":%d}\n' % version)
         file.writelines(itertools.islice(lines, records))
 
 
@@ -147,21 +151,31 @@ def signals(kevents):
     yield from with_polls(itertools.cycle([record("sig", 1, it) for it in heard]))
 
 
-def timers(count, period, longer, step):
-    """The clock goes on by `step` ns a record; so many timers have periods from `period` ns on, each `longer` ns longer
-    than the last."""
-    changes = [change(it, ["ADD"], NOTE_NSECONDS, "TIMER", period + it * longer) for it in range(count)]
+def timers(count, period, longer, step, fflags=NOTE_NSECONDS):
+    """The clock goes on by `step` ns a turn; so many timers have periods from `period` ns on, each `longer` ns longer
+    than the last. With AT_A_MOMENT, in version 2, these are moments. A call that asks for nothing stands behind each
+    step, since a replay makes one step of those with no call between them, and none of those behind the last call."""
+    changes = [change(it, ["ADD"], fflags, "TIMER", period + it * longer) for it in range(count)]
     yield from (*OPENING, *in_calls(changes))
     for number in itertools.count(1):
-        yield record("clock", number * step)
+        yield from (record("clock", number * step), call([], 0))
+
+
+def moments(count, longer, step):
+    """So many timers at a moment, in version 2. In each turn all are added again, with moments of which each is `longer`
+    ns later than the last, and the clock goes on by `step` ns, over all of them."""
+    yield from OPENING
+    for turn in itertools.count():
+        first = turn * step + 1
+        yield from in_calls([change(it, ["ADD"], AT_A_MOMENT, "TIMER", first + it * longer) for it in range(count)])
+        yield record("clock", first - 1 + step)
 
 
 def wheel(count):
     """The clock goes on by a millisecond a record, and so many timers have periods of as many milliseconds and more, so
     that about every second step rings one; each fourth record is a poll."""
-    lines = timers(count, count * MILLISECOND, MILLISECOND, MILLISECOND)
-    yield from itertools.islice(lines, calls_setup(count))
-    yield from with_polls(lines)
+    yield from itertools.islice(timers(count, count * MILLISECOND, MILLISECOND, MILLISECOND), calls_setup(count))
+    yield from with_polls(record("clock", it * MILLISECOND) for it in itertools.count(1))
 
 
 def on(pid, kqueue, room, *changes):
@@ -205,6 +219,13 @@ def forks(live):
         yield from (record("close", 1, sockets), record("close", child, writer + slot), record("kqueue", child, kqueue))
         yield from (on(child, kqueue, 0, ("ADD", sockets)), record("write", 1, writer + slot, 10))
         yield from (on(child, kqueue, POLL_ROOM), record("read", child, sockets, 10), record("rx", 1, shared, 1))
+
+
+def tree(fflags):
+    """One process after the other is forked, each by the one of half its number, so that all descend from the first,
+    which a kqueue watches with these notes. Each thousandth record is a poll with room for all that came."""
+    yield from (*OPENING, call([change(1, ["ADD"], fflags, "PROC")], 0))
+    yield from with_polls((record("fork", it // 2, it) for it in itertools.count(2)), CHANGES - 1, CHANGES)
 
 
 def crowd(live):
@@ -286,6 +307,12 @@ def each_kind():
         op = kinds[number % len(kinds)]
         members = ",".join(f'"{it}":{spelled(number, it)}' for it in MEMBERS[op])
         yield f'{{"op":"{op}",{members}}}\n'
+
+
+def quiet_polls():
+    """One kqueue without kevents, and polls that have room for many events and return none."""
+    yield from OPENING
+    yield from itertools.repeat(call([], QUIET_ROOM))
 
 
 def processes(count):
