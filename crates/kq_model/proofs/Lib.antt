@@ -14,6 +14,8 @@ pub mod QueueKeys
 pub mod PrivateParts
 pub mod PrivateStep
 pub mod PrivateReplay
+pub mod Parameters
+pub mod FollowsNobody
 pub mod HistoryViews
 pub mod FoldAlone
 pub mod Distinct
@@ -73,6 +75,7 @@ pub mod CountedNotes
 pub mod ReleasedAll
 pub mod UntouchedViews
 pub mod SeenWorld
+pub mod ListedTrace
 pub mod WorldPlayed
 pub mod WorldDescriptors
 pub mod WorldObjects

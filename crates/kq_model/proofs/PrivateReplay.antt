@@ -33,7 +33,7 @@ named-among forks rs r there = (
 
 module _ {S : Type 0} (h : Hearing S) (kqueue owner : ℕ) where
   -- each change of the kqueue's calls is among these
-  abbrev AreAmong : Names → List Moment → Type 0
+  abbrev pub AreAmong : Names → List Moment → Type 0
   AreAmong ns ms = All (λ (m : Moment). All (IsAmong h kqueue owner ns) (references_in kqueue owner m.views m.call)) ms
 
   each-among : (ns : Names) (ms : List Moment) → All (IsAmong h kqueue owner ns) (references kqueue owner ms) → AreAmong ns ms
@@ -45,7 +45,7 @@ module _ {S : Type 0} (h : Hearing S) (kqueue owner : ℕ) where
       (All-left (IsAmong h kqueue owner ns) first (references kqueue owner ms) all)
       (each-among ns ms (All-right (IsAmong h kqueue owner ns) first (references kqueue owner ms) all))
 
-  all-among : (forks : List Fork) (ms : List Moment) → AreAmong (names_in forks (references kqueue owner ms)) ms
+  pub all-among : (forks : List Fork) (ms : List Moment) → AreAmong (names_in forks (references kqueue owner ms)) ms
   all-among forks ms =
       let rs = references kqueue owner ms in
       each-among (names_in forks rs) ms
@@ -66,10 +66,10 @@ module _ {S : Type 0} (h : Hearing S) (kqueue owner : ℕ) where
   -- ---- the replay
 
   module _ (ns : Names) where
-    abbrev own_moments : List Moment → List Moment
+    abbrev pub own_moments : List Moment → List Moment
     own_moments ms = map (own_moment h kqueue owner ns) ms
 
-    abbrev quiet : Moment → Bool
+    abbrev pub quiet : Moment → Bool
     quiet m = concerns (concern_of kqueue owner ns m)
 
     rows-own : (kq : Kqueue h) (ms : List Moment) → AreAmong ns ms → AreClosed ns ms → Fits h kqueue owner ns kq
@@ -100,14 +100,14 @@ module _ {S : Type 0} (h : Hearing S) (kqueue owner : ℕ) where
   IsSeen version views m = (m.version ≡ version) × (m.views ≡ views m.place)
 
   module _ (version : ℕ) (views : ℕ → Views) (ns : Names) where
-    abbrev at_place : Concern → Moment
+    abbrev pub at_place : Concern → Moment
     at_place c = moment_with version (views c.place) c
 
     seen-moment : (m : Moment) → IsSeen version views m → at_place (concern_of kqueue owner ns m) ≡ own_moment h kqueue owner ns m
     seen-moment m seen =
         ap₂ (λ v w. moment_with v w (concern_of kqueue owner ns m)) (sym seen.0) (sym seen.1)
 
-    private-moments : (ms : List Moment) → All (IsSeen version views) ms
+    pub private-moments : (ms : List Moment) → All (IsSeen version views) ms
         → map at_place (private_by kqueue owner ns ms) ≡ own_moments ns (filter (quiet ns) ms)
     private-moments [] seen = refl
     private-moments (m ∷ ms) seen =

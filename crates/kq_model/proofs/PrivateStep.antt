@@ -76,12 +76,12 @@ module _ {S : Type 0} (h : Hearing S) where
     among-made caller c named kq makes =
         subst (λ t. IsReferred ns c.filter c.ident t) (made-target caller c kq makes) named
 
-    among-call : (m : Moment) (c : Call) → All IsAmong (map (reference_of m.views owner) c.changes) → MakeSubjects h (IsReferred ns) (caller_at owner m) c.changes
+    pub among-call : (m : Moment) (c : Call) → All IsAmong (map (reference_of m.views owner) c.changes) → MakeSubjects h (IsReferred ns) (caller_at owner m) c.changes
     among-call m c all =
         All-weaker (λ x. IsAmong (reference_of m.views owner x)) (λ x. (kq : Kqueue h) → MakesSubject (IsReferred ns) (caller_at owner m) x kq)
         (λ x named kq. among-made (caller_at owner m) x named kq) c.changes (All-unmap IsAmong (reference_of m.views owner) c.changes all)
 
-    numbered-call : (m : Moment) (c : Call) → MakeSubjects h (IsReferred ns) (caller_at owner m) c.changes
+    pub numbered-call : (m : Moment) (c : Call) → MakeSubjects h (IsReferred ns) (caller_at owner m) c.changes
         → MakeSubjects h (λ f i t. IsNumbered ns f i) (caller_at owner m) c.changes
     numbered-call m c new =
         All-weaker (λ x. (kq : Kqueue h) → MakesSubject (IsReferred ns) (caller_at owner m) x kq)

@@ -1,5 +1,5 @@
 -- Closes, hints and the clock commute with a change of how what was heard is kept.
-use Rattle.std.proofs.Common.{◌≡◌, ℕ, zero, suc, ◌+◌, ◌-◌, Bool, true, false, cond, not, ◌&&◌, List, [], ◌∷◌, ◌++◌, map, filter, Option, Some, None, refl, sym, ap, ◌∙◌}
+use Rattle.std.proofs.Common.{◌≡◌, ℕ, zero, suc, ◌+◌, ◌-◌, Bool, true, false, cond, not, ◌&&◌, ◌||◌, List, [], ◌∷◌, ◌++◌, map, filter, Option, Some, None, refl, sym, ap, ◌∙◌}
 use Rattle.std.proofs.lemmas.List.{map-append}
 use Rattle.std.specs.Option.{is_none, option_map}
 use Rattle.kq_model.specs.declared.key.Key.{Key}
@@ -9,7 +9,7 @@ use Rattle.kq_model.specs.Clock.{Span, timers, expires_at, expired, waiting_of, 
 use Rattle.kq_model.specs.Close.{Pair, is_closed, closed}
 use Rattle.kq_model.specs.Following.{Fork, process_key, follows, child_knote, heir, with_heir, heir_in, forks_in, followed_each, followed}
 use Rattle.kq_model.specs.Hearing.{Hearing, Expired, Told}
-use Rattle.kq_model.specs.Hints.{kept, hints_for, added, heard_by, hears_exit, unless_silent, noticed, if_there, knotes_noticing, queue_with, queue_noticing, queue_after_all, notified}
+use Rattle.kq_model.specs.Hints.{takes, kept, is_exit, hints_for, added, after_hint, is_done, heard_by, hears_exit, unless_silent, noticed, if_there, knotes_noticing, queue_with, queue_noticing, queue_after_all, notified}
 use Rattle.kq_model.specs.Knote.{Knote, find_knote, has_nothing}
 use Rattle.kq_model.specs.Kqueue.{Kqueue}
 use Rattle.kq_model.specs.Look.{look}
@@ -49,6 +49,21 @@ module _ {S T : Type 0} {h : Hearing S} {g : Hearing T} {f : S → T} (is : IsHe
   unfolding added
   added-recast None k = refl
   added-recast (Some hint) k = ap (hearing (re k)) (sym (is.heard (Told hint) k.seen))
+
+  -- one hint alone
+  pub after_hint-recast : (hint : Hint) (k : Knote h) → after_hint hint (re k) ≡ re (after_hint hint k)
+  unfolding after_hint
+  after_hint-recast hint k =
+      let oneshot = k.oneshot || is_exit k.key.filter hint in
+      ap (λ (n : Knote g). record (cond (takes k.key.filter hint) n (re k)) { oneshot = oneshot }) (added-recast (kept k.fflags hint) k)
+      ∙ ap (λ (n : Knote g). record n { oneshot = oneshot }) (sym (cond-map re (takes k.key.filter hint) (added (kept k.fflags hint) k) k))
+
+  pub is_done-recast : (hint : Hint) (k : Knote h) → is_done hint (re k) ≡ is_done hint k
+  unfolding is_done
+  is_done-recast hint k =
+      let heard = after_hint hint k in
+      ap (λ n. is_exit k.key.filter hint && has_nothing n) (after_hint-recast hint k)
+      ∙ ap (λ b. is_exit k.key.filter hint && (is_none heard.notice && b)) (is.is_empty heard.seen)
 
   heard_by-recast : (hints : List Hint) (k : Knote h) → heard_by hints (re k) ≡ re (heard_by hints k)
   unfolding heard_by

@@ -7,12 +7,13 @@ use Rattle.kq_model.specs.Call.{Called, call}
 use Rattle.kq_model.specs.Clock.{clocked}
 use Rattle.kq_model.specs.Close.{Pair, has_pair, closed}
 use Rattle.kq_model.specs.Following.{followed}
-use Rattle.kq_model.specs.Hearing.{Hearing, tallying}
+use Rattle.kq_model.specs.Hearing.{Hearing, listed, tallying}
 use Rattle.kq_model.specs.Hints.{notified}
 use Rattle.kq_model.specs.Kqueue.{Kqueue}
 use Rattle.kq_model.specs.Moment.{Moment, moment_of, caller_at, happened, called_at, after_call, kqueue_step}
-use Rattle.kq_model.specs.Recast.{IsHearingMap, recast_kqueue, recast_live, recast_system}
+use Rattle.kq_model.specs.Recast.{IsHearingMap, recast_kqueue, recast_live, recast_system, tallied_system, IsTalliedStep}
 use Rattle.kq_model.specs.System.{Live, System, Stepped, empty_system, stepped, lived, born, answer, reply_to, kqueue_of, step_by, step, row_of, rows_after, rows_by, rows}
+use Rattle.kq_model.specs.Objects as objects
 use Rattle.kq_model.specs.Objects.{Keeping, counted}
 use Rattle.kq_model.specs.Plans.{plan}
 use Rattle.kq_model.specs.World.{Call, Planned, Impossible, Possible, World, carried_out, seen_world}
@@ -148,3 +149,10 @@ module _ {S T A B C D : Type 0} {h : Hearing S} {g : Hearing T} {f : S → T} {k
 pub rows-tallied : (version : ℕ) (es : List Event) → rows version es ≡ rows_by tallying counted version es
 unfolding rows
 rows-tallied version es = rows_by-recast tally_of-map listed-counts version es
+
+-- a step of the code's system is that of the system of lists for which it stands
+pub step-tallied : (place : ℕ) (e : Event) (s after : System tallying counted) (reply : Reply) (m : System listed objects.listed) → s ≡ tallied_system m
+    → after ≡ (step place e s).system → reply ≡ (step place e s).reply → IsTalliedStep after reply (step place e m)
+step-tallied place e s after reply m same became answered =
+    let stepped = ap (step place e) same ∙ step-recast tally_of-map listed-counts place e m in
+    (became ∙ ap (λ (t : Stepped tallying counted). t.system) stepped, answered ∙ ap (λ (t : Stepped tallying counted). t.reply) stepped)

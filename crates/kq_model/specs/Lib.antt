@@ -1,11 +1,23 @@
-pub mod Errno
-pub mod FlagNames
+-- Definitions: what a trace means. That a replay's report is right rests on these and on nothing below them.
+-- The text of a trace, and what it reads as.
+pub mod Lines
 pub mod Limits
+pub mod Names
+pub mod FlagNames
+pub mod FaultNames
+pub mod Members
+pub mod Kinds
+pub mod ChangeText
+pub mod RecordText
+pub mod Reading
+pub mod Spelling
+-- One kqueue: its knotes, registration, hints, the clock and retrieval.
+pub mod Errno
 pub mod Bits
+pub mod NoteBits
 pub mod Views
 pub mod Caller
 pub mod Ticks
-pub mod Hashed
 pub mod Hearing
 pub mod Knote
 pub mod Kqueue
@@ -16,24 +28,12 @@ pub mod ChangedKnote
 pub mod Registration
 pub mod Retrieval
 pub mod Call
-pub mod CallLaws
 pub mod Hints
-pub mod HintLaws
 pub mod Following
-pub mod Noticing
 pub mod Close
 pub mod TimerWalk
 pub mod Clock
-pub mod FaultNames
-pub mod Names
-pub mod Lines
-pub mod Members
-pub mod ChangeText
-pub mod Kinds
-pub mod RecordText
-pub mod Reading
-pub mod Spelling
-pub mod NoteBits
+-- The world: objects, descriptors and processes, and the plan of each record.
 pub mod Books
 pub mod Sockets
 pub mod Pipes
@@ -47,7 +47,6 @@ pub mod PipePlans
 pub mod FilePlans
 pub mod Planning
 pub mod Holding
-pub mod Touching
 pub mod Descriptors
 pub mod Processes
 pub mod World
@@ -55,28 +54,39 @@ pub mod ProcessPlans
 pub mod DescriptorPlans
 pub mod ObjectRecordPlans
 pub mod Plans
-pub mod CountedWorld
-pub mod ListedFiles
+-- The whole: a step, the fold of a trace, its rows and its report.
 pub mod Moment
 pub mod System
-pub mod Subjects
-pub mod RegistrationLaws
-pub mod NamedTargets
-pub mod LiveKqueues
+pub mod Report
+-- Definitions of a trace seen kqueue by kqueue, which the replay of each kqueue alone rests on.
 pub mod Births
 pub mod Moments
 pub mod References
 pub mod PrivateList
+pub mod Followers
 pub mod Replayed
 pub mod OwnedRows
-pub mod LiveCalls
 pub mod Projection
+-- Laws: what these definitions promise, in the words of a user of kqueue(2), and what version 1 of the format meant.
+pub mod RegistrationLaws
+pub mod CallLaws
+pub mod HintLaws
 pub mod ClosedNumbers
-pub mod WatchedNumbers
-pub mod TouchedNumbers
-pub mod TouchedTargets
-pub mod Items
+pub mod LiveKqueues
+pub mod LiveCalls
+pub mod VersionOne
+-- Bridges: how the code keeps what the definitions speak of, which contracts name, and what holds of every world and
+-- kqueue, which proofs need.
+pub mod Hashed
 pub mod Tallied
 pub mod Recast
-pub mod Report
-pub mod VersionOne
+pub mod Noticing
+pub mod Subjects
+pub mod NamedTargets
+pub mod WatchedNumbers
+pub mod CountedWorld
+pub mod ListedFiles
+pub mod Touching
+pub mod TouchedTargets
+pub mod TouchedNumbers
+pub mod Items

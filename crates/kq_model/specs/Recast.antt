@@ -8,7 +8,7 @@ use Rattle.kq_model.specs.Knote.{Knote}
 use Rattle.kq_model.specs.Kqueue.{Kqueue}
 use Rattle.kq_model.specs.Objects as objects
 use Rattle.kq_model.specs.Objects.{Keeping, counted}
-use Rattle.kq_model.specs.System.{Live, System}
+use Rattle.kq_model.specs.System.{Live, Stepped, System}
 use Rattle.kq_model.specs.World.{seen_world}
 
 pub record IsHearingMap {S T : Type 0} (h : Hearing S) (g : Hearing T) (f : S → T) : Type 0 where
@@ -54,6 +54,12 @@ module _ {S T : Type 0} {h : Hearing S} (g : Hearing T) (f : S → T) where
 abbrev pub tally_of : List Occurrence → Tally
 tally_of xs = record { count = min (length xs) most_counted; notes = union xs }
 
+abbrev pub tallied_knote : Knote listed → Knote tallying
+tallied_knote k = recast tallying tally_of k
+
+abbrev pub tallied_knotes : List (Knote listed) → List (Knote tallying)
+tallied_knotes ks = map tallied_knote ks
+
 abbrev pub tallied : Kqueue listed → Kqueue tallying
 tallied kq = recast_kqueue tallying tally_of kq
 
@@ -63,3 +69,7 @@ tallied_system s = recast_system tallying tally_of s
 -- the outcome of a call, in tallies, is this one
 abbrev pub IsTallied : Kqueue tallying → Reply → Called listed → Type 0
 IsTallied kq reply r = (kq ≡ tallied r.kq) × (reply ≡ r.reply)
+
+-- the outcome of a step, in tallies and quantities, is this one
+abbrev pub IsTalliedStep : System tallying counted → Reply → Stepped listed objects.listed → Type 0
+IsTalliedStep system reply t = (system ≡ tallied_system t.system) × (reply ≡ t.reply)

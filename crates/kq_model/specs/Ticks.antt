@@ -58,15 +58,18 @@ pub record Ticking : Type 0 where
   pub start : ℕ
   pub period : ℕ
 
+-- whether it expires at one moment alone, which is its start: it has no period
+abbrev pub is_single_moment : Ticking → Bool
+is_single_moment t = t.period == 0
+
 -- whether a moment is one of the first so many: start + period, start + 2 periods, ..
 unfoldable pub is_among_first : ℕ → Ticking → ℕ → Bool
 is_among_first zero t moment = false
 is_among_first (suc k) t moment = (t.start + suc k * t.period == moment) || is_among_first k t moment
 
--- whether the timer expires at a moment: at its start alone, where it has no period. A period is at least 1, so a tick
--- at `moment` is among the first `moment` ticks
+-- whether the timer expires at a moment. A period is at least 1, so a tick at `moment` is among the first `moment` ticks
 unfoldable pub is_tick : Ticking → ℕ → Bool
-is_tick t moment = if t.period == 0 then t.start == moment else is_among_first moment t moment
+is_tick t moment = if is_single_moment t then t.start == moment else is_among_first moment t moment
 
 -- the moments of a timer that may expire once only: the first of them alone (kqueue(2), EV_ONESHOT)
 abbrev pub expires : Bool → Ticking → ℕ → Bool

@@ -1,6 +1,6 @@
 -- How often a timer expires and when it does so next, where it does so once and where it goes on.
 use Rattle.std.proofs.Common.{◌≡◌, ℕ, zero, suc, ◌+◌, ◌-◌, ◌*◌, ◌/◌, ◌%◌, ◌^◌, ◌<◌, ◌≤◌, max, Bool, true, false, cond, ◌&&◌, ◌||◌, eqb, leb, ltb, ℤ, pos, ◌<ℤ◌, ◌⊎◌, inl, inr, refl, sym, ap, ap₂, ◌∙◌, arith}
-use Rattle.std.proofs.lemmas.Bool.{cases_lt, le-leb, lt-leb, lt-ltb, le-ltb, eq-eqb, ne_eqb, and_left, and_right, and_from}
+use Rattle.std.proofs.lemmas.Bool.{cases_lt, le-leb, lt-leb, lt-ltb, le-ltb, eq-eqb, ne_eqb, and_left, and_right, and_from, eqb-true, true≢false}
 use Rattle.std.proofs.lemmas.Bool.Decides.{nat_tests}
 use Rattle.std.proofs.lemmas.Int.{ints}
 use Rattle.kq_model.specs.Ticks.{Ticking, last_moment, is_among_first, is_tick, expires, counted, ticks_between, next_tick, IsNextTick, HasNoTick}
@@ -118,3 +118,12 @@ too_far moment never = by_place (cases_lt moment (2 ^ 64))
     by_place : (moment < 2 ^ 64) ⊎ (2 ^ 64 ≤ moment) → last_moment < moment
     by_place (inl h) = absurd (never h)
     by_place (inr h) = omega (arith, h)
+
+-- ---- whether it has a period
+
+pub no-period : (period : ℕ) → eqb period 0 ≡ true → period ≡ 0
+no-period period is = eqb-true period 0 is
+
+pub has-period : (period : ℕ) → eqb period 0 ≡ false → 0 < period
+has-period zero is = absurd (true≢false is)
+has-period (suc n) is = omega arith

@@ -1,5 +1,5 @@
 ghost use Rattle.std.specs.Prelude.{◌≡◌, ◌≤◌, ◌+◌};
-ghost use Rattle.kq_model.specs.Ticks.{expires, last_moment, next_tick, ticks_between};
+ghost use Rattle.kq_model.specs.Ticks.{expires, is_single_moment, last_moment, next_tick, ticks_between};
 ghost use Rattle.kq_timer.specs.Once.{once_after};
 
 /// The last moment of the clock.
@@ -22,6 +22,13 @@ impl Timer {
     /// The moment after the last of the clock: the next one of a timer that does not expire any more.
     pub const NEVER: u64 = LAST_MOMENT + 1;
 
+    /// Whether it expires at its start alone, since it has no period.
+    pub fn is_single_moment(self) -> bool
+        ensures { result ≡ is_single_moment (record { start = self.start; period = self.period }) }
+    {
+        self.period == 0
+    }
+
     /// How often it expires after the moment `from` and not after `to`; `from` may be before its
     /// start.
     pub fn ticks(self, from: u64, to: u64) -> u64
@@ -30,7 +37,7 @@ impl Timer {
         ensures { result
             ≡ ticks_between (expires self.once (record { start = self.start; period = self.period })) from to }
     {
-        if self.once || self.period == 0 {
+        if self.once || self.is_single_moment() {
             return u64::from(self.single(from) <= to);
         }
         to.saturating_sub(self.start) / self.period - from.saturating_sub(self.start) / self.period
@@ -43,7 +50,7 @@ impl Timer {
         ensures { result
             ≡ next_tick (expires self.once (record { start = self.start; period = self.period })) from }
     {
-        if self.once || self.period == 0 {
+        if self.once || self.is_single_moment() {
             return self.single(from);
         }
         let later = from.max(self.start);
