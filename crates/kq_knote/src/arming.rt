@@ -41,28 +41,25 @@ pub(crate) fn put_new(alarms: &mut Alarms, whole: bool, ident: u64, moment: u64)
 /// Adds the alarm of a knote that comes in the place of another, unless that has it, and says whether
 /// the alarms are whole after it.
 pub(crate) fn put_changed(
-    rows: &Table<Knote>,
+    before: &Knote,
     since: u64,
     alarms: &mut Alarms,
     whole: bool,
-    key: Key,
     moment: u64,
 ) -> bool
     requires { since ≤ last_moment }
     ensures kept { AreKept alarms.old.entries alarms.new.entries }
     ensures whole { result ≡ true → whole ≡ true }
-    ensures here { result ≡ true → HaveOwnKeys rows.now.rows → AreAlarmed since alarms.old.entries rows.now.rows
-        → moment ≤ last_moment → HasAlarm alarms.new.entries moment key.ident }
+    ensures here { result ≡ true → IsAlarmed alarms.old.entries (next_of since before.now) before.now
+        → moment ≤ last_moment → HasAlarm alarms.new.entries moment before.now.key.ident }
 {
     if !whole {
         return false;
     }
-    if let Some(before) = rows.find(key)
-        && before.first_after(since) == moment
-    {
+    if before.first_after(since) == moment {
         return true;
     }
-    put_alarm(alarms, key.ident, moment)
+    put_alarm(alarms, before.key.ident, moment)
 }
 
 /// Adds the alarms of all knotes at their first expirations after `since`. False where there is no

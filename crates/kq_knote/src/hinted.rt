@@ -16,6 +16,14 @@ pub(crate) fn is_shared(target: Option<Target>) -> bool
     }
 }
 
+/// Whether the index by target is whole once a knote has come in the place of another: it has the
+/// knotes in order of registration, so one that comes to watch something else has no place in it.
+pub(crate) fn stays_whole(whole: bool, before: &Knote, after: &Knote) -> bool
+    ensures { result ≡ true → (whole ≡ true) × (before.now.target ≡ after.now.target) }
+{
+    whole && before.target == after.target
+}
+
 /// Whether a knote watches one of the hinted targets.
 fn is_hinted(knote: &Knote, posted: &[(Target, Hint)]) -> bool
     ensures { result ≡ is_hinted posted.now knote.now }

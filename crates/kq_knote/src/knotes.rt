@@ -1,14 +1,17 @@
-ghost use Rattle.std.specs.Prelude.{◌≡◌, ◌<◌, ◌≤◌, ◌+◌, ◌++◌, ◌↔◌, ◌∷◌, IsTrue, true, [], None, OnOk, OnErr, MatchOption, slice_get, length, filter, not, max};
-ghost use Rattle.kq_model.specs.Knote.{key_eq, find_knote, with_knote, without_knote};
+ghost use Rattle.std.specs.Prelude.{List, ◌≡◌, ◌<◌, ◌≤◌, ◌+◌, ◌++◌, ◌↔◌, ◌∷◌, IsTrue, true, [], None, OnOk, OnErr, MatchOption, slice_get, length, filter, not, max};
+ghost use Rattle.std.specs.Option.{option_map};
 ghost use Rattle.kq_model.specs.Close.{is_of_number};
+ghost use Rattle.kq_model.specs.Hearing.{listed};
+ghost use Rattle.kq_model.specs.Knote as model;
+ghost use Rattle.kq_model.specs.Knote.{key_eq, find_knote, with_knote, without_knote};
+ghost use Rattle.kq_model.specs.Recast.{tallied_knote, tallied_knotes};
 ghost use Rattle.kq_model.specs.Ticks.{last_moment};
-ghost use Rattle.kq_knote.specs.Index.{KeepsTarget};
 ghost use Rattle.kq_knote.specs.Quiet.{AreLater, AreQuiet};
 ghost use Rattle.kq_table.specs.Rows.{row_after};
 
 use crate::Knote;
 use crate::arming::{put_changed, put_new};
-use crate::hinted::is_shared;
+use crate::hinted::{is_shared, stays_whole};
 use kq_alarm::Alarms;
 use kq_model::{Filter, Key, Memory, Target};
 use kq_table::{Table, TargetIndex, Watch};
@@ -124,8 +127,12 @@ impl Knotes {
     }
 
     /// The knote of a key.
-    pub fn find(&self, key: Key) -> Option<Knote>
-        ensures { result ≡ find_knote key self.now.knotes }
+    pub fn get(&self, key: Key) -> Option<Knote>
+        ensures knote { result ≡ find_knote key self.now.knotes }
+
+        // The same of knotes that keep all that they heard.
+        ensures model { (ms : List (model.Knote listed)) → self.now.knotes ≡ tallied_knotes ms
+            → result ≡ option_map tallied_knote (find_knote key ms) }
     {
         self.rows.find(key)
     }
@@ -151,6 +158,10 @@ impl Knotes {
         requires absent { find_knote knote.key self.old.knotes ≡ None }
         ensures knotes { self.new.knotes ≡ self.old.knotes ++ knote ∷ [] }
         ensures room { self.new.room + 1 ≡ self.old.room }
+
+        // The same of knotes that keep all that they heard.
+        ensures model { (ms : List (model.Knote listed)) (m : model.Knote listed) → self.old.knotes ≡ tallied_knotes ms
+            → knote ≡ tallied_knote m → self.new.knotes ≡ tallied_knotes (ms ++ m ∷ []) }
     {
         let first = knote.first_after(self.since);
         self.soonest = self.soonest.min(first);
@@ -169,23 +180,24 @@ impl Knotes {
         }
     }
 
-    /// Puts a knote in the place of the one of its key, which watches the same target; where there
-    /// is none, nothing changes.
+    /// Puts a knote in the place of the one of its key; where there is none, nothing changes. Where
+    /// it watches another target than that one, the index by target has no place for it and is given
+    /// up: from then on hints find the knotes of their targets by a walk over all.
     pub fn modify(&mut self, knote: Knote)
-        requires { KeepsTarget knote self.old.knotes }
         ensures knotes { self.new.knotes ≡ with_knote knote self.old.knotes }
         ensures room { self.new.room ≡ self.old.room }
+
+        // The same of knotes that keep all that they heard.
+        ensures model { (ms : List (model.Knote listed)) (m : model.Knote listed) → self.old.knotes ≡ tallied_knotes ms
+            → knote ≡ tallied_knote m → self.new.knotes ≡ tallied_knotes (with_knote m ms) }
     {
+        let Some(before) = self.rows.find(knote.key) else {
+            return;
+        };
         let first = knote.first_after(self.since);
         self.soonest = self.soonest.min(first);
-        self.alarmed = put_changed(
-            &self.rows,
-            self.since,
-            &mut self.alarms,
-            self.alarmed,
-            knote.key,
-            first,
-        );
+        self.alarmed = put_changed(&before, self.since, &mut self.alarms, self.alarmed, first);
+        self.whole = stays_whole(self.whole, &before, &knote);
         self.rows.modify(knote);
     }
 
@@ -195,6 +207,11 @@ impl Knotes {
         ensures knotes { self.new.knotes ≡ without_knote key self.old.knotes }
         ensures room { MatchOption result (self.new.room ≡ self.old.room) (λ _. self.new.room ≡ self.old.room + 1) }
         ensures limit { length self.new.knotes + self.new.room ≡ length self.old.knotes + self.old.room }
+
+        // The same of knotes that keep all that they heard.
+        ensures model { (ms : List (model.Knote listed)) → self.old.knotes ≡ tallied_knotes ms
+            → (result ≡ option_map tallied_knote (find_knote key ms))
+            × (self.new.knotes ≡ tallied_knotes (without_knote key ms)) }
     {
         self.index.remove(key);
         self.rows.remove(key)
@@ -205,6 +222,10 @@ impl Knotes {
     pub fn remove_descriptor(&mut self, number: u32)
         ensures knotes { self.new.knotes ≡ filter (λ k. not (is_of_number number k.key)) self.old.knotes }
         ensures limit { length self.new.knotes + self.new.room ≡ length self.old.knotes + self.old.room }
+
+        // The same of knotes that keep all that they heard.
+        ensures model { (ms : List (model.Knote listed)) → self.old.knotes ≡ tallied_knotes ms
+            → self.new.knotes ≡ tallied_knotes (filter (λ k. not (is_of_number number k.key)) ms) }
     {
         let ident = u64::from(number);
         self.remove(Key {

@@ -8,6 +8,7 @@ use Rattle.kq_model.specs.Kqueue.{HaveOwnKeys}
 use Rattle.kq_model.specs.Tallied.{Knote}
 use Rattle.kq_model.specs.Ticks.{last_moment}
 use Rattle.kq_model.proofs.KnoteLaws.{HaveOwnKeys-append}
+use Rattle.kq_model.proofs.Tallied.{attached-tallied}
 use Rattle.kq_knote.specs.Index.{watch_of, shares}
 use Rattle.kq_knote.specs.Reserved.{Reserved}
 use Rattle.kq_knote.specs.Expiring.{AreAlarmed}
@@ -100,3 +101,18 @@ invariant_of-self-else-self c =
 
 pub first_after-first-requires : goal.first_after-first-requires
 first_after-first-requires c = c.self.invariant.begun
+
+pub returns-then-not-is_shared-clause-model : goal.returns-then-not-is_shared-clause-model
+returns-then-not-is_shared-clause-model c = λ ms m same one.
+    c.attach.ensures.rows ∙ ap (λ (v : Reserved). v.knotes ++ c.args.knote ∷ []) c.self.view_is
+    ∙ attached-tallied c.args.self.now.knotes ms same c.args.knote m one
+
+pub returns-else-self-clause-model : goal.returns-else-self-clause-model
+returns-else-self-clause-model c = λ ms m same one.
+    c.attach.ensures.rows ∙ ap (λ (v : Reserved). v.knotes ++ c.args.knote ∷ []) c.self.view_is
+    ∙ attached-tallied c.args.self.now.knotes ms same c.args.knote m one
+
+pub returns-then-room-gt0-clause-model : goal.returns-then-room-gt0-clause-model
+returns-then-room-gt0-clause-model c = λ ms m same one.
+    c.attach.ensures.rows ∙ ap (λ (v : Reserved). v.knotes ++ c.args.knote ∷ []) c.self.view_is
+    ∙ attached-tallied c.args.self.now.knotes ms same c.args.knote m one

@@ -5,6 +5,7 @@ use Rattle.kq_model.specs.Knote.{key_eq, find_knote, without_knote}
 use Rattle.kq_model.specs.Kqueue.{HaveOwnKeys}
 use Rattle.kq_model.specs.Tallied.{Knote}
 use Rattle.kq_model.proofs.KnoteLaws.{HaveOwnKeys-without}
+use Rattle.kq_model.proofs.Tallied.{found-tallied, without-tallied}
 use Rattle.kq_knote.specs.Expiring.{AreAlarmed}
 use Rattle.kq_knote.specs.Index.{watch_of, shares}
 use Rattle.kq_knote.specs.Quiet.{AreQuiet}
@@ -60,3 +61,9 @@ pub returns-clause-knotes : goal.returns-clause-knotes
 returns-clause-knotes c =
     without-rows c.args.key c.self.inside.rows.rows c.remove-2.new.self.rows c.remove-2.ensures.rows
     ∙ ap (λ (v : Reserved). without_knote c.args.key v.knotes) c.self.view_is
+
+pub returns-clause-model : goal.returns-clause-model
+returns-clause-model c = λ ms same. (
+  returns-clause-removed c ∙ found-tallied c.args.self.now.knotes ms same c.args.key,
+  returns-clause-knotes c ∙ without-tallied c.args.self.now.knotes ms same c.args.key,
+)

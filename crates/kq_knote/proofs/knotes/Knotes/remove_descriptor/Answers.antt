@@ -3,6 +3,7 @@ use Rattle.kq_model.specs.declared.filter.Filter.TheVariants.{Write, Vnode}
 use Rattle.kq_model.specs.Knote.{without_knote}
 use Rattle.kq_model.specs.Tallied.{Knote}
 use Rattle.kq_model.proofs.NumberLaws.{without-number, three}
+use Rattle.kq_model.proofs.Tallied.{without_number-tallied}
 use Rattle.kq_knote.proofs.knotes.Knotes.remove_descriptor.Goals as goal
 
 pub returns-clause-knotes : goal.returns-clause-knotes
@@ -12,3 +13,6 @@ returns-clause-knotes c =
     (c.remove-2.ensures.knotes ∙ ap (λ (ks : List Knote). without_knote (record { ident = c.from-ident.result; filter = Write }) ks) c.remove.ensures.knotes)
     ∙ ap (λ n. three n c.args.self.now.knotes) c.from-ident.ensures
     ∙ without-number c.args.number c.args.self.now.knotes
+
+pub returns-clause-model : goal.returns-clause-model
+returns-clause-model c = λ ms same. returns-clause-knotes c ∙ without_number-tallied c.args.self.now.knotes ms same c.args.number
