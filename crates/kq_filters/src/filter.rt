@@ -1,5 +1,8 @@
 ghost use Rattle.std.specs.Prelude.{◌≡◌, option_and_then};
+ghost use Rattle.kq_model.specs.Hearing.{listed};
+ghost use Rattle.kq_model.specs.Knote as model;
 ghost use Rattle.kq_model.specs.Look.{look, look_by, look_user, notice_or};
+ghost use Rattle.kq_model.specs.Recast.{tallied_knote};
 ghost use Rattle.kq_model.specs.Views as world;
 
 use crate::Seen;
@@ -13,8 +16,12 @@ use kq_model::{Filter, View};
 /// filter's condition does not hold.
 #[tactic(auto, unfolding(kq_model::specs::Look::look))]
 pub fn look(knote: &Knote, view: Option<View>) -> Option<Seen>
-    ensures { (views : world.Views) → view ≡ option_and_then views.view knote.now.target
+    ensures seen { (views : world.Views) → view ≡ option_and_then views.view knote.now.target
         → result ≡ look views knote.now }
+
+    // The same of a knote that keeps all that it heard.
+    ensures model { (views : world.Views) (m : model.Knote listed) → knote.now ≡ tallied_knote m
+        → view ≡ option_and_then views.view m.target → result ≡ look views m }
 {
     notice_or(knote.notice, look_by(knote, view))
 }

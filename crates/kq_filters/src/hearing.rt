@@ -1,5 +1,8 @@
 ghost use Rattle.std.specs.Prelude.{◌≡◌, if◌then◌else◌};
+ghost use Rattle.kq_model.specs.Hearing.{listed};
 ghost use Rattle.kq_model.specs.Hints.{takes, kept, is_exit, added, after_hint, is_done};
+ghost use Rattle.kq_model.specs.Knote as model;
+ghost use Rattle.kq_model.specs.Recast.{tallied_knote};
 
 use kq_knote::Knote;
 use kq_model::notes::NOTE_EXIT;
@@ -72,21 +75,37 @@ fn take(knote: &mut Knote, hint: Hint)
     }
 }
 
-/// Tells a knote a hint for its target. A hint that its filter does not take changes nothing, and
-/// of a note only the bits of its fflags are kept. A PROC knote that hears of the exit of its
-/// process becomes ONESHOT, and is to go where it has nothing to tell.
+/// Tells a knote a hint for its target, and says whether it is to go.
 #[tactic(auto, unfolding(kq_model::specs::Hints::after_hint, kq_model::specs::Hints::is_done))]
-pub fn hear(knote: &mut Knote, hint: Hint) -> Heard
+fn tell(knote: &mut Knote, hint: Hint) -> bool
     ensures knote { knote.new ≡ after_hint hint knote.old }
-    ensures heard { result ≡ (if is_done hint knote.old then Heard.Drop else Heard.Kept) }
+    ensures done { result ≡ is_done hint knote.old }
 {
     let exits = is_exit(knote.key.filter, hint);
     let oneshot = knote.oneshot || exits;
     take(knote, hint);
     knote.oneshot = oneshot;
-    if exits && knote.has_nothing() {
-        Heard::Drop
-    } else {
-        Heard::Kept
-    }
+    exits && knote.has_nothing()
+}
+
+/// What became of a knote, by whether it is to go.
+fn after(done: bool) -> Heard
+    ensures { result ≡ (if done then Heard.Drop else Heard.Kept) }
+{
+    if done { Heard::Drop } else { Heard::Kept }
+}
+
+/// Tells a knote a hint for its target. A hint that its filter does not take changes nothing, and
+/// of a note only the bits of its fflags are kept. A PROC knote that hears of the exit of its
+/// process becomes ONESHOT, and is to go where it has nothing to tell.
+pub fn hear(knote: &mut Knote, hint: Hint) -> Heard
+    ensures knote { knote.new ≡ after_hint hint knote.old }
+    ensures heard { result ≡ (if is_done hint knote.old then Heard.Drop else Heard.Kept) }
+
+    // The same of a knote that keeps all that it heard.
+    ensures model { (m : model.Knote listed) → knote.old ≡ tallied_knote m
+        → (knote.new ≡ tallied_knote (after_hint hint m))
+        × (result ≡ (if is_done hint m then Heard.Drop else Heard.Kept)) }
+{
+    after(tell(knote, hint))
 }

@@ -20,7 +20,7 @@ impl Views for NothingThere {
         None
     }
 
-    fn now(&self) -> u64 {
+    fn now(&self) -> i64 {
         0
     }
 }

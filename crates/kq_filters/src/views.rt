@@ -1,4 +1,4 @@
-ghost use Rattle.std.specs.Prelude.{◌≡◌};
+ghost use Rattle.std.specs.Prelude.{◌≡◌, pos};
 ghost use Rattle.kq_model.specs.Views as world;
 
 use kq_model::{Named, Target, View};
@@ -16,7 +16,7 @@ pub trait Views {
     fn descriptor(&self, pid: u32, number: u32) -> Option<Named>
         ensures { result ≡ (sees self.now).descriptor pid number };
 
-    /// The clock, in ns from the first moment of the trace.
-    fn now(&self) -> u64
-        ensures { result ≡ (sees self.now).now };
+    /// The clock, in ns from the first moment of the trace; it is never negative.
+    fn now(&self) -> i64
+        ensures { result ≡ pos (sees self.now).now };
 }
