@@ -1,5 +1,6 @@
 -- What a kqueue whose clock went on promises besides, and what is known of its timers then.
-use Rattle.std.proofs.Common.{◌≡◌, ℕ, zero, suc, ◌+◌, ◌-◌, ◌≤◌, List, [], ◌∷◌, Some, ◌⊎◌, inl, inr, sym, ap, ◌∙◌, subst, arith}
+use Rattle.std.proofs.Common.{◌≡◌, ℤ, pos, negsuc, ◌≤ℤ◌, unsigned_abs, FitsSigned, w64, to_z, of_z, ℕ, zero, suc, ◌+◌, ◌-◌, ◌≤◌, List, [], ◌∷◌, Some, ◌⊎◌, inl, inr, sym, ap, ◌∙◌, subst, arith}
+use Rattle.std.proofs.lemmas.Int.{ints, to_z-of_z}
 use Rattle.kq_model.specs.Clock.{timers, waiting_of, kqueue_of_waiting, clock_from, clocked}
 use Rattle.kq_model.specs.Hearing.{listed, tallying}
 use Rattle.kq_model.specs.Kqueue as kqueues
@@ -62,3 +63,21 @@ quiet-after since soonest (k ∷ ks) within outside = (here outside.0, quiet-aft
     here : (first_of since k ≤ since) ⊎ (soonest ≤ first_of since k) → soonest ≤ first_of since k
     here (inl past) = absurd (omega (arith, past, first-later since k within))
     here (inr later) = later
+
+-- ---- moments as the clock gives them
+
+-- how far one is from 0, where it comes through the bits that hold it
+pub magnitude : (z : ℤ) (n : ℕ) → FitsSigned w64 z → n ≡ unsigned_abs (to_z w64 (of_z w64 z)) → n ≡ unsigned_abs z
+magnitude z n fits is = is ∙ ap unsigned_abs (to_z-of_z w64 z fits)
+
+pub not-negative : (a b : ℤ) → pos 0 ≤ℤ a → a ≤ℤ b → pos 0 ≤ℤ b
+not-negative a b begun ordered = omega (arith, ints, begun, ordered)
+
+pub moments-ordered : (a b : ℤ) → pos 0 ≤ℤ a → a ≤ℤ b → unsigned_abs a ≤ unsigned_abs b
+moments-ordered (pos a) (pos b) begun ordered = omega (arith, ints, ordered)
+moments-ordered (pos a) (negsuc b) begun ordered = absurd (omega (arith, ints, ordered))
+moments-ordered (negsuc a) b begun ordered = absurd (omega (arith, ints, begun))
+
+pub moment-within : (a : ℤ) → pos 0 ≤ℤ a → FitsSigned w64 a → unsigned_abs a ≤ last_moment
+moment-within (pos a) begun fits = omega (arith, ints, fits)
+moment-within (negsuc a) begun fits = absurd (omega (arith, ints, begun))

@@ -6,7 +6,6 @@ use Rattle.kq_model.specs.declared.object.Hint.{Hint}
 use Rattle.kq_model.specs.declared.key.Key.{Key}
 use Rattle.kq_model.specs.declared.object.Target.{Target}
 use Rattle.kq_model.specs.ChangedKnote.{activated}
-use Rattle.kq_model.specs.Hearing.{tallying}
 use Rattle.kq_model.specs.Hints.{takes, kept, added, after_hint, is_done, hints_for}
 use Rattle.kq_model.specs.Knote.{has_nothing, find_knote, with_knote}
 use Rattle.kq_model.specs.Look.{Seen, look}

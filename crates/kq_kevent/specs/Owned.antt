@@ -1,8 +1,9 @@
 -- What contracts see of a kqueue of the code.
-use Rattle.std.specs.Prelude.{◌≡◌, ℕ, ◌+◌, ◌≤◌, List, length}
+use Rattle.std.specs.Prelude.{◌≡◌, ℕ, ℤ, unsigned_abs, ◌+◌, ◌≤◌, List, length}
 use Rattle.kq_model.specs.declared.key.Key.{Key}
 use Rattle.kq_model.specs.Call.{number_of}
 use Rattle.kq_model.specs.Caller.{Caller}
+use Rattle.kq_model.specs.Clock.{Span}
 use Rattle.kq_model.specs.Following.{followed}
 use Rattle.kq_model.specs.Hearing.{listed}
 use Rattle.kq_model.specs.Hints.{notified}
@@ -36,6 +37,10 @@ kqueue_of knotes queue = record { knotes = knotes; queue = queue }
 -- the owner as it calls, where it sees this of the world
 abbrev pub caller : Views → OwnedKqueue → Caller
 caller views kq = record { views = views; owner = kq.owner; version = kq.version }
+
+-- from one moment to another, in ns, of which neither is negative
+abbrev pub span_of : ℤ → ℤ → Span
+span_of from to = record { from = unsigned_abs from; to = unsigned_abs to }
 
 -- the outcome of a registration, in tallies and with an error number, is this one
 abbrev pub IsTalliedRegistration : Kqueue → ℕ → Registered listed → Type 0

@@ -1,4 +1,4 @@
-ghost use Rattle.std.specs.Prelude.{◌≡◌, ℕ, ◌<◌, ◌≤◌, ◌+◌, ◌∷◌, Some, [], map, min, nat_le, if◌then◌else◌, MatchOption};
+ghost use Rattle.std.specs.Prelude.{◌≡◌, ℤ, pos, ◌≤ℤ◌, unsigned_abs, ◌<◌, ◌≤◌, ◌+◌, ◌∷◌, Some, [], map, min, nat_le, if◌then◌else◌, MatchOption};
 ghost use Rattle.kq_model.specs.Clock.{clocked};
 ghost use Rattle.kq_model.specs.Hearing.{listed};
 ghost use Rattle.kq_model.specs.Knote.{find_knote};
@@ -8,7 +8,7 @@ ghost use Rattle.kq_model.specs.Ticks.{last_moment};
 ghost use Rattle.kq_model.specs.Views as world;
 ghost use Rattle.kq_model.specs.WatchedNumbers.{WatchTheirNumbers};
 ghost use Rattle.kq_knote.specs.Expiring.{expiring};
-ghost use Rattle.kq_kevent.specs.Owned.{limit};
+ghost use Rattle.kq_kevent.specs.Owned.{limit, span_of};
 ghost use Rattle.kq_kevent.specs.Ringing.{AreOutside, IsClocked, firsts_at, rung_each, with_rung};
 
 use crate::Kq;
@@ -35,28 +35,41 @@ impl Kq {
     /// and those that are enabled and not in the queue go to its back in the order of their first
     /// expirations, of two at one moment the one first that was registered first (kqueue(2),
     /// EVFILT_TIMER; the order is this project's choice). It takes no memory.
-    pub fn clock(&mut self, from: u64, to: u64)
-        requires ordered { from ≤ to }
-        requires within { to ≤ last_moment }
-        ensures kq { self.new.kq ≡ clocked (Some (record { from = from; to = to })) self.old.kq }
+    pub fn clock(&mut self, from: i64, to: i64)
+        requires past { pos 0 ≤ℤ from }
+        requires ordered { from ≤ℤ to }
+        ensures kq { self.new.kq ≡ clocked (Some (span_of from to)) self.old.kq }
 
         // What this comes to for a user: each knote has its expirations and stays as it is otherwise,
         // and the queue keeps what it has.
-        ensures laws { IsClocked from to self.old.kq self.new.kq }
+        ensures laws { IsClocked (unsigned_abs from) (unsigned_abs to) self.old.kq self.new.kq }
 
         // Any moment between may be stopped at: so the expirations of many steps add up.
-        ensures steps { (between : ℕ) → from ≤ between → between ≤ to
-            → self.new.kq ≡ clocked (Some (record { from = between; to = to }))
-            (clocked (Some (record { from = from; to = between })) self.old.kq) }
+        ensures steps { (between : ℤ) → from ≤ℤ between → between ≤ℤ to
+            → self.new.kq ≡ clocked (Some (span_of between to)) (clocked (Some (span_of from between)) self.old.kq) }
 
         // The same in the words of the definitions, which keep all that was heard.
         ensures model { (m : Kqueue listed) → self.old.kq ≡ recast.tallied m
-            → self.new.kq ≡ recast.tallied (clocked (Some (record { from = from; to = to })) m) }
+            → self.new.kq ≡ recast.tallied (clocked (Some (span_of from to)) m) }
 
         // Where the READ, WRITE and VNODE knotes watch what their numbers name, they still do.
         ensures named { (views : world.Views) → WatchTheirNumbers views self.old.owner self.old.kq
             → WatchTheirNumbers views self.old.owner self.new.kq }
 
+        ensures owner { self.new.owner ≡ self.old.owner }
+        ensures version { self.new.version ≡ self.old.version }
+        ensures room { self.new.room ≡ self.old.room }
+        ensures limit { limit self.new ≡ limit self.old }
+    {
+        self.pass(from.unsigned_abs(), to.unsigned_abs());
+    }
+
+    /// The clock goes on between two moments, of which neither is past the last one.
+    fn pass(&mut self, from: u64, to: u64)
+        requires ordered { from ≤ to }
+        requires within { to ≤ last_moment }
+        ensures kq { self.new.kq ≡ clocked (Some (record { from = from; to = to })) self.old.kq }
+        ensures sound { IsSound self.old.kq }
         ensures owner { self.new.owner ≡ self.old.owner }
         ensures version { self.new.version ≡ self.old.version }
         ensures room { self.new.room ≡ self.old.room }
@@ -116,7 +129,7 @@ impl Kq {
         ensures room { self.new.room ≡ self.old.room }
         ensures limit { limit self.new ≡ limit self.old }
     {
-        let Some(knote) = self.knotes.find(key) else {
+        let Some(knote) = self.knotes.get(key) else {
             return;
         };
         self.ring(knote, from, to);

@@ -1,5 +1,8 @@
 ghost use Rattle.std.specs.Prelude.{◌≡◌, ◌≤◌, ◌∷◌, []};
 ghost use Rattle.kq_model.specs.Close.{closed};
+ghost use Rattle.kq_model.specs.Hearing.{listed};
+ghost use Rattle.kq_model.specs.Kqueue.{Kqueue};
+ghost use Rattle.kq_model.specs.Recast.{tallied};
 ghost use Rattle.kq_model.specs.Views.{Views};
 ghost use Rattle.kq_model.specs.WatchedNumbers.{LeavesOpen, WatchTheirNumbers};
 ghost use Rattle.kq_kevent.specs.Owned.{limit};
@@ -13,6 +16,10 @@ impl Kq {
     pub fn closed(&mut self, number: u32)
         ensures kq { self.new.kq
             ≡ closed self.old.owner (record { pid = self.old.owner; number = number } ∷ []) self.old.kq }
+
+        // The same in the words of the definitions, which keep all that was heard.
+        ensures model { (m : Kqueue listed) → self.old.kq ≡ tallied m → self.new.kq
+            ≡ tallied (closed self.old.owner (record { pid = self.old.owner; number = number } ∷ []) m) }
 
         // Where the READ, WRITE and VNODE knotes watched what their numbers named before a record that
         // closes this one, they watch what these name after it.

@@ -83,7 +83,7 @@ impl Kq {
         decided(
             self.owner,
             self.version,
-            self.knotes.find(change.key()),
+            self.knotes.get(change.key()),
             change,
             views,
         )

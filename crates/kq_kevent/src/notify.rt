@@ -244,8 +244,8 @@ impl Kq {
         ensures version { self.new.version ≡ self.old.version }
         ensures limit { limit self.new ≡ limit self.old }
     {
-        let known = self.knotes.find(process_key(child));
-        if let Some(knote) = heir(parent, child, self.knotes.find(process_key(parent)), known) {
+        let known = self.knotes.get(process_key(child));
+        if let Some(knote) = heir(parent, child, self.knotes.get(process_key(parent)), known) {
             self.take_in(knote);
         }
     }
@@ -292,7 +292,7 @@ impl Kq {
         // Of every kqueue.
         ensures own_keys { HaveOwnKeys self.now.kq.knotes }
     {
-        match self.knotes.find(process_key(pid)) {
+        match self.knotes.get(process_key(pid)) {
             None => false,
             Some(knote) => follows(pid, &knote),
         }
@@ -341,7 +341,7 @@ impl Kq {
         ensures room { self.old.room ≤ self.new.room }
         ensures limit { limit self.new ≡ limit self.old }
     {
-        let Some(knote) = self.knotes.find(key) else {
+        let Some(knote) = self.knotes.get(key) else {
             return;
         };
         let told = tell_all(knote, hints);

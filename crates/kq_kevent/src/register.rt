@@ -82,6 +82,13 @@ impl Queue {
     }
 }
 
+/// The moment at which it is, as a knote keeps it.
+fn clock_of<V: Views>(views: &V) -> u64
+    ensures { result ≡ (V.sees views.now).now }
+{
+    views.now() as u64
+}
+
 impl Kq {
     /// Registers one change of a change list: 0, or the number of the error with which it is
     /// refused (kqueue(2), ERRORS). It takes no memory.
@@ -148,7 +155,7 @@ impl Kq {
         ensures room { self.new.room + 1 ≡ self.old.room }
     {
         let target = target_of(self.owner, change, views);
-        let moment = views.now();
+        let moment = clock_of(views);
         let mut knote = Knote::first(change, target, self.version, moment);
         attend(views, &mut knote);
         self.knotes.attach(knote);
@@ -191,7 +198,7 @@ impl Kq {
     {
         // The queue holds just the knotes that are active and enabled, so it need not be asked.
         let waits = is_waiting(&present);
-        let moment = views.now();
+        let moment = clock_of(views);
         let mut knote = present;
         knote.replace(change);
         knote.restart(change, self.version, moment);

@@ -98,7 +98,7 @@ impl Kq {
         let Some(key) = self.queue.take_front() else {
             unreachable!();
         };
-        let Some(mut knote) = self.knotes.find(key) else {
+        let Some(mut knote) = self.knotes.get(key) else {
             unreachable!();
         };
         match look_in(views, &knote) {

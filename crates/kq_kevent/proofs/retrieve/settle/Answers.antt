@@ -1,8 +1,6 @@
-use Rattle.std.proofs.Common.{length, ap, ◌∙◌, arith}
-use Rattle.kq_model.specs.Retrieval.{rested}
+use Rattle.std.proofs.Common.{length, ap, arith}
 use Rattle.kq_model.specs.Tallied.{Knote}
 use Rattle.kq_knote.proofs.CountLaws.{limit-without_knote}
-use Rattle.kq_kevent.proofs.KeepLaws.{keeps-rested}
 use Rattle.kq_kevent.proofs.retrieve.settle.Goals as goal
 
 pub returns-then-delivered-clause-limit : goal.returns-then-delivered-clause-limit
@@ -13,7 +11,3 @@ returns-then-delivered-clause-limit c =
     let kept = limit-without_knote c.delivered.inside.key ks c.remove.result c.args.knotes.now.room
     c.remove.new.self.room c.requires.own_keys c.remove.ensures.removed c.remove.ensures.room in
     omega (arith, kept, ap (length {A = Knote}) c.remove.ensures.knotes)
-
-pub modify-requires : goal.modify-requires
-modify-requires c = keeps-rested c.args.delivered.now c.rest.new.self c.args.knotes.now.knotes
-    (c.rest.ensures ∙ ap rested c.delivered.view_is) c.requires.there

@@ -5,6 +5,7 @@ use Rattle.kq_model.specs.Hearing.{tallying}
 use Rattle.kq_model.specs.Tallied.{Kqueue}
 use Rattle.kq_model.specs.WatchedNumbers.{WatchTheirNumbers}
 use Rattle.kq_model.proofs.NumberLaws.{key_by}
+use Rattle.kq_model.proofs.Tallied.{closed-tallied}
 use Rattle.kq_model.proofs.WatchedNumbers.{closed-watched}
 use Rattle.kq_kevent.proofs.CloseLaws.{number_of, three-removed}
 use Rattle.kq_kevent.proofs.kq.Kq.closed.Goals as goal
@@ -25,3 +26,8 @@ returns-clause-named c = λ before after leaves watch.
     let owner = c.args.self.now.owner in
     subst (λ (kq : Kqueue). WatchTheirNumbers after owner kq) (sym (returns-clause-kq c))
     (closed-watched tallying before after owner (number_of owner c.args.number) c.args.self.now.kq leaves watch)
+
+pub returns-clause-model : goal.returns-clause-model
+returns-clause-model c = λ m same.
+    let owner = c.args.self.now.owner in
+    returns-clause-kq c ∙ closed-tallied c.args.self.now.kq m same owner (number_of owner c.args.number)

@@ -1,4 +1,4 @@
-use Rattle.std.proofs.Common.{ℕ, ◌≡◌, ◌≤◌, ◌+◌, length, Some, None, sym, ap, ap₂, ◌∙◌, arith}
+use Rattle.std.proofs.Common.{ℕ, sym, ap, ap₂, ◌∙◌, arith}
 use Rattle.kq_model.specs.Following.{Fork, heir, heir_in, with_heir}
 use Rattle.kq_model.specs.Knote.{find_knote}
 use Rattle.kq_model.proofs.Following.{heir-one, heir-absent}
@@ -13,8 +13,8 @@ take_in-requires-clause-room c =
     let f = fork_of c.args.parent c.args.child in
     let kq = c.args.self.now.kq in
     let found = c.heir.ensures
-    ∙ ap₂ (heir f) (c.find.ensures ∙ ap (λ key. find_knote key c.self.inside.knotes.knotes) c.process_key-2.ensures)
-    (c.find-known.ensures ∙ ap (λ key. find_knote key c.self.inside.knotes.knotes) c.process_key.ensures)
+    ∙ ap₂ (heir f) (c.get.ensures.knote ∙ ap (λ key. find_knote key c.self.inside.knotes.knotes) c.process_key-2.ensures)
+    (c.get-known.ensures.knote ∙ ap (λ key. find_knote key c.self.inside.knotes.knotes) c.process_key.ensures)
     ∙ ap (λ (v : OwnedKqueue). heir_in f v.kq) c.self.view_is in
     let one = heir-one (heir_in f kq) c.in-Some.knote kq (sym found ∙ c.in-Some.is) in
     omega (arith, one, c.requires)
@@ -24,8 +24,8 @@ take_in-requires-clause-absent c =
     let f = fork_of c.args.parent c.args.child in
     let kq = c.args.self.now.kq in
     let found = c.heir.ensures
-    ∙ ap₂ (heir f) (c.find.ensures ∙ ap (λ key. find_knote key c.self.inside.knotes.knotes) c.process_key-2.ensures)
-    (c.find-known.ensures ∙ ap (λ key. find_knote key c.self.inside.knotes.knotes) c.process_key.ensures)
+    ∙ ap₂ (heir f) (c.get.ensures.knote ∙ ap (λ key. find_knote key c.self.inside.knotes.knotes) c.process_key-2.ensures)
+    (c.get-known.ensures.knote ∙ ap (λ key. find_knote key c.self.inside.knotes.knotes) c.process_key.ensures)
     ∙ ap (λ (v : OwnedKqueue). heir_in f v.kq) c.self.view_is in
     heir-absent f kq c.in-Some.knote (sym found ∙ c.in-Some.is)
 
@@ -35,8 +35,8 @@ returns-in-Some-clause-kq c =
     let f = fork_of c.args.parent c.args.child in
     let kq = c.args.self.now.kq in
     let found = c.heir.ensures
-    ∙ ap₂ (heir f) (c.find.ensures ∙ ap (λ key. find_knote key c.self.inside.knotes.knotes) c.process_key-2.ensures)
-    (c.find-known.ensures ∙ ap (λ key. find_knote key c.self.inside.knotes.knotes) c.process_key.ensures)
+    ∙ ap₂ (heir f) (c.get.ensures.knote ∙ ap (λ key. find_knote key c.self.inside.knotes.knotes) c.process_key-2.ensures)
+    (c.get-known.ensures.knote ∙ ap (λ key. find_knote key c.self.inside.knotes.knotes) c.process_key.ensures)
     ∙ ap (λ (v : OwnedKqueue). heir_in f v.kq) c.self.view_is in
     c.take_in.ensures.kq ∙ ap (λ o. with_heir o kq) (sym (sym found ∙ c.in-Some.is))
 
@@ -46,7 +46,7 @@ returns-in_default-clause-kq c =
     let f = fork_of c.args.parent c.args.child in
     let kq = c.args.self.now.kq in
     let found = c.heir.ensures
-    ∙ ap₂ (heir f) (c.find.ensures ∙ ap (λ key. find_knote key c.self.inside.knotes.knotes) c.process_key-2.ensures)
-    (c.find-known.ensures ∙ ap (λ key. find_knote key c.self.inside.knotes.knotes) c.process_key.ensures)
+    ∙ ap₂ (heir f) (c.get.ensures.knote ∙ ap (λ key. find_knote key c.self.inside.knotes.knotes) c.process_key-2.ensures)
+    (c.get-known.ensures.knote ∙ ap (λ key. find_knote key c.self.inside.knotes.knotes) c.process_key.ensures)
     ∙ ap (λ (v : OwnedKqueue). heir_in f v.kq) c.self.view_is in
     ap (λ o. with_heir o kq) (sym (sym found ∙ c.in_default.is))

@@ -1,5 +1,5 @@
-use Rattle.std.proofs.Common.{◌≡◌, ◌≤◌, List, length, Option, Some, None, refl, sym, ap, ◌∙◌, subst}
-use Rattle.kq_model.specs.Following.{Fork, forks_of, heir_in, with_heir, followed_each}
+use Rattle.std.proofs.Common.{◌≤◌, List, length, sym, ap, ◌∙◌, subst}
+use Rattle.kq_model.specs.Following.{Fork, followed_each}
 use Rattle.kq_kevent.specs.Owned.{limit}
 use Rattle.kq_kevent.specs.Telling.{fork_told}
 use Rattle.kq_kevent.proofs.kq.Kq.follow_one.Goals as goal

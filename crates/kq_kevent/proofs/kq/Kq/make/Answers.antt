@@ -19,7 +19,7 @@ attach-requires-clause-absent g c =
     let target = c.target_of-target.ensures
     ∙ ap (λ (v : OwnedKqueue). target_of by.views v.owner c.args.change.now.filter c.args.change.now.ident) c.self.view_is in
     let is = made-by by c.args.change.now c.first-knote.result c.attend.new.knote
-    (c.first-knote.ensures by target version c.now-moment.ensures) c.attend.ensures in
+    (c.first-knote.ensures by target version c.clock_of-moment.ensures) c.attend.ensures in
     ap (λ (k : Knote). find_knote k.key c.self.inside.knotes.knotes) is
     ∙ ap (λ key. find_knote key c.self.inside.knotes.knotes) (made-key tallying by c.args.change.now)
     ∙ ap (λ (v : OwnedKqueue). find_knote (key_of c.args.change.now) v.kq.knotes) c.self.view_is ∙ c.requires.absent
@@ -33,7 +33,7 @@ place-requires-clause-waits g c =
     let kq : Kqueue = record { knotes = c.self.inside.knotes.knotes; queue = c.self.inside.queue.keys } in
     let k = c.attend.new.knote in
     let is = made-by by c.args.change.now c.first-knote.result c.attend.new.knote
-    (c.first-knote.ensures by target version c.now-moment.ensures) c.attend.ensures in
+    (c.first-knote.ensures by target version c.clock_of-moment.ensures) c.attend.ensures in
     let absent = ap (λ (k : Knote). find_knote k.key kq.knotes) is ∙ ap (λ key. find_knote key kq.knotes)
     (made-key tallying by c.args.change.now)
     ∙ ap (λ (v : OwnedKqueue). find_knote (key_of c.args.change.now) v.kq.knotes) c.self.view_is ∙ c.requires.absent in
@@ -60,7 +60,7 @@ invariant_of-self g c =
     let kq : Kqueue = record { knotes = c.self.inside.knotes.knotes; queue = c.self.inside.queue.keys } in
     let k = c.attend.new.knote in
     let is = made-by by c.args.change.now c.first-knote.result c.attend.new.knote
-    (c.first-knote.ensures by target version c.now-moment.ensures) c.attend.ensures in
+    (c.first-knote.ensures by target version c.clock_of-moment.ensures) c.attend.ensures in
     let absent = ap (λ (k : Knote). find_knote k.key kq.knotes) is ∙ ap (λ key. find_knote key kq.knotes)
     (made-key tallying by c.args.change.now)
     ∙ ap (λ (v : OwnedKqueue). find_knote (key_of c.args.change.now) v.kq.knotes) c.self.view_is ∙ c.requires.absent in
@@ -87,5 +87,5 @@ returns-clause-kq g c =
     same_kqueue c.attach.new.self.knotes c.place.new.self.keys
     (with_made c.attend.new.knote kq) c.attach.ensures.knotes c.place.ensures.keys
     ∙ ap (λ k. with_made k kq) (made-by by c.args.change.now c.first-knote.result c.attend.new.knote
-    (c.first-knote.ensures by target version c.now-moment.ensures) c.attend.ensures)
+    (c.first-knote.ensures by target version c.clock_of-moment.ensures) c.attend.ensures)
     ∙ ap (λ (v : OwnedKqueue). with_made (made by c.args.change.now) v.kq) c.self.view_is

@@ -8,7 +8,6 @@ use Rattle.kq_model.proofs.KnoteLaws.{find_knote-key}
 use Rattle.kq_kevent.specs.Owned.{OwnedKqueue, caller}
 use Rattle.kq_knote.proofs.CountLaws.{length-with_knote}
 use Rattle.kq_model.proofs.RegistrationLaws.{modified-key}
-use Rattle.kq_kevent.proofs.KeepLaws.{keeps-target, modified-target, found_here}
 use Rattle.kq_kevent.proofs.KnoteSteps.{modified-active}
 use Rattle.kq_kevent.proofs.RegisterLaws.{same_kqueue, IsSound-at, modified-by}
 use Rattle.kq_kevent.proofs.SoundLaws.{IsSound-modified, length-queue, length-queue_besides, waiting-present}
@@ -22,7 +21,7 @@ renew-requires-clause-waits g c =
     let change = c.args.change.now in
     let found = ap (λ (v : OwnedKqueue). find_knote (key_of change) v.kq.knotes) c.self.view_is ∙ c.requires.present in
     let is = modified-by by change c.args.present c.replace.new.self c.restart.new.self c.control.new.self c.switch.new.self
-    c.attend.new.knote c.replace.ensures (c.restart.ensures by version c.now-moment.ensures) c.control.ensures c.switch.ensures c.attend.ensures in
+    c.attend.new.knote c.replace.ensures (c.restart.ensures by version c.clock_of-moment.ensures) c.control.ensures c.switch.ensures c.attend.ensures in
     let same : c.attend.new.knote.key ≡ key_of change = ap (λ (k : Knote). k.key) is
     ∙ modified-key tallying by change c.args.present
     ∙ sym (find_knote-key (key_of change) kq.knotes c.args.present found) in
@@ -52,7 +51,7 @@ invariant_of-self g c =
     let k = c.attend.new.knote in
     let found = ap (λ (v : OwnedKqueue). find_knote (key_of change) v.kq.knotes) c.self.view_is ∙ c.requires.present in
     let is = modified-by by change c.args.present c.replace.new.self c.restart.new.self c.control.new.self c.switch.new.self
-    c.attend.new.knote c.replace.ensures (c.restart.ensures by version c.now-moment.ensures) c.control.ensures c.switch.ensures c.attend.ensures in
+    c.attend.new.knote c.replace.ensures (c.restart.ensures by version c.clock_of-moment.ensures) c.control.ensures c.switch.ensures c.attend.ensures in
     let same : k.key ≡ key_of change = ap (λ (k : Knote). k.key) is ∙ modified-key tallying by change c.args.present
     ∙ sym (find_knote-key (key_of change) kq.knotes c.args.present found) in
     record {
@@ -81,25 +80,11 @@ returns-clause-kq g c =
     let change = c.args.change.now in
     let k = c.attend.new.knote in
     let is = modified-by by change c.args.present c.replace.new.self c.restart.new.self c.control.new.self c.switch.new.self
-    c.attend.new.knote c.replace.ensures (c.restart.ensures by version c.now-moment.ensures) c.control.ensures c.switch.ensures c.attend.ensures in
+    c.attend.new.knote c.replace.ensures (c.restart.ensures by version c.clock_of-moment.ensures) c.control.ensures c.switch.ensures c.attend.ensures in
     same_kqueue c.modify.new.self.knotes c.renew.new.self.keys (with_modified change k kq) c.modify.ensures.knotes
     c.renew.ensures.keys
     ∙ ap (λ k. with_modified change k kq) is
     ∙ ap (λ (v : OwnedKqueue). with_modified change (modified by change c.args.present) v.kq) c.self.view_is
-
-pub modify-requires : goal.modify-requires
-modify-requires g c =
-    let by = caller (g.V.Views.sees c.args.views.now) c.args.self.now in
-    let version = ap (λ (v : OwnedKqueue). v.version) c.self.view_is in
-    let kq : Kqueue = record { knotes = c.self.inside.knotes.knotes; queue = c.self.inside.queue.keys } in
-    let change = c.args.change.now in
-    let found = ap (λ (v : OwnedKqueue). find_knote (key_of change) v.kq.knotes) c.self.view_is ∙ c.requires.present in
-    let is = modified-by by change c.args.present c.replace.new.self c.restart.new.self c.control.new.self c.switch.new.self
-    c.attend.new.knote c.replace.ensures (c.restart.ensures by version c.now-moment.ensures) c.control.ensures c.switch.ensures c.attend.ensures in
-    keeps-target c.args.present c.attend.new.knote kq.knotes
-    (ap (λ (k : Knote). k.key) is ∙ modified-key tallying by change c.args.present)
-    (ap (λ (k : Knote). k.target) is ∙ modified-target by change c.args.present)
-    (found_here (key_of change) kq.knotes c.args.present found)
 
 pub renew-requires-clause-key : goal.renew-requires-clause-key
 renew-requires-clause-key g c =
@@ -109,7 +94,7 @@ renew-requires-clause-key g c =
     let change = c.args.change.now in
     let found = ap (λ (v : OwnedKqueue). find_knote (key_of change) v.kq.knotes) c.self.view_is ∙ c.requires.present in
     let is = modified-by by change c.args.present c.replace.new.self c.restart.new.self c.control.new.self c.switch.new.self
-    c.attend.new.knote c.replace.ensures (c.restart.ensures by version c.now-moment.ensures) c.control.ensures c.switch.ensures c.attend.ensures in
+    c.attend.new.knote c.replace.ensures (c.restart.ensures by version c.clock_of-moment.ensures) c.control.ensures c.switch.ensures c.attend.ensures in
     ap (λ (k : Knote). k.key) is ∙ modified-key tallying by change c.args.present
     ∙ sym (find_knote-key (key_of change) kq.knotes c.args.present found)
 

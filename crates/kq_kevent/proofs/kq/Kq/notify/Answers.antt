@@ -1,4 +1,4 @@
-use Rattle.std.proofs.Common.{◌≡◌, length, ap, ◌∙◌, subst, sym, arith}
+use Rattle.std.proofs.Common.{length, ap, ◌∙◌, arith}
 use Rattle.kq_model.specs.Following.{followed}
 use Rattle.kq_model.specs.Tallied.{Kqueue}
 use Rattle.kq_kevent.proofs.NotifiedLaws.{after-laws, after-model, after-named}

@@ -1,7 +1,6 @@
-use Rattle.std.proofs.Common.{◌≡◌, ◌∙◌, Bool, List, true, false, not, ap, sym, subst, arith}
+use Rattle.std.proofs.Common.{◌∙◌, sym, subst, arith}
 use Rattle.std.proofs.lemmas.Bool.{false≢true}
 use Rattle.std.proofs.lemmas.Result.{on_ok_weaker}
-use Rattle.kq_model.specs.Following.{tracks}
 use Rattle.kq_model.specs.Kqueue.{HaveOwnKeys}
 use Rattle.kq_model.specs.Tallied.{Kqueue}
 use Rattle.kq_kevent.proofs.ForkRoom.{room-for-fork}

@@ -1,7 +1,7 @@
-use Rattle.std.proofs.Common.{◌≡◌, ℕ, ◌≤◌, List, [], cond, length, ap, ◌∙◌, sym, arith, max}
+use Rattle.std.proofs.Common.{[], cond, length, ap, ◌∙◌, sym, arith}
 use Rattle.std.proofs.lemmas.Bool.{eq-eqb, ne_eqb}
 use Rattle.std.proofs.lemmas.Result.{on_ok_weaker}
-use Rattle.kq_model.specs.Following.{Fork, all_forks, followed_each}
+use Rattle.kq_model.specs.Following.{all_forks, followed_each}
 use Rattle.kq_model.specs.Hints.{notified}
 use Rattle.kq_model.specs.Tallied.{Kqueue}
 use Rattle.kq_model.proofs.Following.{each-most, notified-most}

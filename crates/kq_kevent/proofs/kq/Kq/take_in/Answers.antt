@@ -2,7 +2,7 @@ use Rattle.std.proofs.Common.{length, ap, ◌∙◌, arith}
 use Rattle.std.proofs.lemmas.List.{length_push}
 use Rattle.kq_model.specs.Knote.{find_knote}
 use Rattle.kq_model.specs.Registration.{with_made}
-use Rattle.kq_model.specs.Tallied.{Knote, Kqueue}
+use Rattle.kq_model.specs.Tallied.{Knote}
 use Rattle.kq_kevent.specs.Owned.{OwnedKqueue, kqueue_of}
 use Rattle.kq_kevent.proofs.RegisterLaws.{same_kqueue, IsSound-at}
 use Rattle.kq_kevent.proofs.SoundLaws.{IsSound-absent, IsSound-made, length-queue}
