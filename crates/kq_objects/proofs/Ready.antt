@@ -19,23 +19,22 @@ use Rattle.kq_model.specs.Files.{FileState}
 use Rattle.kq_model.specs.Limits.{most_file_size}
 use Rattle.kq_model.specs.Objects as model
 use Rattle.kq_model.specs.Sockets.{SocketState, is_socket_held, no_socket, socket_after}
-use Rattle.kq_objects.specs.declared.descriptions.Descriptions.{Descriptions}
 use Rattle.kq_objects.specs.declared.objects.Objects.{Objects}
-use Rattle.kq_objects.specs.Descriptions.{description_at, HasRoom}
+use Rattle.kq_objects.specs.Descriptions.{description_at, room_in}
 use Rattle.kq_objects.specs.Files.{file_at, room_on}
 use Rattle.kq_objects.specs.Fits.{FitsDescriptionAt, FitsFileAt, FitsPipeAt, FitsSocketAt, IsNote, IsPipeNote, made_description, made_file, opened_at, opened_on}
-use Rattle.kq_objects.specs.Objects.{total_of, sockets_made, pipes_made, descriptions_made, files_made, opened_in, AreSocketNotes, IsRoomFor, IsReady}
+use Rattle.kq_objects.specs.Objects.{objects_of, AllFit, sockets_made, pipes_made, descriptions_made, files_made, opened_in, spare_room, AreSocketNotes, IsRoomFor, IsReady, Room}
 use Rattle.kq_objects.proofs.Making.{made-at, made_socket-held}
 
 -- ---- nothing has to grow
 
 -- what makes nothing needs no room
 pub room-none : (d : Doing) (o : Objects) → sockets_made d ≡ 0 → pipes_made d ≡ 0 → descriptions_made d ≡ 0 → files_made d ≡ 0
-    → ((number : ℕ) → opened_in number d ≡ 0) → IsRoomFor (d ∷ []) o
+    → ((number : ℕ) → opened_in number d ≡ 0) → IsRoomFor (d ∷ []) (spare_room o)
 room-none d o s p e f l = record {
   sockets = omega arith;
   pipes = omega arith;
-  descriptions = (omega arith, omega arith);
+  descriptions = omega arith;
   files = omega arith;
   lists = λ number. let none : opened_in number d ≡ 0 = l number in omega arith;
 }
@@ -49,11 +48,11 @@ opened_at-none number n file.Deleted none = refl
 opened_at-none number n (file.Left place) none = refl
 
 -- the first of several
-pub room-first : (d : Doing) (ds : List Doing) (o : Objects) → IsRoomFor (d ∷ ds) o → IsRoomFor (d ∷ []) o
+pub room-first : (d : Doing) (ds : List Doing) (o : Objects) → IsRoomFor (d ∷ ds) (spare_room o) → IsRoomFor (d ∷ []) (spare_room o)
 room-first d ds o room = record {
   sockets = let h = room.sockets in omega arith;
   pipes = let h = room.pipes in omega arith;
-  descriptions = (let h = room.descriptions.0 in omega arith, let h = room.descriptions.1 in omega arith);
+  descriptions = let h = room.descriptions in omega arith;
   files = let h = room.files in omega arith;
   lists = λ number. let h = room.lists number in omega arith;
 }
@@ -63,7 +62,7 @@ room-first d ds o room = record {
 pub ready-none : (o : Objects) → IsReady [] o
 ready-none o = record {
   fits = tt;
-  room = record { sockets = omega arith; pipes = omega arith; descriptions = (omega arith, omega arith); files = omega arith; lists = λ number. omega arith };
+  room = record { sockets = omega arith; pipes = omega arith; descriptions = omega arith; files = omega arith; lists = λ number. omega arith };
 }
 
 pub ready-socket : (o : Objects) (place : ℕ) (r : SocketRecord) → IsNote r (get nat_eq o.sockets.table place) → IsReady (ToSocket place r ∷ []) o
@@ -92,21 +91,21 @@ pub ready-new_socket : (o : Objects) (place receive send : ℕ) → get nat_eq o
     → IsReady (ToSocket place (socket.Made receive send) ∷ []) o
 ready-new_socket o place receive send none room = record {
   fits = (fits-new_socket (get nat_eq o.sockets.table place) receive send none, tt);
-  room = record { sockets = omega arith; pipes = omega arith; descriptions = (omega arith, omega arith); files = omega arith; lists = λ number. omega arith };
+  room = record { sockets = omega arith; pipes = omega arith; descriptions = omega arith; files = omega arith; lists = λ number. omega arith };
 }
 
 pub ready-new_pipe : (o : Objects) (place cap : ℕ) → get nat_eq o.pipes.table place ≡ None → 0 < spare o.pipes.table
     → IsReady (ToPipe place (pipe.Made cap) ∷ []) o
 ready-new_pipe o place cap none room = record {
   fits = (subst (FitsPipeAt (pipe.Made cap)) (sym none) tt, tt);
-  room = record { sockets = omega arith; pipes = omega arith; descriptions = (omega arith, omega arith); files = omega arith; lists = λ number. omega arith };
+  room = record { sockets = omega arith; pipes = omega arith; descriptions = omega arith; files = omega arith; lists = λ number. omega arith };
 }
 
 pub ready-new_file : (o : Objects) (number size : ℕ) → file_at o.files number ≡ None → size ≤ most_file_size → 0 < spare o.files.table
     → IsReady (ToFile number (file.Made size) ∷ []) o
 ready-new_file o number size none within room = record {
   fits = (subst (FitsFileAt (file.Made size)) (sym none) within, tt);
-  room = record { sockets = omega arith; pipes = omega arith; descriptions = (omega arith, omega arith); files = omega arith; lists = λ number. omega arith };
+  room = record { sockets = omega arith; pipes = omega arith; descriptions = omega arith; files = omega arith; lists = λ number. omega arith };
 }
 
 -- ---- a file that is opened
@@ -117,7 +116,7 @@ opened_if true number n o same room = let e : room_on n o.files ≡ room_on numb
 opened_if false number n o same room = omega arith
 
 pub ready-open : (o : Objects) (place number : ℕ) (mode : Mode) (s : FileState) → description_at o.descriptions place ≡ None
-    → file_at o.files number ≡ Some s → HasRoom 1 o.descriptions → 1 ≤ room_on number o.files
+    → file_at o.files number ≡ Some s → 0 < room_in o.descriptions → 0 < room_on number o.files
     → IsReady (ToDescription place (description.Opened number mode) ∷ ToFile number (file.Opened place) ∷ []) o
 unfolding model.done
 ready-open o place number mode s none there room list = record {
@@ -128,7 +127,7 @@ ready-open o place number mode s none there room list = record {
   room = record {
     sockets = omega arith;
     pipes = omega arith;
-    descriptions = (let h = room.0 in omega arith, let h = room.1 in omega arith);
+    descriptions = omega arith;
     files = omega arith;
     lists = λ n. let h = opened_if (number == n) n number o (eqb-true number n) list in omega arith;
   };
@@ -166,7 +165,7 @@ ready-accept o place receive send listener r none note room =
       room = record {
         sockets = let h = note.0 in omega arith;
         pipes = omega arith;
-        descriptions = (omega arith, omega arith);
+        descriptions = omega arith;
         files = omega arith;
         lists = λ number. omega arith;
       };
@@ -181,7 +180,7 @@ unfolding model.done
 reached_if true o place number bytes end s fits there within = ready-description o place (description.Moved bytes) refl fits
 reached_if false o place number bytes end s fits there within = record {
   fits = (fits, (subst (FitsFileAt (file.Reached end)) (sym there) within, tt));
-  room = record { sockets = omega arith; pipes = omega arith; descriptions = (omega arith, omega arith); files = omega arith; lists = λ n. omega arith };
+  room = record { sockets = omega arith; pipes = omega arith; descriptions = omega arith; files = omega arith; lists = λ n. omega arith };
 }
 
 pub ready-write : (o : Objects) (place number bytes end : ℕ) (s : FileState)
@@ -207,15 +206,24 @@ ready-accept-notes o old place receive send (ToSocket listener r ∷ []) none sa
     ready-accept o place receive send listener r none (subst (IsNote r) (sym (same listener)) note) room
 ready-accept-notes o old place receive send ds none same note room = absurd note
 
--- ---- after one thing is noted of a description
+-- ---- where there is no less room
 
-pub room-after_description : (o : Objects) (kept : Descriptions) (place : ℕ) (r : DescriptionRecord) (ds : List Doing)
-    → ((n : ℕ) → HasRoom (made_description r + n) o.descriptions → HasRoom n kept)
-    → IsRoomFor (ToDescription place r ∷ ds) o → IsRoomFor ds (record o { descriptions = kept })
-room-after_description o kept place r ds step room = record {
+more-room : (ds : List Doing) (old new : Room) → old.sockets ≤ new.sockets → old.pipes ≤ new.pipes → old.descriptions ≤ new.descriptions
+    → old.files ≤ new.files → ((number : ℕ) → old.on_file number ≤ new.on_file number) → IsRoomFor ds old → IsRoomFor ds new
+more-room ds old new sockets pipes descriptions files lists room = record {
   sockets = let h = room.sockets in omega arith;
   pipes = let h = room.pipes in omega arith;
-  descriptions = step (total_of descriptions_made ds) room.descriptions;
+  descriptions = let h = room.descriptions in omega arith;
   files = let h = room.files in omega arith;
-  lists = λ number. let h = room.lists number in omega arith;
+  lists = λ number. let h = room.lists number in let l = lists number in omega arith;
+}
+
+-- what could be carried out still can
+pub still-ready : (ds : List Doing) (old new : Objects) → objects_of new ≡ objects_of old
+    → (spare_room old).sockets ≤ (spare_room new).sockets → (spare_room old).pipes ≤ (spare_room new).pipes
+    → (spare_room old).descriptions ≤ (spare_room new).descriptions → (spare_room old).files ≤ (spare_room new).files
+    → ((number : ℕ) → (spare_room old).on_file number ≤ (spare_room new).on_file number) → IsReady ds old → IsReady ds new
+still-ready ds old new same sockets pipes descriptions files lists ready = record {
+  fits = subst (AllFit ds) (sym same) ready.fits;
+  room = more-room ds (spare_room old) (spare_room new) sockets pipes descriptions files lists ready.room;
 }

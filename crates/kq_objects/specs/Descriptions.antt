@@ -1,5 +1,5 @@
 -- The open file descriptions as the code keeps them: by keys of a slab, with an index from their places.
-use Rattle.std.specs.Prelude.{◌≡◌, ℕ, nat_eq, ◌-◌, ◌≤◌, Option, None, Some}
+use Rattle.std.specs.Prelude.{◌≡◌, ℕ, nat_eq, ◌-◌, min, Option, None, Some}
 use Rattle.std.specs.HashMap.{get, spare}
 use Rattle.slab.specs.Slab as slab
 use Rattle.kq_model.specs.Files.{DescriptionState}
@@ -21,6 +21,6 @@ pub record IsKeyOf (place : ℕ) (d : Descriptions) (key : ℕ) : Type 0 where
   pub kept : slab.get d.slab key ≡ Some description
   pub placed : description.place ≡ place
 
--- so many more descriptions can be kept without a growth
-abbrev pub HasRoom : ℕ → Descriptions → Type 0
-HasRoom n d = (n ≤ spare d.keys) × (n ≤ d.slab.capacity - slab.slab_len d.slab)
+-- how many more descriptions can be kept without a growth
+abbrev pub room_in : Descriptions → ℕ
+room_in d = min (spare d.keys) (d.slab.capacity - slab.slab_len d.slab)

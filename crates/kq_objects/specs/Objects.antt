@@ -8,7 +8,7 @@ use Rattle.kq_model.specs.Objects as model
 use Rattle.kq_objects.specs.declared.error.PlanError.{PlanError}
 use Rattle.kq_objects.specs.declared.error.PlanError.TheVariants as plan_error
 use Rattle.kq_objects.specs.declared.objects.Objects.{Objects}
-use Rattle.kq_objects.specs.Descriptions.{description_at, HasRoom}
+use Rattle.kq_objects.specs.Descriptions.{description_at, room_in}
 use Rattle.kq_objects.specs.Files.{file_at, room_on}
 use Rattle.kq_objects.specs.Fits.{FitsSocketAt, FitsPipeAt, FitsDescriptionAt, FitsFileAt, made_socket, made_pipe}
 use Rattle.kq_objects.specs.Fits.{made_description, made_file, opened_at, IsNote}
@@ -62,18 +62,36 @@ abbrev pub opened_in : ℕ → Doing → ℕ
 opened_in number (ToFile n r) = opened_at number n r
 opened_in number _ = 0
 
+-- how much more can be noted without a growth
+pub record Room : Type 0 where
+  pub sockets : ℕ
+  pub pipes : ℕ
+  pub descriptions : ℕ
+  pub files : ℕ
+  -- descriptions that are opened on the file of a number
+  pub on_file : ℕ → ℕ
+
+abbrev pub spare_room : Objects → Room
+spare_room o = record {
+  sockets = spare o.sockets.table;
+  pipes = spare o.pipes.table;
+  descriptions = room_in o.descriptions;
+  files = spare o.files.table;
+  on_file = λ number. room_on number o.files;
+}
+
 -- nothing has to grow for what is noted
-pub record IsRoomFor (ds : List Doing) (o : Objects) : Type 0 where
-  pub sockets : total_of sockets_made ds ≤ spare o.sockets.table
-  pub pipes : total_of pipes_made ds ≤ spare o.pipes.table
-  pub descriptions : HasRoom (total_of descriptions_made ds) o.descriptions
-  pub files : total_of files_made ds ≤ spare o.files.table
-  pub lists : (number : ℕ) → total_of (opened_in number) ds ≤ room_on number o.files
+pub record IsRoomFor (ds : List Doing) (room : Room) : Type 0 where
+  pub sockets : total_of sockets_made ds ≤ room.sockets
+  pub pipes : total_of pipes_made ds ≤ room.pipes
+  pub descriptions : total_of descriptions_made ds ≤ room.descriptions
+  pub files : total_of files_made ds ≤ room.files
+  pub lists : (number : ℕ) → total_of (opened_in number) ds ≤ room.on_file number
 
 -- what is noted can be carried out: amounts stay within their types, and nothing has to grow
 pub record IsReady (ds : List Doing) (o : Objects) : Type 0 where
   pub fits : AllFit ds (objects_of o)
-  pub room : IsRoomFor ds o
+  pub room : IsRoomFor ds (spare_room o)
 
 -- ---- what is asked of a plan
 

@@ -2,7 +2,7 @@
 ghost use Rattle.std.specs.Prelude.{◌≡◌, List, ◌∷◌, []};
 ghost use Rattle.kq_model.specs.Objects.{Objects as Kept, listed, counted, quantities, done, all_done};
 ghost use Rattle.kq_model.specs.declared.doing.Doing.{Doing};
-ghost use Rattle.kq_objects.specs.Objects.{objects_of, Fits, IsReady, IsRoomFor};
+ghost use Rattle.kq_objects.specs.Objects.{objects_of, spare_room, Fits, IsReady, IsRoomFor};
 
 use crate::Plan;
 use crate::objects::Objects;
@@ -42,9 +42,9 @@ impl Objects {
     #[tactic(auto, unfolding(kq_model::specs::Objects::done))]
     pub(crate) fn note(&mut self, doing: Doing)
         requires fits { Fits doing (objects_of self.old) }
-        requires room { IsRoomFor (doing ∷ []) self.old }
+        requires room { IsRoomFor (doing ∷ []) (spare_room self.old) }
         ensures done { objects_of self.new ≡ done doing (objects_of self.old) }
-        ensures room { (ds : List Doing) → IsRoomFor (doing ∷ ds) self.old → IsRoomFor ds self.new }
+        ensures room { (ds : List Doing) → IsRoomFor (doing ∷ ds) (spare_room self.old) → IsRoomFor ds (spare_room self.new) }
     {
         match doing {
             Doing::ToSocket { place, told } => self.sockets.tell(place, told),

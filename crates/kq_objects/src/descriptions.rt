@@ -2,7 +2,7 @@ ghost use Rattle.std.specs.Prelude.{◌≡◌, ℕ, nat_eq, ◌+◌, ◌<◌, �
 ghost use Rattle.std.specs.Option.{option_map};
 ghost use Rattle.kq_model.specs.Files.{is_description_held};
 ghost use Rattle.kq_model.specs.Objects.{counted, told_at};
-ghost use Rattle.kq_objects.specs.Descriptions.{description_at, HasRoom, IsKeyOf};
+ghost use Rattle.kq_objects.specs.Descriptions.{description_at, room_in, IsKeyOf};
 ghost use Rattle.kq_objects.specs.Fits.{FitsDescriptionAt, made_description};
 
 use crate::description::Description;
@@ -32,7 +32,8 @@ impl Descriptions {
     /// Makes room for one more.
     pub fn reserve(&mut self) -> Result<(), Memory>
         ensures same { (q : ℕ) → description_at self.new q ≡ description_at self.old q }
-        ensures room { OnOk result (HasRoom 1 self.new) }
+        ensures room { OnOk result (1 ≤ room_in self.new) }
+        ensures kept { room_in self.old ≤ room_in self.new }
     {
         self.keys.reserve(1).map_err(|_| Memory)?;
         self.slab.reserve(1).map_err(|_| Memory)
@@ -60,10 +61,10 @@ impl Descriptions {
     /// until no descriptor names it any more.
     pub fn tell(&mut self, place: u64, told: DescriptionRecord)
         requires fits { FitsDescriptionAt told (description_at self.old place) }
-        requires room { HasRoom (made_description told) self.old }
+        requires room { made_description told ≤ room_in self.old }
         ensures done { (q : ℕ) → description_at self.new q
             ≡ told_at counted.descriptions is_description_held place told (description_at self.old) q }
-        ensures room { (n : ℕ) → HasRoom (made_description told + n) self.old → HasRoom n self.new }
+        ensures room { room_in self.old ≤ room_in self.new + made_description told }
     {
         let Some(key) = self.key_of(place) else {
             self.make(place, told);
@@ -83,10 +84,10 @@ impl Descriptions {
     fn make(&mut self, place: u64, told: DescriptionRecord)
         requires absent { description_at self.old place ≡ None }
         requires fits { FitsDescriptionAt told None }
-        requires room { HasRoom (made_description told) self.old }
+        requires room { made_description told ≤ room_in self.old }
         ensures done { (q : ℕ) → description_at self.new q
             ≡ told_at counted.descriptions is_description_held place told (description_at self.old) q }
-        ensures room { (n : ℕ) → HasRoom (made_description told + n) self.old → HasRoom n self.new }
+        ensures room { room_in self.old ≤ room_in self.new + made_description told }
     {
         let mut description = Description::unmade(place);
         description.tell(told);

@@ -49,6 +49,7 @@ impl File {
     pub fn reserve(&mut self) -> Result<(), Memory>
         ensures same { self.new.state ≡ self.old.state }
         ensures room { OnOk result (1 ≤ self.new.room) }
+        ensures kept { self.old.room ≤ self.new.room }
     {
         self.descriptions.reserve(1).map_err(|_| Memory)
     }

@@ -1,10 +1,11 @@
 // The plans of the records about files by their numbers.
-ghost use Rattle.std.specs.Prelude.{◌≡◌, ◌≤◌, ◌∷◌, [], ◌++◌, None, Some, IfOk, IfSome};
+ghost use Rattle.std.specs.Prelude.{◌≡◌, ◌≤◌, ◌∷◌, [], ◌++◌, None, Some, IfOk, IfSome, List};
 ghost use Rattle.std.specs.Option.{option_map, option_copied};
 ghost use Rattle.kq_model.specs.FilePlans.{file_amount, noted, readable_each, extending, plan_file, present, plan_open};
 ghost use Rattle.kq_model.specs.FilePlans.{plan_truncate, sized, plan_note, deletion};
 ghost use Rattle.kq_model.specs.Limits.{most_file_size};
 ghost use Rattle.kq_model.specs.NoteBits.{bit_of};
+ghost use Rattle.kq_model.specs.declared.doing.Doing.{Doing};
 ghost use Rattle.kq_objects.specs.Descriptions.{description_at};
 ghost use Rattle.kq_objects.specs.Files.{file_at};
 ghost use Rattle.kq_objects.specs.Kept.{FileKept};
@@ -92,6 +93,7 @@ impl Objects {
         ensures same { objects_of self.new ≡ objects_of self.old }
         ensures plan { IsPlanned result (plan_file number size (objects_of self.old)) }
         ensures ready { IfOk result (λ p. IsReady p.doings self.new) }
+        ensures stays { (ds : List Doing) → IsReady ds self.old → IsReady ds self.new }
     {
         if self.files.get(number).is_some() {
             return Err(PlanError::Why(Why::UsedFile));
@@ -99,7 +101,7 @@ impl Objects {
         let Some(size) = file_amount(size) else {
             return Err(PlanError::Why(Why::TooMany));
         };
-        self.files.reserve()?;
+        self.reserve_file()?;
         let told = FileRecord::Made { size };
         let doing = Doing::ToFile { file: number, told };
         Ok(Plan::of_one(self.alloc, doing, Target::File(number), None)?)
@@ -127,12 +129,12 @@ impl Objects {
         ensures same { objects_of self.new ≡ objects_of self.old }
         ensures plan { IsPlanned result (plan_open place number mode (objects_of self.old)) }
         ensures ready { IfOk result (λ p. IsReady p.doings self.new) }
+        ensures stays { (ds : List Doing) → IsReady ds self.old → IsReady ds self.new }
     {
         let Some(_present) = self.present(number) else {
             return Err(PlanError::Why(Why::Absent));
         };
-        self.descriptions.reserve()?;
-        self.files.reserve_on(number)?;
+        self.reserve_open(number)?;
         let opened = Doing::ToDescription {
             place,
             told: DescriptionRecord::Opened { file: number, mode },

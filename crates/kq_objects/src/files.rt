@@ -31,6 +31,8 @@ impl Files {
     pub fn reserve(&mut self) -> Result<(), Memory>
         ensures same { (q : ℕ) → file_at self.new q ≡ file_at self.old q }
         ensures room { OnOk result (0 < spare self.new.table) }
+        ensures kept { spare self.old.table ≤ spare self.new.table }
+        ensures room_on { (q : ℕ) → room_on q self.old ≤ room_on q self.new }
     {
         self.table.reserve(1).map_err(|_| Memory)
     }
@@ -39,6 +41,8 @@ impl Files {
     pub fn reserve_on(&mut self, number: u32) -> Result<(), Memory>
         ensures same { (q : ℕ) → file_at self.new q ≡ file_at self.old q }
         ensures room { OnOk result (IfSome (file_at self.new number) (λ _. 1 ≤ room_on number self.new)) }
+        ensures kept { spare self.old.table ≤ spare self.new.table }
+        ensures room_on { (q : ℕ) → room_on q self.old ≤ room_on q self.new }
     {
         match self.table.get_mut(&number) {
             Some(file) => file.reserve(),

@@ -19,6 +19,7 @@ mod pipe_plans;
 mod pipe_steps;
 mod plan;
 mod planning;
+mod reserving;
 mod socket;
 mod socket_plans;
 mod socket_steps;

@@ -1,9 +1,10 @@
 // The plans of the records about pipes.
-ghost use Rattle.std.specs.Prelude.{◌≡◌, nat_eq, None, Some, IfOk};
+ghost use Rattle.std.specs.Prelude.{◌≡◌, nat_eq, None, Some, IfOk, List};
 ghost use Rattle.std.specs.HashMap.{get};
 ghost use Rattle.std.specs.Result.{ForOk};
 ghost use Rattle.kq_model.specs.PipePlans.{plan_pipe, pipe_plan, plan_at_pipe};
 ghost use Rattle.kq_model.specs.PipeSteps.{read_pipe, write_pipe};
+ghost use Rattle.kq_model.specs.declared.doing.Doing.{Doing};
 ghost use Rattle.kq_objects.specs.Fits.{IsPipeNote};
 ghost use Rattle.kq_objects.specs.Objects.{objects_of, IsPlanned, IsReady};
 
@@ -20,11 +21,12 @@ impl Objects {
         ensures same { objects_of self.new ≡ objects_of self.old }
         ensures plan { IsPlanned result (plan_pipe place cap) }
         ensures ready { IfOk result (λ p. IsReady p.doings self.new) }
+        ensures stays { (ds : List Doing) → IsReady ds self.old → IsReady ds self.new }
     {
         if !is_capacity(cap) {
             return Err(PlanError::Why(Why::TooMany));
         }
-        self.pipes.reserve()?;
+        self.reserve_pipe()?;
         let doing = Doing::ToPipe {
             place,
             told: PipeRecord::Made { cap },

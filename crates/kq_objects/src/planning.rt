@@ -1,7 +1,8 @@
 // The plan of each record about objects.
-ghost use Rattle.std.specs.Prelude.{◌≡◌, IfOk};
+ghost use Rattle.std.specs.Prelude.{◌≡◌, IfOk, List};
 ghost use Rattle.kq_model.specs.Planning as model;
 ghost use Rattle.kq_model.specs.Objects.{IsFree};
+ghost use Rattle.kq_model.specs.declared.doing.Doing.{Doing};
 ghost use Rattle.kq_objects.specs.Objects.{objects_of, IsPlanned, IsReady};
 
 use crate::objects::Objects;
@@ -21,6 +22,8 @@ impl Objects {
         ensures same { objects_of self.new ≡ objects_of self.old }
         ensures plan { IsPlanned result (model.plan place act.now (objects_of self.old)) }
         ensures ready { IfOk result (λ p. IsReady p.doings self.new) }
+        // So does every plan that was made before and not carried out, also after an error.
+        ensures stays { (ds : List Doing) → IsReady ds self.old → IsReady ds self.new }
     {
         match *act {
             Act::Socket {

@@ -1,11 +1,12 @@
 // The plans of the records about sockets.
-ghost use Rattle.std.specs.Prelude.{◌≡◌, nat_eq, None, Some, IfOk};
+ghost use Rattle.std.specs.Prelude.{◌≡◌, nat_eq, None, Some, IfOk, List};
 ghost use Rattle.std.specs.HashMap.{get};
 ghost use Rattle.std.specs.Result.{ForOk};
 ghost use Rattle.kq_model.specs.SocketPlans.{plan_socket, socket_at, socket_plan, plan_at_socket, plan_accept};
 ghost use Rattle.kq_model.specs.SocketPlans.{accepted};
 ghost use Rattle.kq_model.specs.SocketSteps.{listen, arrive, accept, connect, receive, transmit, shut, low_water};
 ghost use Rattle.kq_model.specs.SocketSteps.{read_socket, write_socket};
+ghost use Rattle.kq_model.specs.declared.doing.Doing.{Doing};
 ghost use Rattle.kq_objects.specs.Fits.{IsNote};
 ghost use Rattle.kq_objects.specs.Objects.{objects_of, AreSocketNotes, IsPlanned, IsReady};
 
@@ -27,11 +28,12 @@ impl Objects {
         ensures same { objects_of self.new ≡ objects_of self.old }
         ensures plan { IsPlanned result (plan_socket place receive_buffer send_buffer) }
         ensures ready { IfOk result (λ p. IsReady p.doings self.new) }
+        ensures stays { (ds : List Doing) → IsReady ds self.old → IsReady ds self.new }
     {
         if !(is_capacity(receive_buffer) && is_capacity(send_buffer)) {
             return Err(PlanError::Why(Why::TooMany));
         }
-        self.sockets.reserve()?;
+        self.reserve_socket()?;
         let told = SocketRecord::Made {
             receive_buffer,
             send_buffer,
@@ -97,9 +99,10 @@ impl Objects {
         ensures same { objects_of self.new ≡ objects_of self.old }
         ensures plan { IsPlanned result (plan_accept place on receive_buffer send_buffer (objects_of self.old)) }
         ensures ready { IfOk result (λ p. IsReady p.doings self.new) }
+        ensures stays { (ds : List Doing) → IsReady ds self.old → IsReady ds self.new }
     {
         let taken = self.take_pending(on, receive_buffer, send_buffer)?;
-        self.sockets.reserve()?;
+        self.reserve_socket()?;
         let made = SocketRecord::Made {
             receive_buffer,
             send_buffer,
