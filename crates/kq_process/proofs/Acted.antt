@@ -1,8 +1,8 @@
 -- A record about objects that is possible: its plan, the world after it, and what it keeps true.
-use Rattle.std.proofs.Common.{◌≡◌, ℕ, ◌+◌, ◌<◌, ◌^◌, List, [], ◌∷◌, ◌++◌, length, Option, None, Ok, Err, IsOk, is_ok, refl, sym, ap, subst, ◌∙◌}
+use Rattle.std.proofs.Common.{◌≡◌, ℕ, ◌+◌, ◌<◌, ◌^◌, List, [], ◌++◌, length, Ok, Err, IsOk, is_ok, refl, sym, ap, subst, ◌∙◌}
 use Rattle.kq_model.specs.declared.act.Act.{Act}
 use Rattle.kq_model.specs.declared.object.Named.{Named}
-use Rattle.kq_model.specs.Descriptors.{Descriptor, with_descriptors, without_closed}
+use Rattle.kq_model.specs.Descriptors.{Descriptor, with_descriptors}
 use Rattle.kq_model.specs.Holding.{IsCounted, made_names}
 use Rattle.kq_model.specs.ObjectPlan as object
 use Rattle.kq_model.specs.ObjectPlan.{ObjectPlan}
@@ -11,7 +11,7 @@ use Rattle.kq_model.specs.Objects.{Objects, counted, all_done}
 use Rattle.kq_model.specs.Planning as objects
 use Rattle.kq_model.specs.ProcessPlans.{names_of}
 use Rattle.kq_model.specs.Processes.{Process, with_process, without_process, with_disposition}
-use Rattle.kq_model.specs.World.{World, Plan, Planned, Possible, idle, carried_out, with_kqueue, clock_after}
+use Rattle.kq_model.specs.World.{World, Plan, Possible, idle, carried_out, with_kqueue, clock_after}
 use Rattle.kq_model.proofs.CountedPlans.{counted-plan}
 use Rattle.kq_model.proofs.FreePlaces.{held-all_done}
 use Rattle.kq_process.specs.Counts.{IsSound}

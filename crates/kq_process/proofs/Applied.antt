@@ -1,11 +1,10 @@
 -- Any record: what it keeps true, and what it does where each object's records are kept.
-use Rattle.std.proofs.Common.{◌≡◌, ℕ, ◌+◌, ◌<◌, ◌≤◌, List, refl, sym, arith}
+use Rattle.std.proofs.Common.{◌≡◌, ℕ, ◌+◌, ◌≤◌, refl, sym, arith}
 use Rattle.std.proofs.lemmas.List.Elements.{All-weaker}
 use Rattle.kq_model.specs.declared.act.Act.TheVariants as act
 use Rattle.kq_model.specs.declared.event.Event.{Event}
 use Rattle.kq_model.specs.declared.event.Event.TheVariants as event
 use Rattle.kq_model.specs.CountedWorld.{IsCountedWorld, KeepsCounts, NamesBelow}
-use Rattle.kq_model.specs.Descriptors.{Descriptor}
 use Rattle.kq_model.specs.Holding.{made_names}
 use Rattle.kq_model.specs.ObjectRecordPlans.{plan_at}
 use Rattle.kq_model.specs.Objects.{counted, listed}
@@ -17,9 +16,31 @@ use Rattle.kq_model.proofs.CountedWorld.{counted-proc, counted-exec, counted-sig
 use Rattle.kq_model.proofs.SeenWorld.{seen-carried_out}
 use Rattle.kq_process.specs.Effects.{world_after, listed_after}
 use Rattle.kq_process.specs.Uses.{act_on}
+use Rattle.kq_process.specs.World.{last_of, world_of}
 use Rattle.kq_process.specs.declared.uses.Use.{Use}
 use Rattle.kq_process.specs.declared.uses.Use.TheVariants as use_of
+use Rattle.kq_process.specs.declared.world.World as code
 use Rattle.kq_process.proofs.Acted.{uses-make}
+
+-- what was made before a place was made before every later one
+pub counted-later : (next later : ℕ) (w : World counted) → next ≤ later → IsCountedWorld next w → IsCountedWorld later w
+counted-later next later w le c = record {
+  counts = c.counts;
+  held = c.held;
+  rising = c.rising;
+  owned = c.owned;
+  below = All-weaker (NamesBelow next) (NamesBelow later) (λ d below. omega (arith, below, le)) w.table c.below;
+}
+
+-- what the type keeps
+pub counted-now : (w : code.World) → IsCountedWorld (last_of w + 1) (world_of w)
+counted-now w = record {
+  counts = w.state.sound.counted;
+  held = w.state.sound.held;
+  rising = w.rising;
+  owned = w.owned;
+  below = w.below;
+}
 
 module _ (place : ℕ) (w : World counted) where
   counted-use : (pid fd : ℕ) (what : Use) → KeepsCounts place w (plan_at place pid fd (act_on what) w)
@@ -56,21 +77,9 @@ module _ (place : ℕ) (w : World counted) where
   counted-record (event.Clock ns) = counted-clock_at place ns w
   counted-record (event.Kevent pid fd changes room) = counted-kevent place pid fd changes room w
 
-  below-later : (next : ℕ) → place ≤ next → (d : Descriptor) → NamesBelow place d → NamesBelow next d
-  below-later next later d below = omega arith
-
-  counted-later : IsCountedWorld place w → IsCountedWorld (place + 1) w
-  counted-later c = record {
-    counts = c.counts;
-    held = c.held;
-    rising = c.rising;
-    owned = c.owned;
-    below = All-weaker (NamesBelow place) (NamesBelow (place + 1)) (below-later (place + 1) (omega arith)) w.table c.below;
-  }
-
   -- an impossible record changes nothing
   pub counted-after : (p : Planned) → KeepsCounts place w p → IsCountedWorld place w → IsCountedWorld (place + 1) (world_after place p w)
-  counted-after (Impossible why) keeps c = counted-later c
+  counted-after (Impossible why) keeps c = counted-later place (place + 1) w (omega arith) c
   counted-after (Possible p) keeps c = keeps.keeps c
 
 pub listed-after : (place : ℕ) (p : Planned) (m : World listed) → world_after place p (seen_world m) ≡ seen_world (listed_after place p m)

@@ -1,13 +1,12 @@
 -- The table that a shelf of processes stands for is one block of descriptors after another, by rising pids:
 -- what a change of one block does to it.
-use Rattle.std.proofs.Common.{◌≡◌, ℕ, ◌<◌, ◌≤◌, ◌==◌, Bool, true, false, not, ◌&&◌, ◌||◌, List, [], ◌∷◌, ◌++◌, filter, Option, Some, None, refl, sym, ap, subst, arith, ◌∙◌}
+use Rattle.std.proofs.Common.{◌≡◌, ℕ, ◌<◌, ◌==◌, false, List, [], ◌∷◌, ◌++◌, Option, Some, None, refl, sym, ap, subst, ◌∙◌}
 use Rattle.kq_model.specs.declared.object.Named.{Named}
-use Rattle.kq_model.specs.Close.{Pair, has_pair}
-use Rattle.kq_model.specs.Descriptors.{Descriptor, named_among, without_closed}
+use Rattle.kq_model.specs.Descriptors.{Descriptor, named_among}
 use Rattle.kq_model.specs.ProcessPlans.{descriptors_of}
 use Rattle.kq_process.specs.declared.process.Process.{Process}
 use Rattle.kq_process.specs.Processes.{descriptor_in, descriptors_in, table_in}
-use Rattle.kq_process.specs.Shelf.{lookup, put, without, AreRising}
+use Rattle.kq_process.specs.Shelf.{lookup, put, AreRising}
 use Rattle.kq_process.proofs.Places.{AreAbove, lookup-above, lookup-later, put-later, put-before, lookup-first, put-first, differ, differ-back, same-true}
 use Rattle.kq_process.proofs.Puts.{Below, Same, Above, order, Yes, No, test}
 use Rattle.kq_process.proofs.Pids.{above-all}

@@ -1,5 +1,5 @@
 -- What closing does to the table: one descriptor of a process, or all of them.
-use Rattle.std.proofs.Common.{◌≡◌, ℕ, ◌<◌, ◌≤◌, ◌==◌, Bool, true, false, not, ◌&&◌, ◌||◌, List, [], ◌∷◌, ◌++◌, filter, Option, Some, None, refl, sym, ap, subst, arith, ◌∙◌}
+use Rattle.std.proofs.Common.{◌≡◌, ℕ, ◌==◌, true, false, List, [], ◌∷◌, ◌++◌, Option, Some, None, refl, sym, ap, arith, ◌∙◌}
 use Rattle.std.specs.List.{AllByRecursion}
 use Rattle.std.specs.Option.{is_some}
 use Rattle.std.proofs.lemmas.Bool.Decides.{nat_tests}
@@ -13,7 +13,7 @@ use Rattle.kq_process.specs.Processes.{descriptor_in, descriptors_in, table_in}
 use Rattle.kq_process.specs.Shelf.{lookup, put, without, AreRising}
 use Rattle.kq_process.proofs.Places.{AreAbove, lookup-first, differ-back, same, same-true}
 use Rattle.kq_process.proofs.Puts.{Yes, No, test}
-use Rattle.kq_process.proofs.Blocks.{Passes, at-process}
+use Rattle.kq_process.proofs.Blocks.{at-process}
 
 differ-other-way : (m n : ℕ) → (m == n) ≡ false → (n == m) ≡ false
 differ-other-way m n h = grind (arith, nat_tests)

@@ -1,5 +1,5 @@
 -- One step of the loops that hold or release descriptors one after the other.
-use Rattle.std.proofs.Common.{◌≡◌, ℕ, suc, ◌+◌, ◌<◌, ◌≤◌, List, [], ◌∷◌, ◌++◌, length, get_or, drop, Option, append_assoc, add-one, refl, sym, ap, subst, arith, ◌∙◌}
+use Rattle.std.proofs.Common.{◌≡◌, ℕ, ◌+◌, ◌<◌, List, ◌∷◌, ◌++◌, length, get_or, drop, append_assoc, add-one, refl, ap}
 use Rattle.std.proofs.Math.Seq.{drop-cons}
 use Rattle.kq_model.specs.declared.object.Hint.{Hint}
 use Rattle.kq_model.specs.declared.object.Named.{Named}

@@ -1,5 +1,5 @@
 -- What opening does to the table: one descriptor of a process, or a child's copies.
-use Rattle.std.proofs.Common.{◌≡◌, ℕ, ◌<◌, ◌≤◌, ◌==◌, nat_lt, Bool, true, false, not, ◌&&◌, ◌||◌, List, [], ◌∷◌, ◌++◌, map, filter, Option, Some, None, refl, sym, ap, subst, arith, ◌∙◌}
+use Rattle.std.proofs.Common.{◌≡◌, ℕ, ◌<◌, ◌≤◌, nat_lt, true, false, not, List, [], ◌∷◌, ◌++◌, map, filter, Option, Some, None, refl, sym, ap, arith, ◌∙◌}
 use Rattle.kq_model.specs.declared.object.Named.{Named}
 use Rattle.kq_model.specs.Descriptors.{Descriptor, is_before, with_descriptor, with_descriptors, without_closed}
 use Rattle.kq_model.specs.DescriptorPlans.{closes}
@@ -7,7 +7,7 @@ use Rattle.kq_model.specs.ProcessPlans.{is_kqueue, inheritable}
 use Rattle.kq_process.specs.declared.process.Process.{Process}
 use Rattle.kq_process.specs.Processes.{descriptor_in, descriptors_in, table_in}
 use Rattle.kq_process.specs.Shelf.{lookup, put, without, AreRising}
-use Rattle.kq_process.proofs.Places.{AreAbove, lookup-later, put-later, put-before, lookup-first, differ, differ-back, less-true, less-false, same-true, put-rises}
+use Rattle.kq_process.proofs.Places.{AreAbove, lookup-later, put-later, put-before, lookup-first, differ-back, less-true, less-false, same-true, put-rises}
 use Rattle.kq_process.proofs.Puts.{Below, Same, Above, order, Yes, No, test, lookup-put, put-put, lookup-without, put-without}
 use Rattle.kq_process.proofs.Blocks.{Passes, at-process, at-gap}
 use Rattle.kq_process.proofs.Closing.{closed-one, nothing-closed}

@@ -1,12 +1,12 @@
 -- The processes that a shelf of processes stands for: what is found among them, and what a put does to them.
-use Rattle.std.proofs.Common.{◌≡◌, ℕ, ◌<◌, ◌≤◌, ◌==◌, nat_lt, Bool, true, false, ◌||◌, ◌&&◌, List, [], ◌∷◌, map, Option, Some, None, if◌then◌else◌, refl, sym, ap, subst, arith, ◌∙◌}
+use Rattle.std.proofs.Common.{◌≡◌, ℕ, ◌<◌, ◌≤◌, ◌==◌, Bool, true, false, ◌||◌, List, [], ◌∷◌, map, Option, Some, None, if◌then◌else◌, refl, sym, ap, subst, arith, ◌∙◌}
 use Rattle.std.specs.Option.{option_map, is_some, is_none}
 use Rattle.kq_model.specs.Processes as model
 use Rattle.kq_model.specs.Processes.{Start, was_used, is_live, process_of, started, with_start}
 use Rattle.kq_process.specs.declared.process.Process.{Process}
 use Rattle.kq_process.specs.Processes.{process_in}
 use Rattle.kq_process.specs.Shelf.{lookup, put, AreRising}
-use Rattle.kq_process.proofs.Places.{AreAbove, above-lower, lookup-above, lookup-later, put-later, put-before, lookup-first, put-first, differ, differ-back, less-true, less-false, same, same-true}
+use Rattle.kq_process.proofs.Places.{AreAbove, above-lower, lookup-above, lookup-later, put-later, lookup-first, put-first, differ, differ-back, less-true, less-false, same, same-true}
 use Rattle.kq_process.proofs.Puts.{Below, Same, Above, order, Yes, No, test}
 
 or-none : (a b : Bool) → b ≡ false → a || b ≡ a

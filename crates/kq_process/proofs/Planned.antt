@@ -1,21 +1,18 @@
 -- The plans of records about processes and signals once their tests are passed, and the worlds after them.
-use Rattle.std.proofs.Common.{◌≡◌, ℕ, ◌==◌, ◌<◌, ◌≤◌, nat_lt, Bool, true, false, not, ◌&&◌, List, [], ◌∷◌, Option, Some, None, Result, Ok, Err, IfOk, OnErr, refl, sym, ap, arith, ◌∙◌}
-use Rattle.kq_model.specs.declared.memory.Memory.{Memory}
-use Rattle.kq_model.specs.declared.object.Hint.{Hint}
+use Rattle.std.proofs.Common.{◌≡◌, ℕ, ◌==◌, ◌<◌, ◌≤◌, Bool, true, false, ◌&&◌, List, [], ◌∷◌, Option, Some, None, Result, Ok, Err, IfOk, OnErr, refl, sym, ap, arith, ◌∙◌}
 use Rattle.kq_model.specs.declared.object.Hint.TheVariants as hint
 use Rattle.kq_model.specs.declared.object.Named.{Named}
-use Rattle.kq_model.specs.declared.object.Target.{Target}
 use Rattle.kq_model.specs.declared.object.Target.TheVariants as target
 use Rattle.kq_model.specs.Bits.{exec_note}
 use Rattle.kq_model.specs.declared.object.Named.TheVariants as named
 use Rattle.kq_model.specs.Descriptors.{Descriptor, with_descriptor, with_descriptors, without_closed}
 use Rattle.kq_model.specs.DescriptorPlans.{plan_kqueue, closes}
 use Rattle.kq_model.specs.Limits.{most_signal}
-use Rattle.kq_model.specs.Objects.{Objects, counted, all_done}
+use Rattle.kq_model.specs.Objects.{counted, all_done}
 use Rattle.kq_model.specs.ProcessPlans.{plan_proc, plan_exec, plan_sigset, plan_sig, plan_clock, is_signal, delivery, child_signal, noted}
 use Rattle.kq_model.specs.Processes.{Process, was_used, is_live, process_of, ignores_none, ignored_by, with_process, without_process, with_disposition}
 use Rattle.kq_model.specs.Targets.{Posted}
-use Rattle.kq_model.specs.World.{World, Plan, Planned, Possible, idle, named_by, carried_out, with_kqueue, clock_after}
+use Rattle.kq_model.specs.World.{World, Possible, idle, named_by, carried_out, with_kqueue, clock_after}
 use Rattle.std.specs.Option.{is_some}
 use Rattle.kq_process.specs.declared.effect.Effect.{Effect}
 use Rattle.kq_process.specs.Processes.{descriptor_in}

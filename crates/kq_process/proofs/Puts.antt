@@ -1,5 +1,5 @@
 -- What stands under a number after puts and removals.
-use Rattle.std.proofs.Common.{◌≡◌, ℕ, ◌<◌, ◌≤◌, ◌==◌, nat_lt, not, Bool, true, false, List, [], ◌∷◌, Option, Some, None, ◌⊎◌, inl, inr, refl, sym, ap, subst, arith, ◌∙◌}
+use Rattle.std.proofs.Common.{◌≡◌, ℕ, ◌<◌, ◌≤◌, Bool, true, false, List, [], ◌∷◌, Some, None, inl, inr, refl, sym, ap, subst, arith, ◌∙◌}
 use Rattle.std.proofs.lemmas.Bool.{cases_lt}
 use Rattle.kq_process.specs.Shelf.{lookup, put, without, AreRising}
 use Rattle.kq_process.proofs.Places.{AreAbove, above-lower, lookup-above, without-above, put-above, put-before, lookup-later, without-later, put-later, lookup-first, put-first, without-first}

@@ -1,21 +1,19 @@
 -- The plans of the records that share or close descriptors once their tests are passed, and the worlds after
 -- them.
-use Rattle.std.proofs.Common.{◌≡◌, ℕ, ◌==◌, Bool, true, false, List, [], ◌∷◌, ◌++◌, Option, Some, None, refl, sym, ap, ◌∙◌}
-use Rattle.kq_model.specs.declared.object.Hint.{Hint}
+use Rattle.std.proofs.Common.{◌≡◌, ℕ, ◌==◌, true, false, List, [], ◌∷◌, ◌++◌, Option, Some, None, refl, sym, ap, ◌∙◌}
 use Rattle.kq_model.specs.declared.object.Named.{Named}
 use Rattle.kq_model.specs.declared.object.Named.TheVariants as named
-use Rattle.kq_model.specs.declared.object.Target.{Target}
-use Rattle.kq_model.specs.Bits.{fork_note, exit_note}
+use Rattle.kq_model.specs.Bits.{exit_note}
 use Rattle.kq_model.specs.Descriptors.{Descriptor, with_descriptor, with_descriptors, without_closed}
-use Rattle.kq_model.specs.DescriptorPlans.{plan_close, plan_dup, duplicated, on_descriptor, on_named, closes, close_doings, close_hints}
+use Rattle.kq_model.specs.DescriptorPlans.{plan_close, plan_dup, duplicated, on_descriptor, on_named, closes, close_doings}
 use Rattle.kq_model.specs.Holding.{hold, release, hold_doings, release_doings, release_hint, release_all, release_hints, option_list, all_held, all_released}
 use Rattle.kq_model.specs.Objects.{Objects, counted, all_done}
 use Rattle.kq_model.specs.ProcessPlans.{plan_fork, plan_exit, inherited, descriptors_of, pairs_of, names_of, forked, hold_all, noted}
 use Rattle.kq_model.specs.Processes.{Process, was_used, is_live, process_of, ignored_by, with_process, without_process, with_disposition}
-use Rattle.kq_model.specs.World.{World, Plan, Planned, Possible, idle, named_by, carried_out, with_kqueue, clock_after}
+use Rattle.kq_model.specs.World.{World, Plan, Possible, idle, named_by, carried_out, with_kqueue, clock_after}
 use Rattle.kq_model.proofs.ReleasedAll.{release-counted, release_all-done, all_done-append}
 use Rattle.kq_process.specs.Effects.{world_after}
-use Rattle.kq_process.specs.World.{sharing}
+use Rattle.kq_process.specs.State.{sharing}
 use Rattle.kq_process.proofs.Closing.{nothing-closed}
 
 hold_all-done : (ns : List Named) (o : Objects counted) → all_done (hold_all ns) o ≡ all_held ns o

@@ -1,5 +1,5 @@
 -- Records that leave the world as it is.
-use Rattle.std.proofs.Common.{◌≡◌, ℕ, Bool, true, false, not, ◌||◌, nat_lt, List, [], ◌∷◌, length, Option, Some, None, if◌then◌else◌, refl, sym, ap}
+use Rattle.std.proofs.Common.{◌≡◌, ℕ, Bool, true, false, ◌||◌, nat_lt, List, [], length, Option, Some, None, if◌then◌else◌, refl, sym, ap}
 use Rattle.kq_model.specs.declared.change.Change.{Change}
 use Rattle.kq_model.specs.declared.object.Named.{Named}
 use Rattle.kq_model.specs.declared.object.Named.TheVariants as named
@@ -12,7 +12,7 @@ use Rattle.kq_model.specs.Objects.{counted, all_done}
 use Rattle.kq_model.specs.ProcessPlans.{plan_exec, plan_sig}
 use Rattle.kq_model.specs.Processes.{with_process, without_process, with_disposition}
 use Rattle.kq_model.specs.Targets.{Posted}
-use Rattle.kq_model.specs.World.{World, Call, Plan, Planned, Impossible, Possible, idle, named_by, carried_out, with_kqueue, clock_after}
+use Rattle.kq_model.specs.World.{World, Call, Planned, Impossible, Possible, idle, named_by, carried_out, with_kqueue, clock_after}
 use Rattle.kq_process.specs.Effects.{world_after}
 use Rattle.kq_process.proofs.Closing.{nothing-closed}
 

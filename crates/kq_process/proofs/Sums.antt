@@ -1,9 +1,9 @@
 -- What is counted over a table: with one descriptor more, with one less, and without a whole process.
-use Rattle.std.proofs.Common.{◌≡◌, ℕ, ◌+◌, ◌<◌, Bool, List, [], ◌∷◌, ◌++◌, Option, Some, None, refl, sym, ap, subst, arith, ◌∙◌}
+use Rattle.std.proofs.Common.{◌≡◌, ℕ, ◌+◌, List, [], ◌∷◌, Option, Some, None, refl, sym, ap, subst, arith, ◌∙◌}
 use Rattle.std.specs.List.{sum_by}
 use Rattle.std.proofs.lemmas.List.Sums.{sum_by-cons, sum_by-append}
 use Rattle.kq_model.specs.declared.object.Named.{Named}
-use Rattle.kq_model.specs.Descriptors.{Descriptor, named_among, without_closed}
+use Rattle.kq_model.specs.Descriptors.{Descriptor, without_closed}
 use Rattle.kq_model.specs.ProcessPlans.{descriptors_of, pairs_of}
 use Rattle.kq_process.specs.declared.process.Process.{Process}
 use Rattle.kq_process.specs.Processes.{descriptor_in, descriptors_in, table_in, descriptor_there, AreOnce}

@@ -1,8 +1,7 @@
 -- What each change of a shelf of processes does to the processes and to the table that it stands for.
-use Rattle.std.proofs.Common.{◌≡◌, ℕ, ◌==◌, Bool, true, false, not, List, [], ◌∷◌, ◌++◌, map, Option, Some, None, Result, Ok, Err, OnOk, OnErr, refl, sym, ap, subst, arith, ◌∙◌}
+use Rattle.std.proofs.Common.{◌≡◌, ℕ, Bool, true, false, not, List, [], map, Option, Some, None, Result, Ok, Err, OnOk, OnErr, refl, sym, ap, subst, ◌∙◌}
 use Rattle.std.specs.Option.{option_map, is_some, is_none}
 use Rattle.kq_model.specs.declared.object.Named.{Named}
-use Rattle.kq_model.specs.declared.object.View.{View}
 use Rattle.kq_model.specs.declared.object.View.TheVariants as view
 use Rattle.kq_model.specs.Descriptors.{Descriptor, named_among, with_descriptor, with_descriptors, without_closed}
 use Rattle.kq_model.specs.DescriptorPlans.{closes}

@@ -1,5 +1,5 @@
 -- A descriptor that is opened and closed again leaves the table as it was, and other numbers stay what they are.
-use Rattle.std.proofs.Common.{◌≡◌, ℕ, ◌==◌, ◌&&◌, Bool, true, false, List, [], ◌∷◌, Option, Some, None, refl, sym, ap, ◌∙◌}
+use Rattle.std.proofs.Common.{◌≡◌, ℕ, ◌==◌, ◌&&◌, true, false, List, [], ◌∷◌, Some, None, refl, sym, ap, ◌∙◌}
 use Rattle.kq_model.specs.declared.object.Named.{Named}
 use Rattle.kq_model.specs.Descriptors.{Descriptor, is_before, named_among, with_descriptor, without_closed}
 use Rattle.kq_process.specs.Processes.{descriptor_in}

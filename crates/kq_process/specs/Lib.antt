@@ -3,5 +3,7 @@ pub mod Lends
 pub mod Processes
 pub mod Effects
 pub mod Counts
+pub mod Ordered
+pub mod State
 pub mod World
 pub mod Uses

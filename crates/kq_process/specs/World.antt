@@ -1,25 +1,19 @@
--- The model's world that the code keeps, and what a record does to it.
-use Rattle.std.specs.Prelude.{◌≡◌, ℕ, List, [], ◌∷◌, ◌++◌, Option, Result, Ok, Err}
-use Rattle.kq_model.specs.declared.object.Named.{Named}
-use Rattle.kq_model.specs.declared.why.Why.{Why}
+-- The world as callers see it, and what a record does to it.
+use Rattle.std.specs.Prelude.{◌≡◌, ℕ}
 use Rattle.kq_model.specs.Objects.{counted}
 use Rattle.kq_model.specs.World as model
-use Rattle.kq_model.specs.World.{Plan, Planned, Impossible, idle}
-use Rattle.kq_model.specs.DescriptorPlans.{closes, close_doings, close_hints}
-use Rattle.kq_model.specs.Holding.{hold_doings}
-use Rattle.kq_objects.specs.Objects.{objects_of}
+use Rattle.kq_model.specs.World.{Planned}
 use Rattle.kq_process.specs.declared.effect.Effect.{Effect}
 use Rattle.kq_process.specs.declared.world.World.{World}
 use Rattle.kq_process.specs.Effects.{IsEffectOf, world_after}
-use Rattle.kq_process.specs.Processes.{processes_of, table_of}
+use Rattle.kq_process.specs.State.{state_of}
 
 abbrev pub world_of : World → model.World counted
-world_of w = record {
-  processes = processes_of w.processes;
-  table = table_of w.processes;
-  objects = objects_of w.objects;
-  now = w.clock;
-}
+world_of w = state_of w.state
+
+-- the place of the last record, 0 before the first
+abbrev pub last_of : World → ℕ
+last_of w = w.last
 
 -- the effect is that of the plan for the world as it was
 abbrev pub IsEffectBy : (model.World counted → Planned) → World → Effect → Type 0
@@ -28,17 +22,3 @@ IsEffectBy plan old e = IsEffectOf (plan (world_of old)) e
 -- the new world is the one that the plan for the old one leads to
 abbrev pub IsNext : ℕ → (model.World counted → Planned) → World → World → Type 0
 IsNext place plan old new = world_of new ≡ world_after place (plan (world_of old)) (world_of old)
-
--- what is planned for what a descriptor names, or the reason why there is none
-abbrev pub planned_on : (Named → Planned) → Result Named Why → Planned
-planned_on planned (Ok n) = planned n
-planned_on planned (Err why) = Impossible why
-
--- the number is closed, if it named something before, and names this from now on
-abbrev pub sharing : ℕ → ℕ → Option Named → Named → model.World counted → Plan
-sharing pid number before n w = record idle {
-  closed = closes pid number before;
-  opened = record { pid = pid; number = number; named = n } ∷ [];
-  doings = close_doings before w.objects ++ hold_doings n;
-  hints = close_hints before w.objects;
-}

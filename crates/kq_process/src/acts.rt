@@ -1,5 +1,5 @@
-// The records about sockets, pipes and files. Their condition is that places rise: the world is one
-// in which nothing was made at this place or later.
+// The records about sockets, pipes and files. Their condition is that nothing that is named was made at
+// this place or later.
 ghost use Rattle.std.specs.Prelude.{◌≡◌, ◌∷◌, [], ◌==◌, IfOk, OnOk, OnErr, None, true, false};
 ghost use Rattle.kq_model.specs.CountedWorld.{IsCountedWorld};
 ghost use Rattle.kq_model.specs.Holding.{made_names};
@@ -10,26 +10,26 @@ ghost use Rattle.kq_model.specs.World.{named_by};
 ghost use Rattle.kq_model.specs.declared.act.Act.TheVariants as act;
 
 use crate::effect::Effect;
+use crate::state::State;
 use crate::uses::Use;
-use crate::world::World;
 use kq_model::{Act, Memory, Mode, Named, Why};
 use kq_objects::PlanError;
 
-impl World {
+impl State {
     ghost use Rattle.kq_process.specs.Effects.{IsPossible};
     ghost use Rattle.kq_process.specs.Processes.{descriptor_in};
     ghost use Rattle.kq_process.specs.Uses.{act_on};
-    ghost use Rattle.kq_process.specs.World.{world_of, IsEffectBy, IsNext};
+    ghost use Rattle.kq_process.specs.State.{state_of, IsEffectBy, IsNext};
 
     /// A process uses an object by a descriptor. NoProcess; NoDescriptor: the number is not open; then
     /// the reasons of the object.
     #[tactic(auto, unfolding(kq_model::specs::ObjectRecordPlans::plan_at))]
     pub fn use_object(&mut self, place: u64, pid: u32, fd: u32, what: Use) -> Result<Effect, Memory>
-        requires { IsCountedWorld place (world_of self.old) }
+        requires { IsCountedWorld place (state_of self.old) }
         ensures effect { IfOk result (IsEffectBy (plan_at place pid fd (act_on what)) self.old) }
         ensures world { OnOk result (IsNext place (plan_at place pid fd (act_on what)) self.old self.new) }
-        ensures memory { OnErr result (world_of self.new ≡ world_of self.old) }
-        ensures possible { OnErr result (IsPossible (plan_at place pid fd (act_on what) (world_of self.old))) }
+        ensures memory { OnErr result (state_of self.new ≡ state_of self.old) }
+        ensures possible { OnErr result (IsPossible (plan_at place pid fd (act_on what) (state_of self.old))) }
     {
         match self.on(pid, fd) {
             Ok(on) => self.act(place, &what.on(on)),
@@ -41,12 +41,12 @@ impl World {
     /// whose descriptor is resolved. The reasons are those of the object.
     #[tactic(auto, unfolding(kq_model::specs::ObjectRecordPlans::plan_act, kq_model::specs::ObjectRecordPlans::with_objects))]
     pub fn act(&mut self, place: u64, act: &Act) -> Result<Effect, Memory>
-        requires earlier { IsCountedWorld place (world_of self.old) }
+        requires earlier { IsCountedWorld place (state_of self.old) }
         requires none { made_names place act.now ≡ [] }
         ensures effect { IfOk result (IsEffectBy (plan_act place [] act.now) self.old) }
         ensures world { OnOk result (IsNext place (plan_act place [] act.now) self.old self.new) }
-        ensures memory { OnErr result (world_of self.new ≡ world_of self.old) }
-        ensures possible { OnErr result (IsPossible (plan_act place [] act.now (world_of self.old))) }
+        ensures memory { OnErr result (state_of self.new ≡ state_of self.old) }
+        ensures possible { OnErr result (IsPossible (plan_act place [] act.now (state_of self.old))) }
     {
         let alloc = self.processes.allocator();
         match self.objects.plan(place, act) {
@@ -69,17 +69,17 @@ impl World {
         number: u32,
         named: Named,
     ) -> Result<Effect, Memory>
-        requires earlier { IsCountedWorld place (world_of self.old) }
-        requires live { is_live pid (world_of self.old).processes ≡ true }
-        requires absent { named_by pid number (world_of self.old) ≡ None }
+        requires earlier { IsCountedWorld place (state_of self.old) }
+        requires live { is_live pid (state_of self.old).processes ≡ true }
+        requires absent { named_by pid number (state_of self.old) ≡ None }
         requires made { made_names place act.now ≡ named ∷ [] }
         ensures effect { IfOk result
             (IsEffectBy (plan_act place (descriptor_in pid (number, named) ∷ []) act.now) self.old) }
         ensures world { OnOk result
             (IsNext place (plan_act place (descriptor_in pid (number, named) ∷ []) act.now) self.old self.new) }
-        ensures memory { OnErr result (world_of self.new ≡ world_of self.old) }
+        ensures memory { OnErr result (state_of self.new ≡ state_of self.old) }
         ensures possible { OnErr result
-            (IsPossible (plan_act place (descriptor_in pid (number, named) ∷ []) act.now (world_of self.old))) }
+            (IsPossible (plan_act place (descriptor_in pid (number, named) ∷ []) act.now (state_of self.old))) }
     {
         let alloc = self.processes.allocator();
         match self.objects.plan(place, act) {
@@ -108,13 +108,13 @@ impl World {
         receive_buffer: u32,
         send_buffer: u32,
     ) -> Result<Effect, Memory>
-        requires { IsCountedWorld place (world_of self.old) }
+        requires { IsCountedWorld place (state_of self.old) }
         ensures effect { IfOk result (IsEffectBy (plan_socket place pid fd receive_buffer send_buffer) self.old) }
         ensures world { OnOk result
             (IsNext place (plan_socket place pid fd receive_buffer send_buffer) self.old self.new) }
-        ensures memory { OnErr result (world_of self.new ≡ world_of self.old) }
+        ensures memory { OnErr result (state_of self.new ≡ state_of self.old) }
         ensures possible { OnErr result
-            (IsPossible (plan_socket place pid fd receive_buffer send_buffer (world_of self.old))) }
+            (IsPossible (plan_socket place pid fd receive_buffer send_buffer (state_of self.old))) }
     {
         let alloc = self.processes.allocator();
         if !self.processes.is_live(pid) {
@@ -143,13 +143,13 @@ impl World {
         receive_buffer: u32,
         send_buffer: u32,
     ) -> Result<Effect, Memory>
-        requires { IsCountedWorld place (world_of self.old) }
+        requires { IsCountedWorld place (state_of self.old) }
         ensures effect { IfOk result (IsEffectBy (plan_accept place pid fd to receive_buffer send_buffer) self.old) }
         ensures world { OnOk result
             (IsNext place (plan_accept place pid fd to receive_buffer send_buffer) self.old self.new) }
-        ensures memory { OnErr result (world_of self.new ≡ world_of self.old) }
+        ensures memory { OnErr result (state_of self.new ≡ state_of self.old) }
         ensures possible { OnErr result
-            (IsPossible (plan_accept place pid fd to receive_buffer send_buffer (world_of self.old))) }
+            (IsPossible (plan_accept place pid fd to receive_buffer send_buffer (state_of self.old))) }
     {
         let alloc = self.processes.allocator();
         let on = match self.on(pid, fd) {
@@ -178,11 +178,11 @@ impl World {
         file: u32,
         mode: Mode,
     ) -> Result<Effect, Memory>
-        requires { IsCountedWorld place (world_of self.old) }
+        requires { IsCountedWorld place (state_of self.old) }
         ensures effect { IfOk result (IsEffectBy (plan_open place pid fd file mode) self.old) }
         ensures world { OnOk result (IsNext place (plan_open place pid fd file mode) self.old self.new) }
-        ensures memory { OnErr result (world_of self.new ≡ world_of self.old) }
-        ensures possible { OnErr result (IsPossible (plan_open place pid fd file mode (world_of self.old))) }
+        ensures memory { OnErr result (state_of self.new ≡ state_of self.old) }
+        ensures possible { OnErr result (IsPossible (plan_open place pid fd file mode (state_of self.old))) }
     {
         let alloc = self.processes.allocator();
         if !self.processes.is_live(pid) {
@@ -209,11 +209,11 @@ impl World {
         write_fd: u32,
         cap: u32,
     ) -> Result<Effect, Memory>
-        requires { IsCountedWorld place (world_of self.old) }
+        requires { IsCountedWorld place (state_of self.old) }
         ensures effect { IfOk result (IsEffectBy (plan_pipe place pid read_fd write_fd cap) self.old) }
         ensures world { OnOk result (IsNext place (plan_pipe place pid read_fd write_fd cap) self.old self.new) }
-        ensures memory { OnErr result (world_of self.new ≡ world_of self.old) }
-        ensures possible { OnErr result (IsPossible (plan_pipe place pid read_fd write_fd cap (world_of self.old))) }
+        ensures memory { OnErr result (state_of self.new ≡ state_of self.old) }
+        ensures possible { OnErr result (IsPossible (plan_pipe place pid read_fd write_fd cap (state_of self.old))) }
     {
         let alloc = self.processes.allocator();
         if !self.processes.is_live(pid) {
@@ -241,18 +241,18 @@ impl World {
         write_fd: u32,
         cap: u32,
     ) -> Result<Effect, Memory>
-        requires earlier { IsCountedWorld place (world_of self.old) }
-        requires live { is_live pid (world_of self.old).processes ≡ true }
+        requires earlier { IsCountedWorld place (state_of self.old) }
+        requires live { is_live pid (state_of self.old).processes ≡ true }
         requires differ { (read_fd == write_fd) ≡ false }
-        requires read { named_by pid read_fd (world_of self.old) ≡ None }
-        requires write { named_by pid write_fd (world_of self.old) ≡ None }
+        requires read { named_by pid read_fd (state_of self.old) ≡ None }
+        requires write { named_by pid write_fd (state_of self.old) ≡ None }
         ensures effect { IfOk result
             (IsEffectBy (plan_act place (pipe_ends place pid read_fd write_fd) (act.Pipe cap)) self.old) }
         ensures world { OnOk result
             (IsNext place (plan_act place (pipe_ends place pid read_fd write_fd) (act.Pipe cap)) self.old self.new) }
-        ensures memory { OnErr result (world_of self.new ≡ world_of self.old) }
+        ensures memory { OnErr result (state_of self.new ≡ state_of self.old) }
         ensures possible { OnErr result (IsPossible
-            (plan_act place (pipe_ends place pid read_fd write_fd) (act.Pipe cap) (world_of self.old))) }
+            (plan_act place (pipe_ends place pid read_fd write_fd) (act.Pipe cap) (state_of self.old))) }
     {
         let alloc = self.processes.allocator();
         match self.objects.plan(place, &Act::Pipe { cap }) {

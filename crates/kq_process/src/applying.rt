@@ -1,46 +1,28 @@
 // Any record.
-ghost use Rattle.std.specs.Prelude.{◌≡◌, ◌+◌, IfOk, OnOk, OnErr};
+ghost use Rattle.std.specs.Prelude.{◌≡◌, IfOk, OnOk, OnErr};
 ghost use Rattle.kq_model.specs.CountedWorld.{IsCountedWorld};
-ghost use Rattle.kq_model.specs.Objects.{listed};
 ghost use Rattle.kq_model.specs.Plans.{plan};
-ghost use Rattle.kq_model.specs.World.{World as Kept, seen_world};
 
 use crate::effect::Effect;
+use crate::state::State;
 use crate::uses::Use;
-use crate::world::World;
 use kq_model::{Act, Event, Memory};
 
-impl World {
-    ghost use Rattle.kq_process.specs.Effects.{IsPossible, listed_after};
-    ghost use Rattle.kq_process.specs.World.{world_of, IsEffectBy, IsNext};
+impl State {
+    ghost use Rattle.kq_process.specs.Effects.{IsPossible};
+    ghost use Rattle.kq_process.specs.State.{state_of, IsEffectBy, IsNext};
 
     /// The step of the world: what the record at this place does, or the first reason why it is
-    /// impossible; then it changes nothing. Places rise: nothing that is named was made at this
-    /// place or later. After Memory nothing has changed.
-    pub fn apply(&mut self, place: u64, event: &Event) -> Result<Effect, Memory>
-        requires { IsCountedWorld place (world_of self.old) }
-        ensures effect { IfOk result (IsEffectBy (plan place event.now) self.old) }
-        ensures world { OnOk result (IsNext place (plan place event.now) self.old self.new) }
-        ensures memory { OnErr result (world_of self.new ≡ world_of self.old) }
-        // An impossible record is answered, whatever memory there is.
-        ensures possible { OnErr result (IsPossible (plan place event.now (world_of self.old))) }
-        // Then the next record may come.
-        ensures next { OnOk result (IsCountedWorld (place + 1) (world_of self.new)) }
-        // The same for the world that keeps each object's records, for which this one stands.
-        ensures listed { (m : Kept listed) → world_of self.old ≡ seen_world m
-            → OnOk result (world_of self.new
-            ≡ seen_world (listed_after place (plan place event.now (seen_world m)) m)) }
-    {
-        self.step(place, event)
-    }
-
+    /// impossible; then it changes nothing. Nothing that is named was made at this place or later. After
+    /// Memory nothing has changed.
     #[tactic(auto, unfolding(kq_model::specs::Plans::plan, kq_model::specs::Holding::made_names))]
-    fn step(&mut self, place: u64, event: &Event) -> Result<Effect, Memory>
-        requires { IsCountedWorld place (world_of self.old) }
+    pub fn apply(&mut self, place: u64, event: &Event) -> Result<Effect, Memory>
+        requires { IsCountedWorld place (state_of self.old) }
         ensures effect { IfOk result (IsEffectBy (plan place event.now) self.old) }
         ensures world { OnOk result (IsNext place (plan place event.now) self.old self.new) }
-        ensures memory { OnErr result (world_of self.new ≡ world_of self.old) }
-        ensures possible { OnErr result (IsPossible (plan place event.now (world_of self.old))) }
+        ensures memory { OnErr result (state_of self.new ≡ state_of self.old) }
+        // An impossible record is answered, whatever memory there is.
+        ensures possible { OnErr result (IsPossible (plan place event.now (state_of self.old))) }
     {
         match event {
             Event::Proc { pid } => self.proc(*pid),
@@ -145,7 +127,7 @@ impl World {
                 };
                 self.act(place, &act)
             }
-            Event::Clock { ns } => Ok(self.clock_at(*ns)),
+            Event::Clock { ns } => Ok(self.clock(*ns)),
             Event::Kevent {
                 pid,
                 fd,

@@ -12,10 +12,10 @@ mod records;
 mod seen;
 mod sharing;
 mod shelf;
+mod state;
 mod steps;
 mod uses;
 mod world;
 
 pub use effect::Effect;
-pub use uses::Use;
 pub use world::World;

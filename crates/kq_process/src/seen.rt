@@ -20,7 +20,7 @@ impl Views for World {
     }
 
     #[tactic(auto, unfolding(kq_model::specs::World::views_of))]
-    fn now(&self) -> u64 {
+    fn now(&self) -> i64 {
         World::now(self)
     }
 }

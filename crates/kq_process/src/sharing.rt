@@ -8,7 +8,7 @@ ghost use Rattle.kq_model.specs.World.{named_by, Possible};
 
 use crate::counting::{hold_each, pairs, release_each, release_one, say};
 use crate::effect::Effect;
-use crate::world::World;
+use crate::state::State;
 use kq_model::notes::{NOTE_EXIT, NOTE_FORK};
 use kq_model::{Hint, Memory, Named, Target, Why};
 use std::alloc::Global;
@@ -27,19 +27,10 @@ fn forked(alloc: Global, pid: u32, child: u32) -> Result<Vec<(Target, Hint)>, Me
     Ok(hints)
 }
 
-impl World {
+impl State {
     ghost use Rattle.kq_process.specs.Effects.{IsDone, IsPossible, world_after};
     ghost use Rattle.kq_process.specs.Processes.{descriptor_in, AreOnce};
-    ghost use Rattle.kq_process.specs.World.{world_of, IsEffectBy, IsNext, sharing};
-
-    /// Whether a fork of this child is possible: the process is live, and the child's pid was not used.
-    #[tactic(auto, unfolding(kq_model::specs::ProcessPlans::plan_fork))]
-    pub fn can_fork(&self, pid: u32, child: u32) -> bool
-        ensures forks { IsPossible (plan_fork pid child (world_of self.now)) → result ≡ true }
-        ensures possible { result ≡ true → IsPossible (plan_fork pid child (world_of self.now)) }
-    {
-        self.processes.is_live(pid) && !self.processes.was_used(child)
-    }
+    ghost use Rattle.kq_process.specs.State.{state_of, IsEffectBy, IsNext, sharing};
 
     /// A child starts, with copies of its parent's descriptors and ignored signals, but no kqueues
     /// (fork(2)). NoProcess; UsedPid: the child's pid was used before.
@@ -47,8 +38,8 @@ impl World {
     pub fn fork(&mut self, pid: u32, child: u32) -> Result<Effect, Memory>
         ensures effect { IfOk result (IsEffectBy (plan_fork pid child) self.old) }
         ensures world { (place : ℕ) → OnOk result (IsNext place (plan_fork pid child) self.old self.new) }
-        ensures memory { OnErr result (world_of self.new ≡ world_of self.old) }
-        ensures possible { OnErr result (IsPossible (plan_fork pid child (world_of self.old))) }
+        ensures memory { OnErr result (state_of self.new ≡ state_of self.old) }
+        ensures possible { OnErr result (IsPossible (plan_fork pid child (state_of self.old))) }
     {
         let alloc = self.processes.allocator();
         if !self.processes.is_live(pid) {
@@ -74,8 +65,8 @@ impl World {
     pub fn exit(&mut self, pid: u32, status: u32) -> Result<Effect, Memory>
         ensures effect { IfOk result (IsEffectBy (plan_exit pid status) self.old) }
         ensures world { (place : ℕ) → OnOk result (IsNext place (plan_exit pid status) self.old self.new) }
-        ensures memory { OnErr result (world_of self.new ≡ world_of self.old) }
-        ensures possible { OnErr result (IsPossible (plan_exit pid status (world_of self.old))) }
+        ensures memory { OnErr result (state_of self.new ≡ state_of self.old) }
+        ensures possible { OnErr result (IsPossible (plan_exit pid status (state_of self.old))) }
     {
         let alloc = self.processes.allocator();
         if !self.processes.is_live(pid) {
@@ -97,8 +88,8 @@ impl World {
     pub fn close(&mut self, pid: u32, fd: u32) -> Result<Effect, Memory>
         ensures effect { IfOk result (IsEffectBy (plan_close pid fd) self.old) }
         ensures world { (place : ℕ) → OnOk result (IsNext place (plan_close pid fd) self.old self.new) }
-        ensures memory { OnErr result (world_of self.new ≡ world_of self.old) }
-        ensures possible { OnErr result (IsPossible (plan_close pid fd (world_of self.old))) }
+        ensures memory { OnErr result (state_of self.new ≡ state_of self.old) }
+        ensures possible { OnErr result (IsPossible (plan_close pid fd (state_of self.old))) }
     {
         let alloc = self.processes.allocator();
         let named = match self.on(pid, fd) {
@@ -119,8 +110,8 @@ impl World {
     pub fn dup(&mut self, pid: u32, fd: u32, to: u32) -> Result<Effect, Memory>
         ensures effect { IfOk result (IsEffectBy (plan_dup pid fd to) self.old) }
         ensures world { (place : ℕ) → OnOk result (IsNext place (plan_dup pid fd to) self.old self.new) }
-        ensures memory { OnErr result (world_of self.new ≡ world_of self.old) }
-        ensures possible { OnErr result (IsPossible (plan_dup pid fd to (world_of self.old))) }
+        ensures memory { OnErr result (state_of self.new ≡ state_of self.old) }
+        ensures possible { OnErr result (IsPossible (plan_dup pid fd to (state_of self.old))) }
     {
         let alloc = self.processes.allocator();
         let named = match self.on(pid, fd) {
@@ -142,13 +133,13 @@ impl World {
     // A number that is not open names this too.
     #[tactic(auto, unfolding(kq_model::specs::DescriptorPlans::closes, kq_model::specs::DescriptorPlans::close_hints))]
     fn share(&mut self, pid: u32, to: u32, named: Named) -> Result<Effect, Memory>
-        requires live { is_live pid (world_of self.old).processes ≡ true }
-        requires absent { named_by pid to (world_of self.old) ≡ None }
-        requires there { IsNamed named (names_of (world_of self.old).table) }
-        ensures effect { IfOk result (IsDone (sharing pid to None named (world_of self.old))) }
-        ensures world { (place : ℕ) → OnOk result (world_of self.new
-            ≡ world_after place (Possible (sharing pid to None named (world_of self.old))) (world_of self.old)) }
-        ensures memory { OnErr result (world_of self.new ≡ world_of self.old) }
+        requires live { is_live pid (state_of self.old).processes ≡ true }
+        requires absent { named_by pid to (state_of self.old) ≡ None }
+        requires there { IsNamed named (names_of (state_of self.old).table) }
+        ensures effect { IfOk result (IsDone (sharing pid to None named (state_of self.old))) }
+        ensures world { (place : ℕ) → OnOk result (state_of self.new
+            ≡ world_after place (Possible (sharing pid to None named (state_of self.old))) (state_of self.old)) }
+        ensures memory { OnErr result (state_of self.new ≡ state_of self.old) }
     {
         let Some(descriptors) = self.descriptors.checked_add(1) else {
             return Err(Memory);
@@ -169,15 +160,15 @@ impl World {
         before: Named,
         named: Named,
     ) -> Result<Effect, Memory>
-        requires live { is_live pid (world_of self.old).processes ≡ true }
-        requires before { named_by pid to (world_of self.old) ≡ Some before }
-        requires there { named_by pid fd (world_of self.old) ≡ Some named }
+        requires live { is_live pid (state_of self.old).processes ≡ true }
+        requires before { named_by pid to (state_of self.old) ≡ Some before }
+        requires there { named_by pid fd (state_of self.old) ≡ Some named }
         requires other { (fd == to) ≡ false }
-        requires once { AreOnce (descriptor_in pid (to, before) ∷ []) (world_of self.old).table }
-        ensures effect { IfOk result (IsDone (sharing pid to (Some before) named (world_of self.old))) }
-        ensures world { (place : ℕ) → OnOk result (world_of self.new ≡ world_after place
-            (Possible (sharing pid to (Some before) named (world_of self.old))) (world_of self.old)) }
-        ensures memory { OnErr result (world_of self.new ≡ world_of self.old) }
+        requires once { AreOnce (descriptor_in pid (to, before) ∷ []) (state_of self.old).table }
+        ensures effect { IfOk result (IsDone (sharing pid to (Some before) named (state_of self.old))) }
+        ensures world { (place : ℕ) → OnOk result (state_of self.new ≡ world_after place
+            (Possible (sharing pid to (Some before) named (state_of self.old))) (state_of self.old)) }
+        ensures memory { OnErr result (state_of self.new ≡ state_of self.old) }
     {
         let alloc = self.processes.allocator();
         let closed = vec![in alloc; (pid, to)].map_err(|_| Memory)?;

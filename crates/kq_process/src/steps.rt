@@ -1,22 +1,22 @@
 // The records about one process, the clock, a new kqueue and a kevent call.
-ghost use Rattle.std.specs.Prelude.{◌≡◌, ℕ, IfOk, OnOk, OnErr};
+ghost use Rattle.std.specs.Prelude.{◌≡◌, ◌<◌, ◌^◌, ℕ, IfOk, OnOk, OnErr};
 ghost use Rattle.kq_model.specs.DescriptorPlans.{plan_kqueue, plan_kevent};
 ghost use Rattle.kq_model.specs.ProcessPlans.{plan_proc, plan_exec, plan_sigset, plan_sig, plan_clock, plan_clock_at};
 
 use crate::effect::Effect;
-use crate::world::World;
+use crate::state::State;
 use kq_model::{Change, Memory, Named, Why};
 
-impl World {
+impl State {
     ghost use Rattle.kq_process.specs.Effects.{IsPossible};
-    ghost use Rattle.kq_process.specs.World.{world_of, IsEffectBy, IsNext};
+    ghost use Rattle.kq_process.specs.State.{state_of, IsEffectBy, IsNext};
 
     /// A process starts. UsedPid: the pid was used before.
     pub fn proc(&mut self, pid: u32) -> Result<Effect, Memory>
         ensures effect { IfOk result (IsEffectBy (plan_proc pid) self.old) }
         ensures world { (place : ℕ) → OnOk result (IsNext place (plan_proc pid) self.old self.new) }
-        ensures memory { OnErr result (world_of self.new ≡ world_of self.old) }
-        ensures possible { OnErr result (IsPossible (plan_proc pid (world_of self.old))) }
+        ensures memory { OnErr result (state_of self.new ≡ state_of self.old) }
+        ensures possible { OnErr result (IsPossible (plan_proc pid (state_of self.old))) }
     {
         self.processes.proc(pid)
     }
@@ -25,7 +25,7 @@ impl World {
     pub fn exec(&self, pid: u32) -> Result<Effect, Memory>
         ensures effect { IfOk result (IsEffectBy (plan_exec pid) self.now) }
         ensures world { (place : ℕ) → IsNext place (plan_exec pid) self.now self.now }
-        ensures possible { OnErr result (IsPossible (plan_exec pid (world_of self.now))) }
+        ensures possible { OnErr result (IsPossible (plan_exec pid (state_of self.now))) }
     {
         self.processes.exec(pid)
     }
@@ -43,14 +43,28 @@ impl World {
     pub fn signal(&self, pid: u32, signal: u32) -> Result<Effect, Memory>
         ensures effect { IfOk result (IsEffectBy (plan_sig pid signal) self.now) }
         ensures world { (place : ℕ) → IsNext place (plan_sig pid signal) self.now self.now }
-        ensures possible { OnErr result (IsPossible (plan_sig pid signal (world_of self.now))) }
+        ensures possible { OnErr result (IsPossible (plan_sig pid signal (state_of self.now))) }
     {
         self.processes.signal(pid, signal)
     }
 
-    /// The clock goes on to a moment in ns, or stays where it is. ClockBack: it would go back.
+    /// The clock goes on to a moment in ns, or stays where it is. ClockBack: it would go back, as to any
+    /// moment below 0.
+    #[tactic(auto, unfolding(kq_model::specs::ProcessPlans::plan_clock_at))]
+    pub fn clock(&mut self, moment: i64) -> Effect
+        ensures effect { IsEffectBy (plan_clock_at moment) self.old result }
+        ensures world { (place : ℕ) → IsNext place (plan_clock_at moment) self.old self.new }
+    {
+        if moment < 0 {
+            return Effect::impossible(self.processes.allocator(), Why::ClockBack);
+        }
+        self.go_on(moment as u64)
+    }
+
+    // The same for a moment that is not below 0.
     #[tactic(auto, unfolding(kq_model::specs::ProcessPlans::plan_clock))]
-    pub fn clock(&mut self, moment: u64) -> Effect
+    fn go_on(&mut self, moment: u64) -> Effect
+        requires { moment < 2 ^ 63 }
         ensures effect { IsEffectBy (plan_clock moment) self.old result }
         ensures world { (place : ℕ) → IsNext place (plan_clock moment) self.old self.new }
     {
@@ -62,27 +76,14 @@ impl World {
         Effect::quiet(alloc)
     }
 
-    /// The same for a moment that may be below 0, where the clock never is. ClockBack: it would go
-    /// back.
-    #[tactic(auto, unfolding(kq_model::specs::ProcessPlans::plan_clock_at))]
-    pub fn clock_at(&mut self, moment: i64) -> Effect
-        ensures effect { IsEffectBy (plan_clock_at moment) self.old result }
-        ensures world { (place : ℕ) → IsNext place (plan_clock_at moment) self.old self.new }
-    {
-        if moment < 0 {
-            return Effect::impossible(self.processes.allocator(), Why::ClockBack);
-        }
-        self.clock(moment as u64)
-    }
-
     /// A process opens a kqueue, named by the record's place, under a number that is not open
     /// (kqueue(2)). NoProcess; UsedDescriptor: the number is open.
     #[tactic(auto, unfolding(kq_model::specs::DescriptorPlans::plan_kqueue, kq_model::specs::World::named_by))]
     pub fn kqueue(&mut self, place: u64, pid: u32, fd: u32) -> Result<Effect, Memory>
         ensures effect { IfOk result (IsEffectBy (plan_kqueue pid fd) self.old) }
         ensures world { OnOk result (IsNext place (plan_kqueue pid fd) self.old self.new) }
-        ensures memory { OnErr result (world_of self.new ≡ world_of self.old) }
-        ensures possible { OnErr result (IsPossible (plan_kqueue pid fd (world_of self.old))) }
+        ensures memory { OnErr result (state_of self.new ≡ state_of self.old) }
+        ensures possible { OnErr result (IsPossible (plan_kqueue pid fd (state_of self.old))) }
     {
         let alloc = self.processes.allocator();
         if !self.processes.is_live(pid) {

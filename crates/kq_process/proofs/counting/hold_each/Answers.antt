@@ -1,4 +1,4 @@
-use Rattle.std.proofs.Common.{◌≡◌, ◌∙◌, ℕ, ◌<◌, ◌≤◌, ◌+◌, List, [], ◌∷◌, length, get_or, drop, sym, ap, arith}
+use Rattle.std.proofs.Common.{◌≡◌, ◌∙◌, ℕ, ◌<◌, ◌≤◌, ◌+◌, List, [], length, get_or, drop, sym, ap, arith}
 use Rattle.std.proofs.lemmas.List.{drop_all}
 use Rattle.kq_model.specs.Holding.{all_held}
 use Rattle.kq_model.specs.declared.object.Named.{Named}

@@ -1,4 +1,4 @@
-use Rattle.std.proofs.Common.{◌≡◌, ◌+◌, ◌≤◌, ◌++◌, length, drop}
+use Rattle.std.proofs.Common.{◌≡◌, ◌+◌, ◌≤◌, ◌++◌, drop}
 use Rattle.std.specs.Vec.{vec_len, vec_capacity}
 use Rattle.kq_model.specs.Holding.{all_released, release_hints}
 use Rattle.kq_objects.specs.Objects.{objects_of}

@@ -1,4 +1,4 @@
-use Rattle.std.proofs.Common.{◌≡◌, ℕ, zero, suc, Bool, false, get_or, replicate, refl}
+use Rattle.std.proofs.Common.{◌≡◌, ℕ, zero, suc, false, get_or, replicate, refl}
 use Rattle.std.proofs.Math.Path.{fun_ext}
 use Rattle.kq_process.proofs.ignored.Ignored.nothing.Goals as goal
 

@@ -1,4 +1,4 @@
-use Rattle.std.proofs.Common.{◌≡◌, true, List, [], ◌∷◌, refl, arith}
+use Rattle.std.proofs.Common.{◌≡◌, true, [], ◌∷◌, refl, arith}
 use Rattle.kq_model.specs.Bits.{exec_note}
 use Rattle.kq_model.specs.ProcessPlans.{noted, plan_exec}
 use Rattle.kq_model.specs.Processes.{is_live}

@@ -1,10 +1,10 @@
-use Rattle.std.proofs.Common.{◌≡◌, Some, None, List, map, refl, sym, ap, ◌∙◌}
+use Rattle.std.proofs.Common.{◌≡◌, None, map, refl, sym, ap, ◌∙◌}
 use Rattle.std.proofs.lemmas.Result.{on_ok_weaker}
 use Rattle.kq_model.specs.Processes.{process_of, ignored_by}
 use Rattle.kq_process.specs.declared.process.Process.{Process}
 use Rattle.kq_model.specs.ProcessPlans.{descriptors_of}
 use Rattle.kq_process.specs.Processes.{process_in, table_in}
-use Rattle.kq_process.specs.Shelf.{AreRising, lookup, put}
+use Rattle.kq_process.specs.Shelf.{AreRising, put}
 use Rattle.kq_process.proofs.Told.{live_there, ignored_is, start_processes, fork_table, fork_copies}
 use Rattle.kq_process.proofs.processes.Processes.fork.Goals as goal
 

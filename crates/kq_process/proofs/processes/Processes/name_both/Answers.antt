@@ -1,4 +1,4 @@
-use Rattle.std.proofs.Common.{◌≡◌, ◌==◌, false, Option, None, refl, sym, ap, ◌∙◌}
+use Rattle.std.proofs.Common.{◌≡◌, None, ap, ◌∙◌}
 use Rattle.kq_model.specs.Descriptors.{named_among, with_descriptor, with_descriptors, without_closed}
 use Rattle.kq_process.specs.Processes.{table_of, descriptor_in}
 use Rattle.kq_process.proofs.Closing.{one, opened-anew}

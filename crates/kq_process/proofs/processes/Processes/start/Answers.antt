@@ -1,4 +1,4 @@
-use Rattle.std.proofs.Common.{◌≡◌, Some, None, List, map, refl, ap, ◌∙◌}
+use Rattle.std.proofs.Common.{◌≡◌, None, map, refl, ap, ◌∙◌}
 use Rattle.std.proofs.lemmas.Result.{on_ok_weaker}
 use Rattle.kq_model.specs.Processes.{ignores_none}
 use Rattle.kq_process.specs.declared.process.Process.{Process}

@@ -1,28 +1,47 @@
-use Rattle.std.proofs.Common.{◌≡◌, ◌+◌, ℕ, sym, ap, subst, ◌∙◌}
-use Rattle.std.proofs.lemmas.Result.{on_ok_weaker}
+use Rattle.std.proofs.Common.{◌≡◌, ◌+◌, ◌<◌, ℕ, sym, ap, subst, arith, ◌∙◌}
+use Rattle.kq_model.specs.declared.event.Event.{Event}
 use Rattle.kq_model.specs.CountedWorld.{IsCountedWorld}
 use Rattle.kq_model.specs.Objects.{counted}
 use Rattle.kq_model.specs.Plans.{plan}
 use Rattle.kq_model.specs.World.{World as ModelWorld, seen_world}
 use Rattle.kq_process.specs.Effects.{world_after}
-use Rattle.kq_process.specs.World.{world_of, IsNext}
-use Rattle.kq_process.proofs.Applied.{counted-record, counted-after, listed-after}
+use Rattle.kq_process.specs.State.{state_of}
+use Rattle.kq_process.specs.World.{last_of, world_of}
+use Rattle.kq_process.specs.declared.state.State.{State}
+use Rattle.kq_process.specs.declared.world.World.{World}
+use Rattle.kq_process.proofs.Applied.{counted-record, counted-after, counted-later, counted-now, listed-after}
 use Rattle.kq_process.proofs.world.World.apply.Goals as goal
 
+-- places rise
+before : (w : World) (place : ℕ) → last_of w < place → IsCountedWorld place (world_of w)
+before w place rises = counted-later (last_of w + 1) place (world_of w) (omega arith) (counted-now w)
+
+pub apply-requires : goal.apply-requires
+apply-requires c = before c.args.self.now c.args.place c.requires
+
+pub invariant_of-self : goal.invariant_of-self
+invariant_of-self c =
+    let old = c.args.self.now in
+    let same : IsCountedWorld (last_of old + 1) (state_of c.apply.new.self) =
+    subst (IsCountedWorld (last_of old + 1)) (sym c.in_err-effect.ensures.memory) (counted-now old) in
+    record { rising = same.rising; owned = same.owned; below = same.below }
+
+next : (old : World) (new : State) (place : ℕ) (e : Event) → last_of old < place
+    → state_of new ≡ world_after place (plan place e (world_of old)) (world_of old) → IsCountedWorld (place + 1) (state_of new)
+next old new place e rises is =
+    let w = world_of old in
+    subst (IsCountedWorld (place + 1)) (sym is)
+    (counted-after place w (plan place e w) (counted-record place w e) (before old place rises))
+
+pub invariant_of-self-2 : goal.invariant_of-self-2
+invariant_of-self-2 c =
+    let n = next c.args.self.now c.apply.new.self c.args.place c.args.event.now c.requires c.in_ok-effect.ensures.world in
+    record { rising = n.rising; owned = n.owned; below = n.below }
+
 pub returns-clause-next : goal.returns-clause-next
-returns-clause-next c =
-    let w = world_of c.args.self.now in
-    let Counted : ModelWorld counted → Type 0 = λ x. IsCountedWorld (c.args.place + 1) x in
-    on_ok_weaker c.step.result
-    (λ (is : IsNext c.args.place (plan c.args.place c.args.event.now) c.args.self.now c.step.new.self).
-    subst Counted (sym is) (counted-after c.args.place w (plan c.args.place c.args.event.now w)
-    (counted-record c.args.place w c.args.event.now) c.requires))
-    c.step.ensures.world
+returns-clause-next c = next c.args.self.now c.apply.new.self c.args.place c.args.event.now c.requires c.in_ok-effect.ensures.world
 
 pub returns-clause-listed : goal.returns-clause-listed
 returns-clause-listed c = λ m stands.
-    on_ok_weaker c.step.result
-    (λ (is : IsNext c.args.place (plan c.args.place c.args.event.now) c.args.self.now c.step.new.self).
-    is ∙ ap (λ (w : ModelWorld counted). world_after c.args.place (plan c.args.place c.args.event.now w) w) stands
-    ∙ listed-after c.args.place (plan c.args.place c.args.event.now (seen_world m)) m)
-    c.step.ensures.world
+    c.in_ok-effect.ensures.world ∙ ap (λ (w : ModelWorld counted). world_after c.args.place (plan c.args.place c.args.event.now w) w) stands
+    ∙ listed-after c.args.place (plan c.args.place c.args.event.now (seen_world m)) m

@@ -1,9 +1,10 @@
-use Rattle.std.proofs.Common.{◌≡◌, sym, subst}
-use Rattle.kq_model.specs.Descriptors.{Descriptor}
-use Rattle.kq_model.specs.Objects.{Objects, counted}
-use Rattle.kq_process.specs.Counts.{IsSound}
-use Rattle.kq_process.proofs.Sound.{sound-new}
+use Rattle.std.proofs.Common.{sym, subst}
+use Rattle.kq_model.specs.CountedWorld.{IsCountedWorld}
+use Rattle.kq_model.proofs.CountedSteps.{counted-empty}
+use Rattle.kq_process.specs.State.{state_of}
 use Rattle.kq_process.proofs.world.World.new.Goals as goal
 
 pub invariant_of-result : goal.invariant_of-result
-invariant_of-result c = record { sound = sound-new _ _ c.new.ensures.table c.in_ok-new.ensures }
+invariant_of-result c =
+    let first : IsCountedWorld 1 (state_of c.in_ok-state.state) = subst (IsCountedWorld 1) (sym c.in_ok-state.ensures) counted-empty in
+    record { rising = first.rising; owned = first.owned; below = first.below }
