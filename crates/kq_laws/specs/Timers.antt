@@ -12,10 +12,10 @@ use Rattle.kq_model.specs.Bits.{asks, error}
 use Rattle.kq_model.specs.Call.{call}
 use Rattle.kq_model.specs.CallLaws.{Each, key_of_event, kqueue_after_changes}
 use Rattle.kq_model.specs.Caller.{Caller}
-use Rattle.kq_model.specs.Clock.{expires_at}
+use Rattle.kq_model.specs.Clock.{expires_at, ticking}
 use Rattle.kq_model.specs.Knote.{key_eq, find_knote}
 use Rattle.kq_model.specs.Tallied.{Knote, Kqueue}
-use Rattle.kq_model.specs.Ticks.{last_moment, ticks_between}
+use Rattle.kq_model.specs.Ticks.{is_single_moment, last_moment, ticks_between}
 use Rattle.kq_model.specs.Views.{Views}
 use Rattle.kq_laws.specs.Life.{Life, Step, Closes, Hints, Passes, Calls, born, stepped, lived, KeepTime}
 
@@ -45,10 +45,10 @@ abbrev pub last_returned : Key → List Step → Life → ℕ → ℕ
 last_returned key [] l earlier = earlier
 last_returned key (s ∷ steps) l earlier = last_returned key steps (stepped s l) (returned_in key s l earlier)
 
--- how often the timer, as it is set now, expires after one moment and up to another; one without a period, which is at
--- a single moment, has done so once where it is returned, also if its moment had come before it was set
+-- how often the timer, as it is set now, expires after one moment and up to another; one that is at a single moment has
+-- done so once where it is returned, also if its moment had come before it was set
 abbrev pub expirations : Knote → ℕ → ℕ → ℕ
-expirations k from to = if k.period == 0 then 1 else ticks_between (expires_at k) from to
+expirations k from to = if is_single_moment (ticking k) then 1 else ticks_between (expires_at k) from to
 
 -- an event of the timer has as data its expirations after one moment and up to another; a timer expires only after
 -- its start, so that one that was started since has those since its start

@@ -1,7 +1,7 @@
 -- What a clock record does: each kqueue's clock goes on by the same span, and nothing else happens.
-use Rattle.std.proofs.Common.{◌≡◌, ◌∙◌, ◌++◌, ◌≤◌, ℕ, ℤ, pos, negsuc, FitsSigned, w64, false, not, List, [], ◌∷◌, map, Option, None, Some, IsOk, ltb, refl, sym, ap, ap₂, subst, append-nil, arith}
+use Rattle.std.proofs.Common.{◌≡◌, ◌∙◌, ◌++◌, ◌≤◌, ◌≤ℤ◌, ℕ, ℤ, pos, negsuc, FitsSigned, w64, to_z, false, not, List, [], ◌∷◌, map, Option, None, Some, IsOk, ltb, refl, sym, ap, ap₂, subst, append-nil, arith}
 use Rattle.std.proofs.lemmas.Bool.{cond_both, ltb-false}
-use Rattle.std.proofs.lemmas.Int.{ints}
+use Rattle.std.proofs.lemmas.Int.{ints, to_z_pos}
 use Rattle.kq_model.specs.declared.event.Event.{Event}
 use Rattle.kq_model.specs.declared.event.Event.TheVariants as event
 use Rattle.kq_model.specs.declared.reply.Reply.TheVariants as reply
@@ -130,3 +130,14 @@ has_gone place ns old effect w to fits effects ok world now =
             ap (λ (c : Option Call). reply_to m c old.live) (sym gone.moves.call),
           );
     }
+
+-- ---- moments as a kqueue takes them
+
+pub as_moment : (moment : ℕ) → moment ≤ last_moment → to_z w64 moment ≡ pos moment
+as_moment moment within = to_z_pos w64 moment (omega (arith, within))
+
+pub moment-past : (z : ℤ) (moment : ℕ) → z ≡ pos moment → pos 0 ≤ℤ z
+moment-past z moment is = omega (arith, ints, is)
+
+pub moments-ordered : (from to : ℤ) (a b : ℕ) → from ≡ pos a → to ≡ pos b → a ≤ b → from ≤ℤ to
+moments-ordered from to a b from_is to_is ordered = omega (arith, ints, from_is, to_is, ordered)

@@ -1,5 +1,5 @@
 -- What holds of the system after a record.
-use Rattle.std.proofs.Common.{◌≡◌, ◌∙◌, ◌+◌, ◌++◌, ◌||◌, ℕ, Bool, true, false, not, cond, List, map, length, nat_lt, Option, None, Some, Result, Ok, Err, IsOk, OnErr, is_some, refl, sym, ap, subst, append-nil, arith}
+use Rattle.std.proofs.Common.{◌≡◌, ◌≤◌, ◌∙◌, ◌+◌, ◌++◌, ◌||◌, ℕ, Bool, true, false, not, cond, List, map, length, nat_lt, Option, None, Some, Result, Ok, Err, IsOk, OnErr, is_some, refl, sym, ap, subst, append-nil, arith}
 use Rattle.std.proofs.lemmas.List.Elements.{All-weaker}
 use Rattle.std.specs.Map.{keys_of}
 use Rattle.kq_model.specs.Following.{all_forks}
@@ -27,7 +27,7 @@ use Rattle.kq_model.proofs.SeenWorld.{seen-counted}
 use Rattle.kq_process.specs.declared.effect.Effect.{Effect}
 use Rattle.kq_process.specs.declared.world.World as code
 use Rattle.kq_process.specs.Effects.{IsEffectOf, IsPossible, pairs_in, world_after}
-use Rattle.kq_process.specs.World.{world_of}
+use Rattle.kq_process.specs.World.{last_of, world_of}
 use Rattle.kq_system.specs.SystemState.{HaveStayed, IsImpossible, IsLawful, IsPlain, IsStep, NumberedKqueue, call_plan, happened_to_all, live_of}
 use Rattle.kq_system.proofs.CallLemmas.{up_to_more}
 use Rattle.kq_system.proofs.SystemLemmas.{done, impossible, told}
@@ -47,19 +47,19 @@ pub lawful_after : (version applied : ℕ) (w w' : code.World) (es es' : List (�
     → IsLawful version applied w es → HaveStayed es es'
     → AreAllLive (record { version = version; world = world_of w'; live = map live_of es' })
     → AllWatchTheirNumbers (record { version = version; world = world_of w'; live = map live_of es' })
-    → IsCountedWorld (applied + 1 + 1) (world_of w') → IsLawful version (applied + 1) w' es'
-lawful_after version applied w w' es es' old stayed live watched counted = record {
+    → last_of w' ≤ applied + 1 → IsLawful version (applied + 1) w' es'
+lawful_after version applied w w' es es' old stayed live watched places = record {
   of_version = stayed.of_version version old.of_version;
   born = stayed.up_to (applied + 1) (up_to_more applied (applied + 1) (keys_of es) (omega arith) old.born);
   all_live = live;
   watched = watched;
-  counted = counted;
+  places = places;
 }
 
 -- where nothing came of a record
 pub lawful_unchanged : (version applied : ℕ) (w w' : code.World) (es es' : List (ℕ × NumberedKqueue))
-    → IsLawful version applied w es → world_of w' ≡ world_of w → es' ≡ es → IsLawful version applied w' es'
-lawful_unchanged version applied w w' es es' old same entries =
+    → IsLawful version applied w es → world_of w' ≡ world_of w → last_of w' ≡ last_of w → es' ≡ es → IsLawful version applied w' es'
+lawful_unchanged version applied w w' es es' old same last entries =
     subst (λ (l : List (ℕ × NumberedKqueue)). IsLawful version applied w' l) (sym entries) (record {
       of_version = old.of_version;
       born = old.born;
@@ -68,7 +68,7 @@ lawful_unchanged version applied w w' es es' old same entries =
       watched =
           subst (λ (v : World). AllWatchTheirNumbers (record { version = version; world = v; live = map live_of es }))
           (sym same) old.watched;
-      counted = subst (λ (v : World). IsCountedWorld (applied + 1) v) (sym same) old.counted;
+      places = let before = old.places in omega arith;
     })
 
 -- where nothing came of a call
@@ -83,7 +83,7 @@ lawful_same version applied w es es' old stayed same = record {
   watched = subst (λ (ls : List Live). AllWatchTheirNumbers
       (record { version = version; world = world_of w; live = ls }))
       (sym same) old.watched;
-  counted = old.counted;
+  places = old.places;
 }
 
 -- ---- impossible records

@@ -13,7 +13,8 @@ use Rattle.kq_model.specs.Moment.{moment_of}
 use Rattle.kq_model.specs.Objects.{all_done}
 use Rattle.kq_model.specs.Plans.{plan}
 use Rattle.kq_model.specs.Processes.{with_process, without_process, with_disposition}
-use Rattle.kq_model.specs.System.{born, reply_to, step, step_by}
+use Rattle.kq_model.specs.Recast.{tallied_system}
+use Rattle.kq_model.specs.System.{born, empty_system, reply_to, step, step_by}
 use Rattle.kq_model.specs.Tallied.{Live, System, World}
 use Rattle.kq_model.specs.Targets.{Posted}
 use Rattle.kq_model.specs.WatchedNumbers.{AllWatchTheirNumbers}
@@ -178,3 +179,7 @@ pub stays_watched : (place next : ℕ) (e : Event) (old new : System) (r : Reply
 stays_watched place next e old new r steps counted all =
     subst (λ (s : System). AllWatchTheirNumbers s) (sym steps.0)
     (step-watched place e old (subst (λ (s : System). IsRising s.world.table) steps.0 counted.rising) all)
+
+-- the empty system of the code stands for that of the definitions
+pub opening : (version : ℕ) → ◌≡◌ {A = System} (tallied_system (empty_system version)) (empty_system version)
+opening version = refl

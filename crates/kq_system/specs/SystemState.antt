@@ -1,5 +1,5 @@
 -- The system of the code as contracts see it, and how its tables stand for the model's lists.
-use Rattle.std.specs.Prelude.{◌≡◌, ◌==◌, ◌+◌, ◌≤◌, ℕ, Bool, true, not, List, [], ◌∷◌, map, filter, Some, None}
+use Rattle.std.specs.Prelude.{◌≡◌, ◌==◌, ◌≤◌, ℕ, Bool, true, not, List, [], ◌∷◌, map, filter, Some, None}
 use Rattle.std.specs.List.{list_any}
 use Rattle.std.specs.Map.{keys_of}
 use Rattle.kq_kevent.specs.Owned.{OwnedKqueue}
@@ -8,7 +8,6 @@ use Rattle.kq_model.specs.declared.reply.Reply.{Reply}
 use Rattle.kq_model.specs.declared.why.Why.{Why}
 use Rattle.kq_model.specs.Clock.{Span, clocked}
 use Rattle.kq_model.specs.Close.{Pair, closed, has_pair}
-use Rattle.kq_model.specs.CountedWorld.{IsCountedWorld}
 use Rattle.kq_model.specs.Following.{followed}
 use Rattle.kq_model.specs.Hints.{notified}
 use Rattle.kq_model.specs.LiveKqueues.{AreAllLive}
@@ -21,7 +20,7 @@ use Rattle.kq_model.specs.Views.{Views}
 use Rattle.kq_model.specs.WatchedNumbers.{AllWatchTheirNumbers}
 use Rattle.kq_model.specs.World.{Call, Plan, Impossible, Possible, idle, seen_world}
 use Rattle.kq_process.specs.declared.world.World as code
-use Rattle.kq_process.specs.World.{world_of}
+use Rattle.kq_process.specs.World.{last_of, world_of}
 
 -- ---- what contracts see of a system, and the system that it is
 
@@ -142,5 +141,5 @@ pub record IsLawful (version applied : ℕ) (world : code.World) (live : List (�
   pub all_live : AreAllLive (record { version = version; world = world_of world; live = map live_of live })
   -- each READ, WRITE or VNODE knote watches what its number names
   pub watched : AllWatchTheirNumbers (record { version = version; world = world_of world; live = map live_of live })
-  -- what descriptors name was made by earlier records, and is counted by them
-  pub counted : IsCountedWorld (applied + 1) (world_of world)
+  -- the next record comes after all that the world has seen
+  pub places : last_of world ≤ applied

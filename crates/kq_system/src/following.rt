@@ -12,7 +12,7 @@ ghost use Rattle.kq_model.specs.World.{views_of};
 ghost use Rattle.kq_model.specs.contracts.object.TargetPartialEq.TheImpl as target_equal;
 ghost use Rattle.kq_kevent.specs.Owned.{HasRoomToFollow};
 ghost use Rattle.kq_process.specs.Effects.{IsPossible};
-ghost use Rattle.kq_process.specs.World.{IsEffectBy, IsNext, world_of};
+ghost use Rattle.kq_process.specs.World.{IsEffectBy, IsNext, last_of, world_of};
 ghost use Rattle.kq_system.specs.Forking.{ArePrepared, AreRoomier, HaveRoom, IsFollowing, IsRoomier};
 ghost use Rattle.kq_system.specs.Places.{Grows, has_place};
 ghost use Rattle.kq_system.specs.Showing.{AreShown, IsPassed};
@@ -67,11 +67,13 @@ pub fn fork_all(
     pid: u32,
     child: u32,
 ) -> Result<Effect, Memory>
-    requires counted { IsCountedWorld place (world_of world.old) }
+    requires places { last_of world.old < place }
     requires event { event.now ≡ event_of.Fork pid child }
     ensures effect { IfOk result (IsEffectBy (plan place event.now) world.old) }
     ensures world { OnOk result (IsNext place (plan place event.now) world.old world.new) }
+    ensures last { OnOk result (last_of world.new ≡ place) }
     ensures memory { OnErr result (world_of world.new ≡ world_of world.old) }
+    ensures same_last { OnErr result (last_of world.new ≡ last_of world.old) }
     ensures possible { OnErr result (IsPossible (plan place event.now (world_of world.old))) }
     ensures next { OnOk result (IsCountedWorld (place + 1) (world_of world.new)) }
     ensures kept { OnErr result (map live_of live.new.entries ≡ map live_of live.old.entries) }

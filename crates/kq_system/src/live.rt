@@ -95,7 +95,7 @@ impl Live {
         ensures shown { self.new.shown ≡ self.old.shown }
         ensures ended { self.new.ended ≡ self.old.ended }
     {
-        self.kq.clock(from, to);
+        go_on(&mut self.kq, from, to);
         true
     }
 
@@ -110,9 +110,20 @@ impl Live {
         if self.shown == round {
             return;
         }
-        self.kq.clock(from, to);
+        go_on(&mut self.kq, from, to);
         self.shown = round;
     }
+}
+
+/// The clock of a kqueue goes on.
+fn go_on(kq: &mut Kq, from: u64, to: u64)
+    requires ordered { from ≤ to }
+    requires within { to ≤ last_moment }
+    ensures kq { kq.new.kq ≡ clocked (Some (record { from = from; to = to })) kq.old.kq }
+    ensures owner { kq.new.owner ≡ kq.old.owner }
+    ensures version { kq.new.version ≡ kq.old.version }
+{
+    kq.clock(from as i64, to as i64);
 }
 
 /// Whether a number of a process is among these.

@@ -1,5 +1,6 @@
 ghost use Rattle.std.specs.Prelude.{◌≡◌, ◌+◌, ◌-◌, ◌^◌, ◌<◌, ℕ, true, None, Some, IfOk, IfSome, IsOk, OnErr, OnOk};
 ghost use Rattle.kq_model.specs.declared.object.Named.TheVariants as named_as;
+ghost use Rattle.kq_process.specs.World.{world_of};
 
 use crate::all_live::{bear, call_on, happen_to_all, reserve_one, tick_all};
 use crate::following::fork_all;
@@ -35,11 +36,24 @@ impl Model for System {
 
 impl System {
     ghost use Rattle.kq_model.specs.Limits.{IsVersion};
+    ghost use Rattle.kq_model.specs.Recast.{tallied_system};
     ghost use Rattle.kq_model.specs.System.{empty_system};
     ghost use Rattle.kq_system.specs.SystemState.{system_of};
 
     /// The system before the first record of a trace of this version, which is 1 or 2.
     pub fn new(alloc: Global, version: u32) -> Result<Self, Memory>
+        requires { IsVersion version }
+        ensures system { IfOk result (λ s. system_of s ≡ empty_system version) }
+        ensures applied { IfOk result (λ s. s.applied ≡ 0) }
+
+        // It stands for the empty system that keeps all that was recorded and heard.
+        ensures model { IfOk result (λ s. system_of s ≡ tallied_system (empty_system version)) }
+    {
+        System::empty(alloc, version)
+    }
+
+    /// The same, as the code keeps it.
+    fn empty(alloc: Global, version: u32) -> Result<Self, Memory>
         requires { IsVersion version }
         ensures system { IfOk result (λ s. system_of s ≡ empty_system version) }
         ensures applied { IfOk result (λ s. s.applied ≡ 0) }
@@ -71,15 +85,26 @@ fn kqueue_named(named: Option<Named>) -> Option<u64>
     }
 }
 
+/// The clock of a world, in nanoseconds.
+fn clock_of(world: &World) -> u64
+    ensures { result ≡ (world_of world.now).now }
+{
+    world.now() as u64
+}
+
 impl System {
     ghost use Rattle.kq_model.specs.declared.event.Event.TheVariants as event_of;
     ghost use Rattle.kq_model.specs.ClosedNumbers.{ClosesAll};
     ghost use Rattle.kq_model.specs.DescriptorPlans.{plan_kqueue};
+    ghost use Rattle.kq_model.specs.Hearing.{listed};
+    ghost use Rattle.kq_model.specs.Objects as objects;
     ghost use Rattle.kq_model.specs.Plans.{plan};
+    ghost use Rattle.kq_model.specs.Recast.{IsTalliedStep, tallied_system};
+    ghost use Rattle.kq_model.specs.System as model;
+    ghost use Rattle.kq_model.specs.System.{step};
     ghost use Rattle.kq_model.specs.WatchedNumbers.{AllWatchTheirNumbers};
     ghost use Rattle.kq_model.specs.World.{Plan, Possible};
     ghost use Rattle.kq_process.specs.Effects.{IsPossible};
-    ghost use Rattle.kq_process.specs.World.{world_of};
     ghost use Rattle.kq_system.specs.SystemState.{IsImpossible, IsPlain, IsStep, IsUnchanged, system_of};
 
     /// Applies one event, and gives the reply to it. A record that is possible changes the world, then
@@ -90,6 +115,10 @@ impl System {
         requires { self.old.applied < 2 ^ 31 - 1 }
         ensures reply { IfOk result
             (IsStep (self.old.applied + 1) event.now (system_of self.old) (system_of self.new)) }
+
+        // The same in the words of the definitions, which keep all that was recorded and heard.
+        ensures model { IfOk result (λ reply. (m : model.System listed objects.listed) → system_of self.old ≡ tallied_system m
+            → IsTalliedStep (system_of self.new) reply (step (self.old.applied + 1) event.now m)) }
 
         // No kqueue keeps a knote of a number that was closed, also where a duplicate stays open.
         ensures closed { OnOk result
@@ -146,13 +175,13 @@ impl System {
         ensures possible { OnErr result (IsPossible (plan (self.old.applied + 1) event.now (world_of self.old.world))) }
     {
         let place = self.applied + 1;
-        let from = self.world.now();
+        let from = clock_of(&self.world);
         let effect = self.world.apply(place, event)?;
         self.applied = place;
         if let Err(why) = effect.verdict {
             return Ok(Reply::Impossible(why));
         }
-        let to = self.world.now();
+        let to = clock_of(&self.world);
         tick_all(&mut self.live, from, to);
         Ok(Reply::Done)
     }

@@ -1,4 +1,4 @@
-use Rattle.std.proofs.Common.{◌≡◌, ◌∙◌, ap, sym, rules}
+use Rattle.std.proofs.Common.{◌≡◌, ◌∙◌, ap, rules}
 use Rattle.kq_model.specs.Close.{closed}
 use Rattle.kq_model.specs.Hints.{notified}
 use Rattle.kq_model.specs.Tallied.{Kqueue}

@@ -1,5 +1,6 @@
 use Rattle.std.proofs.Common.{◌+◌}
 use Rattle.std.proofs.lemmas.Result.{IfOk-weaker}
+use Rattle.kq_model.proofs.RecastSystem.{step-tallied}
 use Rattle.kq_system.specs.SystemState.{system_of}
 use Rattle.kq_system.proofs.ClosedLemmas.{closes_all}
 use Rattle.kq_system.proofs.StepLemmas.{answered}
@@ -15,3 +16,9 @@ pub returns-clause-impossible : goal.returns-clause-impossible
 returns-clause-impossible c =
     answered c.step-reply.result (c.args.self.now.applied + 1) c.args.event.now (system_of c.args.self.now)
     c.step-reply.ensures.possible
+
+pub returns-clause-model : goal.returns-clause-model
+returns-clause-model c =
+    IfOk-weaker c.step-reply.result _ _ (λ r steps m same.
+    step-tallied (c.args.self.now.applied + 1) c.args.event.now (system_of c.args.self.now) (system_of c.step-reply.new.self) r m same
+    steps.0 steps.1) c.step-reply.ensures.reply

@@ -1,4 +1,4 @@
-use Rattle.std.proofs.Common.{◌∙◌, ◌+◌, IsOk, map, refl, sym, subst}
+use Rattle.std.proofs.Common.{◌∙◌, ◌+◌, IsOk, map, refl, sym, subst, arith}
 use Rattle.kq_model.specs.declared.event.Event.{Event}
 use Rattle.kq_model.specs.declared.event.Event.TheVariants.{Kevent}
 use Rattle.kq_model.specs.declared.reply.Reply.TheVariants as reply
@@ -8,12 +8,13 @@ use Rattle.kq_model.specs.Plans.{plan}
 use Rattle.kq_model.specs.World.{Call, named_by}
 use Rattle.kq_model.proofs.LiveKqueues.{named_among-live}
 use Rattle.kq_process.specs.Effects.{IsPossible}
-use Rattle.kq_process.specs.World.{world_of}
+use Rattle.kq_process.specs.World.{last_of, world_of}
+use Rattle.kq_process.proofs.Applied.{counted-later, counted-now}
 use Rattle.kq_process.proofs.Planned.{held_anyway}
 use Rattle.kq_system.specs.SystemState.{AreOfVersion, IsStep, SystemState, call_plan, live_of, state_of, system_of}
 use Rattle.kq_system.proofs.CallLemmas.{live_by_place}
 use Rattle.kq_system.proofs.HappenLemmas.{stayed_same}
-use Rattle.kq_system.proofs.StepLemmas.{call_planned, call_possible, counted_later, kevent_plan, lawful_after, lawful_same, possible_call}
+use Rattle.kq_system.proofs.StepLemmas.{call_planned, call_possible, kevent_plan, lawful_after, lawful_same, possible_call}
 use Rattle.kq_system.proofs.SystemLemmas.{call_of, called, called_views, done, impossible, quiet_call, refused, stays_live, stays_watched, version_of}
 use Rattle.kq_system.proofs.system.System.call.Goals as goal
 
@@ -22,7 +23,7 @@ invariant_of-self c =
     let old = c.self.inside in
     lawful_after old.version old.applied old.world old.world old.live.entries old.live.entries c.self.invariant
     (stayed_same old.live.entries) c.self.invariant.all_live c.self.invariant.watched
-    (counted_later (old.applied + 1) (world_of old.world) c.self.invariant.counted)
+    (omega (arith, c.self.invariant.places))
 
 pub returns-in-Err-clause-reply : goal.returns-in-Err-clause-reply
 returns-in-Err-clause-reply c =
@@ -83,8 +84,8 @@ invariant_of-self-2 c =
     c.self.invariant c.in_ok-reply.ensures.stayed
     (stays_live place e (system_of s) _ c.in_ok-reply.reply steps c.self.invariant.all_live)
     (stays_watched place (place + 1) e (system_of s) _ c.in_ok-reply.reply steps
-    (counted_later place w c.self.invariant.counted) c.self.invariant.watched)
-    (counted_later place w c.self.invariant.counted)
+    (counted-later (last_of old.world + 1) (place + 1) w (omega (arith, c.self.invariant.places)) (counted-now old.world)) c.self.invariant.watched)
+    (omega (arith, c.self.invariant.places))
 
 pub returns-clause-reply : goal.returns-clause-reply
 returns-clause-reply c =

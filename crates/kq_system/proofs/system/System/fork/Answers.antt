@@ -1,4 +1,4 @@
-use Rattle.std.proofs.Common.{◌≡◌, ◌∙◌, ◌+◌, ℕ, List, IsOk, map, refl, sym, ap, subst}
+use Rattle.std.proofs.Common.{◌≡◌, ◌∙◌, ◌+◌, ℕ, List, IsOk, map, refl, sym, ap, subst, arith}
 use Rattle.kq_model.specs.declared.event.Event.{Event}
 use Rattle.kq_model.specs.declared.reply.Reply.TheVariants as reply
 use Rattle.kq_model.specs.declared.why.Why.{Why}
@@ -30,7 +30,7 @@ invariant_of-self c =
     lawful_unchanged old.version old.applied old.world c.fork_all.new.world es es
     (lawful_same old.version old.applied old.world old.live.entries es c.self.invariant
     c.in_err-effect.ensures.stayed c.in_err-effect.ensures.kept)
-    c.in_err-effect.ensures.memory refl
+    c.in_err-effect.ensures.memory c.in_err-effect.ensures.same_last refl
 
 -- a fork that is impossible
 pub invariant_of-self-in-Err : goal.invariant_of-self-in-Err
@@ -49,7 +49,7 @@ invariant_of-self-in-Err c =
     (stays_live place e (system_of s) _ (reply.Impossible c.in-Err.why) steps c.self.invariant.all_live)
     (stays_watched place (place + 1) e (system_of s) _ (reply.Impossible c.in-Err.why) steps
     c.in_ok-effect.ensures.next c.self.invariant.watched)
-    c.in_ok-effect.ensures.next
+    (omega (arith, c.in_ok-effect.ensures.last))
 
 pub returns-in-Err-clause-reply : goal.returns-in-Err-clause-reply
 returns-in-Err-clause-reply c =
@@ -88,7 +88,7 @@ invariant_of-self-2 c =
     (stays_live place e (system_of s) _ reply.Done steps c.self.invariant.all_live)
     (stays_watched place (place + 1) e (system_of s) _ reply.Done steps c.in_ok-effect.ensures.next
     c.self.invariant.watched)
-    c.in_ok-effect.ensures.next
+    (omega (arith, c.in_ok-effect.ensures.last))
 
 pub returns-clause-reply : goal.returns-clause-reply
 returns-clause-reply c =

@@ -1,4 +1,4 @@
-use Rattle.std.proofs.Common.{◌∙◌, ◌+◌, ℕ, List, IsOk, map, refl, sym, ap, ap₂, subst}
+use Rattle.std.proofs.Common.{◌∙◌, ◌+◌, ℕ, List, IsOk, map, refl, sym, ap, ap₂, subst, arith}
 use Rattle.kq_model.specs.declared.reply.Reply.TheVariants as reply
 use Rattle.kq_model.specs.Following.{all_forks}
 use Rattle.kq_model.specs.Plans.{plan}
@@ -17,7 +17,7 @@ pub invariant_of-self : goal.invariant_of-self
 invariant_of-self c =
     let old = c.self.inside in
     lawful_unchanged old.version old.applied old.world c.apply.new.self old.live.entries old.live.entries
-    c.self.invariant c.in_err-effect.ensures.memory refl
+    c.self.invariant c.in_err-effect.ensures.memory c.in_err-effect.ensures.same_last refl
 
 pub invariant_of-self-in-Err : goal.invariant_of-self-in-Err
 invariant_of-self-in-Err c =
@@ -33,7 +33,7 @@ invariant_of-self-in-Err c =
     (stays_live place e (system_of s) _ (reply.Impossible c.in-Err.why) steps c.self.invariant.all_live)
     (stays_watched place (place + 1) e (system_of s) _ (reply.Impossible c.in-Err.why) steps c.in_ok-effect.ensures.next
     c.self.invariant.watched)
-    c.in_ok-effect.ensures.next
+    (omega (arith, c.in_ok-effect.ensures.last))
 
 pub returns-in-Err-clause-reply : goal.returns-in-Err-clause-reply
 returns-in-Err-clause-reply c =
@@ -65,7 +65,7 @@ invariant_of-self-2 c =
     (stays_live place e (system_of s) _ reply.Done steps c.self.invariant.all_live)
     (stays_watched place (place + 1) e (system_of s) _ reply.Done steps c.in_ok-effect.ensures.next
     c.self.invariant.watched)
-    c.in_ok-effect.ensures.next
+    (omega (arith, c.in_ok-effect.ensures.last))
 
 pub returns-clause-reply : goal.returns-clause-reply
 returns-clause-reply c =

@@ -20,7 +20,7 @@ pub invariant_of-self-in_err-effect : goal.invariant_of-self-in_err-effect
 invariant_of-self-in_err-effect c =
     let old = c.self.inside in
     lawful_unchanged old.version old.applied old.world c.apply.new.self old.live.entries c.reserve_one.new.live.entries
-    c.self.invariant c.in_err-effect.ensures.memory c.in_ok-reserve_one.ensures.entries
+    c.self.invariant c.in_err-effect.ensures.memory c.in_err-effect.ensures.same_last c.in_ok-reserve_one.ensures.entries
 
 pub invariant_of-self-in-Err : goal.invariant_of-self-in-Err
 invariant_of-self-in-Err c =
@@ -38,7 +38,7 @@ invariant_of-self-in-Err c =
     (stays_live place e (system_of s) _ (reply.Impossible c.in-Err.why) steps c.self.invariant.all_live)
     (stays_watched place (place + 1) e (system_of s) _ (reply.Impossible c.in-Err.why) steps c.in_ok-effect.ensures.next
     c.self.invariant.watched)
-    c.in_ok-effect.ensures.next)
+    (omega (arith, c.in_ok-effect.ensures.last)))
 
 pub returns-in-Err-clause-reply : goal.returns-in-Err-clause-reply
 returns-in-Err-clause-reply c =
@@ -110,7 +110,7 @@ invariant_of-self-2 c =
       all_live = stays_live place e (system_of s) _ reply.Done steps c.self.invariant.all_live;
       watched = stays_watched place (place + 1) e (system_of s) _ reply.Done steps c.in_ok-effect.ensures.next
           c.self.invariant.watched;
-      counted = c.in_ok-effect.ensures.next;
+      places = omega (arith, c.in_ok-effect.ensures.last);
     }
 
 pub returns-clause-reply : goal.returns-clause-reply

@@ -1,4 +1,4 @@
-use Rattle.std.proofs.Common.{◌≡◌, ◌+◌, ◌≤◌, IsOk, map, refl, sym, ap, ◌∙◌, subst}
+use Rattle.std.proofs.Common.{◌≡◌, ◌+◌, ◌≤◌, IsOk, map, refl, sym, ap, ◌∙◌, subst, arith}
 use Rattle.kq_model.specs.declared.event.Event.{Event}
 use Rattle.kq_model.specs.declared.event.Event.TheVariants as event
 use Rattle.kq_model.specs.declared.reply.Reply.TheVariants as reply
@@ -16,7 +16,7 @@ pub invariant_of-self : goal.invariant_of-self
 invariant_of-self c =
     let old = c.self.inside in
     lawful_unchanged old.version old.applied old.world c.apply.new.self old.live.entries old.live.entries
-    c.self.invariant c.in_err-effect.ensures.memory refl
+    c.self.invariant c.in_err-effect.ensures.memory c.in_err-effect.ensures.same_last refl
 
 pub invariant_of-self-in-Err : goal.invariant_of-self-in-Err
 invariant_of-self-in-Err c =
@@ -32,7 +32,7 @@ invariant_of-self-in-Err c =
     (stays_live place e (system_of s) _ (reply.Impossible c.in-Err.why) steps c.self.invariant.all_live)
     (stays_watched place (place + 1) e (system_of s) _ (reply.Impossible c.in-Err.why) steps c.in_ok-effect.ensures.next
     c.self.invariant.watched)
-    c.in_ok-effect.ensures.next
+    (omega (arith, c.in_ok-effect.ensures.last))
 
 pub returns-in-Err-clause-reply : goal.returns-in-Err-clause-reply
 returns-in-Err-clause-reply c =
@@ -52,12 +52,12 @@ tick_all-requires c =
     let s : SystemState = state_of old.version old.world old.live.entries old.applied in
     let place = old.applied + 1 in
     let ok : IsOk c.in_ok-effect.effect.verdict = subst IsOk (sym c.in_default.is) refl in
-    let gone = has_gone place c.args.moment (system_of s) c.in_ok-effect.effect (world_of c.apply.new.self) c.now-to.result c.ranges.moment
+    let gone = has_gone place c.args.moment (system_of s) c.in_ok-effect.effect (world_of c.apply.new.self) c.clock_of-to.result c.ranges.moment
     (subst (λ (e : Event). IsEffectOf (plan place e (world_of old.world)) c.in_ok-effect.effect) c.requires.event c.in_ok-effect.ensures.effect) ok
     (subst (λ (e : Event). world_of c.apply.new.self ≡ world_after place (plan place e (world_of old.world)) (world_of old.world)) c.requires.event
-    c.in_ok-effect.ensures.world) c.now-to.ensures in
+    c.in_ok-effect.ensures.world) c.clock_of-to.ensures in
     record {
-      ordered = subst (λ n. n ≤ c.now-to.result) (sym c.now-from.ensures) gone.ordered;
+      ordered = subst (λ n. n ≤ c.clock_of-to.result) (sym c.clock_of-from.ensures) gone.ordered;
       within = gone.within;
     }
 
@@ -67,18 +67,18 @@ invariant_of-self-2 c =
     let s : SystemState = state_of old.version old.world old.live.entries old.applied in
     let place = old.applied + 1 in
     let ok : IsOk c.in_ok-effect.effect.verdict = subst IsOk (sym c.in_default.is) refl in
-    let gone = has_gone place c.args.moment (system_of s) c.in_ok-effect.effect (world_of c.apply.new.self) c.now-to.result c.ranges.moment
+    let gone = has_gone place c.args.moment (system_of s) c.in_ok-effect.effect (world_of c.apply.new.self) c.clock_of-to.result c.ranges.moment
     (subst (λ (e : Event). IsEffectOf (plan place e (world_of old.world)) c.in_ok-effect.effect) c.requires.event c.in_ok-effect.ensures.effect) ok
     (subst (λ (e : Event). world_of c.apply.new.self ≡ world_after place (plan place e (world_of old.world)) (world_of old.world)) c.requires.event
-    c.in_ok-effect.ensures.world) c.now-to.ensures in
+    c.in_ok-effect.ensures.world) c.clock_of-to.ensures in
     let steps = gone.steps (map live_of c.tick_all.new.live.entries)
-    (c.tick_all.ensures.ticked ∙ ap (λ n. map (ticked (record { from = n; to = c.now-to.result })) (map live_of old.live.entries)) c.now-from.ensures) in
+    (c.tick_all.ensures.ticked ∙ ap (λ n. map (ticked (record { from = n; to = c.clock_of-to.result })) (map live_of old.live.entries)) c.clock_of-from.ensures) in
     lawful_after old.version old.applied old.world c.apply.new.self old.live.entries c.tick_all.new.live.entries c.self.invariant
     c.tick_all.ensures.stayed
     (stays_live place (event.Clock c.args.moment) (system_of s) _ reply.Done steps c.self.invariant.all_live)
     (stays_watched place (place + 1) (event.Clock c.args.moment) (system_of s) _ reply.Done steps c.in_ok-effect.ensures.next
     c.self.invariant.watched)
-    c.in_ok-effect.ensures.next
+    (omega (arith, c.in_ok-effect.ensures.last))
 
 pub returns-clause-reply : goal.returns-clause-reply
 returns-clause-reply c =
@@ -86,12 +86,12 @@ returns-clause-reply c =
     let s : SystemState = state_of old.version old.world old.live.entries old.applied in
     let place = old.applied + 1 in
     let ok : IsOk c.in_ok-effect.effect.verdict = subst IsOk (sym c.in_default.is) refl in
-    let gone = has_gone place c.args.moment (system_of s) c.in_ok-effect.effect (world_of c.apply.new.self) c.now-to.result c.ranges.moment
+    let gone = has_gone place c.args.moment (system_of s) c.in_ok-effect.effect (world_of c.apply.new.self) c.clock_of-to.result c.ranges.moment
     (subst (λ (e : Event). IsEffectOf (plan place e (world_of old.world)) c.in_ok-effect.effect) c.requires.event c.in_ok-effect.ensures.effect) ok
     (subst (λ (e : Event). world_of c.apply.new.self ≡ world_after place (plan place e (world_of old.world)) (world_of old.world)) c.requires.event
-    c.in_ok-effect.ensures.world) c.now-to.ensures in
+    c.in_ok-effect.ensures.world) c.clock_of-to.ensures in
     let steps = gone.steps (map live_of c.tick_all.new.live.entries)
-    (c.tick_all.ensures.ticked ∙ ap (λ n. map (ticked (record { from = n; to = c.now-to.result })) (map live_of old.live.entries)) c.now-from.ensures) in
+    (c.tick_all.ensures.ticked ∙ ap (λ n. map (ticked (record { from = n; to = c.clock_of-to.result })) (map live_of old.live.entries)) c.clock_of-from.ensures) in
     subst (λ (now : SystemState). IsStep (now.applied + 1) c.args.event.now (system_of now) (record (system_of s) {
       world = world_of c.apply.new.self;
       live = map live_of c.tick_all.new.live.entries;
