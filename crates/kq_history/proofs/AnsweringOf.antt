@@ -1,10 +1,12 @@
--- Between its first call and its last one a private list has what comes between the first item of the kqueue and its last.
-use Rattle.std.proofs.Common.{◌≡◌, ◌∙◌, ◌||◌, ℕ, Bool, true, cond, List, [], ◌∷◌, filter, get_or, refl, sym, ap, ap₂, subst}
+-- Between its first call and its last one a private list has what comes between the first item of the kqueue and its last;
+-- so has what of it can make a difference.
+use Rattle.std.proofs.Common.{◌≡◌, ◌∙◌, ◌==◌, ◌&&◌, ◌||◌, not, ℕ, Bool, true, cond, List, [], ◌∷◌, filter, get_or, refl, sym, ap, ap₂, subst}
 use Rattle.std.specs.List.{flat_map, list_any}
 use Rattle.std.proofs.lemmas.Bool.{eq-eqb, eqb-true}
+use Rattle.kq_model.specs.Followers.{names_met}
 use Rattle.kq_model.specs.Items as model
 use Rattle.kq_model.specs.Moment.{Moment}
-use Rattle.kq_model.specs.References.{Names, forks_at, names_in, references}
+use Rattle.kq_model.specs.References.{Names, references}
 use Rattle.kq_model.proofs.KnoteLaws.{by_test}
 use Rattle.kq_model.proofs.PrivateItems.{private-items}
 use Rattle.kq_history.specs.declared.item.Item.{Item}
@@ -13,7 +15,7 @@ use Rattle.kq_history.specs.declared.item.Source.TheVariants as source
 use Rattle.kq_history.specs.declared.kqueues.Concerned.{Concerned}
 use Rattle.kq_history.specs.declared.said.Said.{Said}
 use Rattle.kq_history.specs.BetweenCalls.{between, between_calls, calls, from_first, is_call, to_last}
-use Rattle.kq_history.specs.Concerned.{private_items}
+use Rattle.kq_history.specs.Concerned.{items_met}
 use Rattle.kq_history.specs.Items.{bare_items, bare_what, has_source, is_from, source_eq, source_of}
 use Rattle.kq_history.specs.Kqueues.{IsAtPlace}
 use Rattle.kq_history.specs.Log.{comes_from}
@@ -23,7 +25,7 @@ use Rattle.kq_history.specs.Said.{IsSaid}
 use Rattle.kq_history.specs.Sources.{reference_sources}
 use Rattle.kq_history.specs.Steps.{joined}
 use Rattle.kq_history.specs.Traced.{Traced, births_of, moments_of}
-use Rattle.kq_history.proofs.PrivateOf.{eq_is, is-private-reached, named-there, no_birth}
+use Rattle.kq_history.proofs.PrivateOf.{eq_is, named-there, no_birth, owned-there, picked-met}
 
 -- ---- two tests that agree on a list
 
@@ -76,10 +78,10 @@ module _ (place owner : ℕ) (names : Names) where
       (λ _ is. (own-call i.what is, own-calls items)) (λ _ _. own-calls items) refl
 
 between-own : (place owner : ℕ) (ms : List Moment)
-    → between (comes_from (source.Kqueue place)) (private_items place owner ms) ≡ between_calls (private_items place owner ms)
+    → between (comes_from (source.Kqueue place)) (items_met place owner ms) ≡ between_calls (items_met place owner ms)
 between-own place owner ms =
-    let names = names_in (forks_at ms) (references place owner ms) in
-    agree-between (comes_from (source.Kqueue place)) calls (private_items place owner ms)
+    let names = names_met place owner ms in
+    agree-between (comes_from (source.Kqueue place)) calls (items_met place owner ms)
     (subst (λ (items : List model.Item). Agree (comes_from (source.Kqueue place)) calls (bare_items items))
     (private-items place owner names ms) (own-calls place owner names (model.all_items ms)))
 
@@ -95,12 +97,12 @@ calls-named t said is place c at =
     ∙ ap (λ v. v || list_any (source_eq (source.Kqueue place)) others) (eq_is (source.Kqueue place) (source.Kqueue b.place) ∙ eq-eqb b.place place there.2)
 
 pub is-answering : (t : Traced) (said : Said) → IsSaid t said → (place : ℕ) (c : Concerned) → IsAtPlace place said.kqueues c → (items : List Item)
-    → (sources : List Source) → AreReached t.version said.log.items.items c.sources.list.items sources
+    → (sources : List Source) → AreReached (not (t.version == 1) && c.follows) said.log.items.items c.sources.list.items sources
     → items ≡ joined (between (comes_from (source.Kqueue place)) (filter (is_from sources) said.log.items.items)) → IsAnswering t place c.owner items
 is-answering t said is place c at items sources reached picked =
-    let whole = filter (is_from sources) said.log.items.items in
-    let list = is-private-reached t said is place c at whole sources reached refl in
     record {
-      owned = list.owned;
-      items_are = picked ∙ ap joined (ap (between (comes_from (source.Kqueue place))) list.items_are ∙ between-own place c.owner (moments_of t));
+      owned = owned-there t said is place c at;
+      items_are = picked
+          ∙ ap joined (ap (between (comes_from (source.Kqueue place))) (picked-met t said is place c at sources reached)
+          ∙ between-own place c.owner (moments_of t));
     }

@@ -3,7 +3,6 @@ use Rattle.std.proofs.Common.{◌≡◌, ℕ, List, [], ◌∷◌, None, take, r
 use Rattle.std.proofs.lemmas.List.Elements.{All-nil}
 use Rattle.kq_model.specs.declared.object.Target.{Target}
 use Rattle.kq_model.specs.declared.object.Target.TheVariants.{Socket, Pipe, Open, File, Process, Signal, Own}
-use Rattle.kq_model.specs.CountedWorld.{IsCountedWorld}
 use Rattle.kq_model.specs.Descriptors.{named_among}
 use Rattle.kq_model.specs.ListedFiles.{AreListed}
 use Rattle.kq_model.specs.Moments.{plans_from, world_after, world_at}
@@ -12,10 +11,9 @@ use Rattle.kq_model.specs.OwnedRows.{plain_from}
 use Rattle.kq_model.specs.Processes.{process_of}
 use Rattle.kq_model.specs.World as model
 use Rattle.kq_model.specs.World.{empty_world, named_by, process_view, view_in, views_of}
-use Rattle.kq_model.proofs.CountedSteps.{counted-empty}
 use Rattle.kq_model.proofs.ListedWorld.{listed-empty}
 use Rattle.kq_process.specs.declared.world.World.{World}
-use Rattle.kq_process.specs.World.{world_of}
+use Rattle.kq_process.specs.World.{last_of, world_of}
 use Rattle.kq_history.specs.declared.seen.Seen.{Seen}
 use Rattle.kq_history.specs.declared.timeline.Mark.{Mark}
 use Rattle.kq_history.specs.Keys.{pair_eq}
@@ -39,22 +37,23 @@ no-view Own = refl
 pub none-later : {V : Type 0} (ms : List (Mark V)) → ms ≡ [] → IsUpTo 0 ms
 none-later ms none = subst (IsUpTo 0) (sym none) (All-nil _)
 
-pub first-world : (version : ℕ) (w : World) → world_of w ≡ empty_world counted → IsWorldAfter (record { version = version; events = [] }) w
+pub first-world : (version : ℕ) (w : World) → world_of w ≡ empty_world counted → last_of w ≡ 0 → IsWorldAfter (record { version = version; events = [] }) w
 unfolding world_after plans_from world_at
-first-world version w is = record {
+first-world version w is none = record {
   world = is;
-  counted = subst (IsCountedWorld 1) (sym is) counted-empty;
+  last = none;
   listed = subst (λ (x : model.World counted). AreListed x.objects) (sym is) listed-empty;
 }
 
-pub first-tracked : (version : ℕ) (w : World) (s : Seen) → world_of w ≡ empty_world counted → IsBlank s → IsTracked nothing_noted (record { version = version; events = [] }) w s
+pub first-tracked : (version : ℕ) (w : World) (s : Seen) → world_of w ≡ empty_world counted → last_of w ≡ 0 → IsBlank s → IsTracked nothing_noted (record { version = version; events = [] }) w s
 unfolding views_of named_by named_among view_in view_of process_of process_view world_after plans_from world_at
-first-tracked version w s is blank = record {
-  after = first-world version w is;
+first-tracked version w s is none blank = record {
+  after = first-world version w is none;
   shows = record {
     view = λ place t. ap (λ ss. view_by ss place t None) blank.sights ∙ sym (no-view t);
     descriptor = λ place pid number. ap (value_at place None) (blank.numbers (pid, number));
     now = λ place. ap (value_at place 0) blank.clock;
+    within = λ place. omega arith;
   };
   up_to = record {
     numbers = λ key. none-later (marks_at pair_eq s.numbers.table key) (blank.numbers key);

@@ -4,6 +4,7 @@ use Rattle.std.proofs.lemmas.Bool.{lt-leb, le-leb, leb-true, ltb-true, ltb-false
 use Rattle.std.proofs.lemmas.List.{append-nil}
 use Rattle.std.proofs.lemmas.List.Elements.{All-weaker, All-nil, All-cons, All-head, All-tail, All-append}
 use Rattle.kq_model.specs.declared.object.Target.{Target}
+use Rattle.kq_model.specs.Ticks.{last_moment}
 use Rattle.kq_model.specs.Views.{Views}
 use Rattle.kq_model.proofs.KnoteLaws.{by_test}
 use Rattle.kq_history.specs.declared.timeline.Mark.{Mark}
@@ -54,12 +55,12 @@ read-cond read false v w = refl
 
 -- what was seen is what the worlds show with the next one among them, where all that it changes was noted
 pub shows-next : (place : ℕ) (after : Views) (pairs : List (ℕ × ℕ)) (targets : List Target) (worlds next old new : ℕ → Views)
-    → IsNextWorld place after pairs targets worlds next → Shows worlds old
+    → IsNextWorld place after pairs targets worlds next → after.now ≤ last_moment → Shows worlds old
     → ((pid number at : ℕ) → (new at).descriptor pid number
     ≡ cond (has_number pid number pairs && leb place at) (after.descriptor pid number) ((old at).descriptor pid number))
     → ((t : Target) (at : ℕ) → (new at).view t ≡ cond (has_target t targets && leb place at) (after.view t) ((old at).view t))
     → ((at : ℕ) → (new at).now ≡ cond (leb place at) after.now (old at).now) → Shows next new
-shows-next place after pairs targets worlds next old new is shows numbers views clock = record {
+shows-next place after pairs targets worlds next old new is ranged shows numbers views clock = record {
   view = λ at t.
       let has = has_target t targets in
       views t at ∙ ap (λ v. cond (has && leb place at) (after.view t) v) (shows.view at t)
@@ -78,6 +79,9 @@ shows-next place after pairs targets worlds next old new is shows numbers views 
       ∙ ap (λ b. cond b after.now (worlds at).now) (not_before place at)
       ∙ turned (ltb at place) after.now (worlds at).now
       ∙ read-cond (λ (w : Views). w.now) (ltb at place) (worlds at) after ∙ ap (λ (w : Views). w.now) (sym (is.earlier at));
+  within = λ at.
+      subst (λ (w : Views). w.now ≤ last_moment) (sym (is.earlier at))
+      (by_test (λ b. (cond b (worlds at) after).now ≤ last_moment) (ltb at place) (λ _. shows.within at) (λ _. ranged));
 }
   where
     turned : (b : Bool) (x y : ℕ) → cond (not b) x y ≡ cond b y x

@@ -1,17 +1,19 @@
 -- What is picked by the sources of a kqueue is its private list.
-use Rattle.std.proofs.Common.{◌≡◌, ◌∙◌, ◌<◌, ◌==◌, ◌&&◌, ◌||◌, ℕ, zero, suc, ◌+◌, eqb, Bool, true, false, cond, List, [], ◌∷◌, ◌++◌, map, filter, length, get_or, refl, sym, ap, ap₂, subst, arith, rules}
-use Rattle.std.specs.List.{All, Contains, list_any}
-use Rattle.std.proofs.lemmas.Bool.{and_from, and_parts, eq-eqb, eqb-true, false≢true}
+use Rattle.std.proofs.Common.{◌≡◌, ◌∙◌, ◌<◌, ◌==◌, ◌&&◌, ◌||◌, not, ℕ, zero, suc, ◌+◌, eqb, Bool, true, false, cond, List, [], ◌∷◌, ◌++◌, map, filter, length, get_or, refl, sym, ap, ap₂, subst, arith, rules}
+use Rattle.std.specs.List.{All, Contains, flat_map, list_any}
+use Rattle.std.proofs.lemmas.Bool.{and_from, and_parts, and_right, eq-eqb, eqb-true, false≢true}
 use Rattle.std.proofs.lemmas.List.{length-map}
 use Rattle.std.proofs.lemmas.List.Elements.{All-nil, All-cons, All-head, All-tail, All-weaker}
 use Rattle.kq_model.specs.Births.{Birth}
 use Rattle.kq_model.specs.Moment.{Moment, moment_of}
 use Rattle.kq_model.specs.Moments.{moments_from, moment_by, world_by}
-use Rattle.kq_model.specs.Objects.{counted}
+use Rattle.kq_model.specs.Objects.{listed}
 use Rattle.kq_model.specs.Projection.{plans}
 use Rattle.kq_model.specs.World.{World, Planned, Impossible, Possible, carried_out, empty_world}
 use Rattle.kq_model.specs.declared.object.Target.{Target}
-use Rattle.kq_model.specs.References.{Reference, descended, forks_at, is_process_of, named_by, names_in, pids_in, references}
+use Rattle.kq_model.specs.Followers.{names_met}
+use Rattle.kq_model.specs.PrivateList.{private_by}
+use Rattle.kq_model.specs.References.{Names, Reference, descended, forks_at, named_by, names_in, references}
 use Rattle.kq_model.specs.declared.object.Hint.TheVariants.{Readable}
 use Rattle.kq_model.specs.Following.{Fork, all_forks}
 use Rattle.kq_model.specs.Items as model
@@ -25,10 +27,10 @@ use Rattle.kq_history.specs.declared.kqueues.Concerned.{Concerned}
 use Rattle.kq_history.specs.declared.said.Said.{Said}
 use Rattle.kq_model.proofs.KnoteLaws.{by_test}
 use Rattle.kq_history.specs.Children.{AreReached, AreWithChildren}
-use Rattle.kq_history.specs.Concerned.{IsConcerned, private_items}
+use Rattle.kq_history.specs.Concerned.{IsConcerned, items_met}
 use Rattle.kq_history.specs.Items.{bare_items, bare_what, has_source, is_from, source_eq, source_of}
 use Rattle.kq_history.specs.Kqueues.{IsAtPlace}
-use Rattle.kq_history.specs.Private.{IsPrivate}
+use Rattle.kq_history.specs.Private.{IsPrivate, is_owned}
 use Rattle.kq_history.specs.Said.{IsNamedBy, IsSaid}
 use Rattle.kq_history.specs.Sources.{AreKnown}
 use Rattle.kq_history.specs.Traced.{Traced, births_of, moments_of}
@@ -54,27 +56,24 @@ named-own : (ms : List Moment) (b : Birth) (c : Concerned) → IsNamedBy ms b c 
     → has_source c.sources.list.items (source_of (bare_what w)) ≡ model.is_own b.place b.owner (named_by (references b.place b.owner ms)) w
 named-own ms b c is w = is.sources (source_of (bare_what w)) ∙ own-source eq_is b.place b.owner (references b.place b.owner ms) w
 
--- in version 1 nothing else
-pub concerned-first : (ms : List Moment) (b : Birth) (c : Concerned) → IsNamedBy ms b c → forks_at ms ≡ [] → IsConcerned ms b c.owner c.sources.list.items
+-- where no process that descends from one of these is asked for
+pub concerned-named : (ms : List Moment) (b : Birth) (c : Concerned) → IsNamedBy ms b c
+    → IsConcerned (names_in [] (references b.place b.owner ms)) b c.owner c.sources.list.items
 unfolding model.is_own descended
-concerned-first ms b c is none = (is.owner_is, λ w. named-own ms b c is w ∙ same w)
+concerned-named ms b c is = (is.owner_is, λ w. named-own ms b c is w ∙ same w)
   where
-    rs : List Reference
-    rs = references b.place b.owner ms
-
     same : (w : model.What) → model.is_own b.place b.owner (named_by (references b.place b.owner ms)) w
-        ≡ model.is_own b.place b.owner (names_in (forks_at ms) (references b.place b.owner ms)) w
-    same (model.Told p) =
-        no-other (references b.place b.owner ms) p.0
-        ∙ ap (λ fs. list_any (λ (r : Reference). is_target r.target p.0) (references b.place b.owner ms) || is_process_of (descended fs (pids_in (references b.place b.owner ms))) p.0) (sym none)
+        ≡ model.is_own b.place b.owner (names_in [] (references b.place b.owner ms)) w
+    same (model.Told p) = no-other (references b.place b.owner ms) p.0
     same (model.Closed p) = refl
     same (model.Clocked span) = refl
     same (model.Called call) = refl
 
--- in a later one the processes that descend from those that are named, too
+-- with the processes that descend from those that are named
 pub concerned-later : (ms : List Moment) (b : Birth) (c : Concerned) (all : List Source) → IsNamedBy ms b c
     → All (λ (m : Moment). eqb m.version 1 ≡ false) ms → AreBornFirst (forks_at ms)
-    → AreWithChildren (bare_items (model.all_items ms)) c.sources.list.items all → IsConcerned ms b c.owner all
+    → AreWithChildren (bare_items (model.all_items ms)) c.sources.list.items all
+    → IsConcerned (names_in (forks_at ms) (references b.place b.owner ms)) b c.owner all
 unfolding model.is_own
 concerned-later ms b c all is later born with_children = (is.owner_is, own)
   where
@@ -132,21 +131,28 @@ found-there (x ∷ bs) (suc index) b place owner within here mine =
     ap (λ v. ((x.place == place) && (x.owner == owner)) || v) (found-there bs index b place owner (omega (arith, within)) here mine)
     ∙ or_true ((x.place == place) && (x.owner == owner))
 
-pub is-private : (t : Traced) (said : Said) → IsSaid t said → (place : ℕ) (c : Concerned) → IsAtPlace place said.kqueues c → (items : List Item)
-    → (sources : List Source) → ((b : Birth) → IsNamedBy (moments_of t) b c → IsConcerned (moments_of t) b c.owner sources)
-    → items ≡ filter (is_from sources) said.log.items.items → IsPrivate t place c.owner items
-is-private t said is place c at items sources concerned picked =
+-- the kqueue of a place is there
+pub owned-there : (t : Traced) (said : Said) → IsSaid t said → (place : ℕ) (c : Concerned) → IsAtPlace place said.kqueues c
+    → is_owned t place c.owner ≡ true
+owned-there t said is place c at =
+    let there = named-there t said is place c at in
+    found-there (births_of t) there.0 no_birth place c.owner there.1 there.2 (sym there.3.owner_is)
+
+-- what is picked by the sources of what concerns it, for its place and its owner
+picked-there : (t : Traced) (said : Said) → IsSaid t said → (place : ℕ) (c : Concerned) → IsAtPlace place said.kqueues c
+    → (names : ℕ → ℕ → Names) (sources : List Source)
+    → ((b : Birth) → IsNamedBy (moments_of t) b c → IsConcerned (names b.place b.owner) b c.owner sources)
+    → filter (is_from sources) said.log.items.items
+    ≡ bare_items (flat_map model.items_of (private_by place c.owner (names place c.owner) (moments_of t)))
+picked-there t said is place c at names sources concerned =
     let there = named-there t said is place c at in
     let b = get_or (births_of t) there.0 no_birth in
-    record {
-      owned = found-there (births_of t) there.0 no_birth place c.owner there.1 there.2 (sym there.3.owner_is);
-      items_are = picked ∙ ap (filter (is_from sources)) is.logged.items
-          ∙ picked-private (moments_of t) b c.owner sources (concerned b there.3)
-          ∙ ap₂ (λ p o. private_items p o (moments_of t)) there.2 (sym there.3.owner_is);
-    }
+    ap (filter (is_from sources)) is.logged.items
+    ∙ picked-private (names b.place b.owner) (moments_of t) b c.owner sources (concerned b there.3)
+    ∙ ap₂ (λ p o. bare_items (flat_map model.items_of (private_by p o (names p o) (moments_of t)))) there.2 (sym there.3.owner_is)
 
 -- the moments have the version of the trace
-all-version : (version place : ℕ) (w : World counted) (qs : List Planned) → All (λ (m : Moment). m.version ≡ version) (moments_from version place w qs)
+all-version : (version place : ℕ) (w : World listed) (qs : List Planned) → All (λ (m : Moment). m.version ≡ version) (moments_from version place w qs)
 unfolding moments_from moment_by world_by moment_of
 all-version version place w [] = All-nil (λ m. m.version ≡ version)
 all-version version place w (Impossible why ∷ qs) = all-version version (place + 1) w qs
@@ -162,26 +168,75 @@ no-forks (m ∷ ms) all =
     (ap (λ b. cond b [] (all_forks m.hints)) (eq-eqb m.version 1 (All-head (λ (x : Moment). x.version ≡ 1) m ms all)))
     (no-forks ms (All-tail (λ (x : Moment). x.version ≡ 1) m ms all))
 
-pub is-private-reached : (t : Traced) (said : Said) → IsSaid t said → (place : ℕ) (c : Concerned) → IsAtPlace place said.kqueues c → (items : List Item)
-    → (sources : List Source) → AreReached t.version said.log.items.items c.sources.list.items sources
-    → items ≡ filter (is_from sources) said.log.items.items → IsPrivate t place c.owner items
-is-private-reached t said is place c at items sources reached picked =
-    is-private t said is place c at items sources
-    (λ b named. by_test (λ v. (t.version == 1) ≡ v → IsConcerned (moments_of t) b c.owner sources) (t.version == 1)
-    (λ _ one.
-    let same = eqb-true t.version 1 one in
-    subst (IsConcerned (moments_of t) b c.owner) (sym (reached.0 same))
-    (concerned-first (moments_of t) b c named
-    (no-forks (moments_of t) (All-weaker (λ (m : Moment). m.version ≡ t.version) (λ (m : Moment). m.version ≡ 1) (λ m of. of ∙ same) (moments_of t)
-    (all-version t.version 1 (empty_world counted) (plans counted t.version t.events))))))
-    (λ _ later.
-    concerned-later (moments_of t) b c sources named
-    (All-weaker (λ (m : Moment). m.version ≡ t.version) (λ (m : Moment). eqb m.version 1 ≡ false) (λ m of. ap (λ n. eqb n 1) of ∙ later) (moments_of t)
-    (all-version t.version 1 (empty_world counted) (plans counted t.version t.events)))
-    (born-first counted t.version t.events)
-    (subst (λ (xs : List Item). AreWithChildren xs c.sources.list.items sources) is.logged.items
-    (reached.1 (λ one. false≢true (sym later ∙ eq-eqb t.version 1 one))))) refl)
-    picked
+-- ---- all of it, and what of it can make a difference
+
+module _ (t : Traced) (said : Said) (is : IsSaid t said) (place : ℕ) (c : Concerned) (at : IsAtPlace place said.kqueues c) (sources : List Source) where
+  -- in a later version than 1 the processes that descend from those that are named are reached
+  reached-later : (b : Birth) → IsNamedBy (moments_of t) b c → (t.version == 1) ≡ false
+      → AreWithChildren said.log.items.items c.sources.list.items sources
+      → IsConcerned (names_in (forks_at (moments_of t)) (references b.place b.owner (moments_of t))) b c.owner sources
+  reached-later b named later with_children =
+      concerned-later (moments_of t) b c sources named
+      (All-weaker (λ (m : Moment). m.version ≡ t.version) (λ (m : Moment). eqb m.version 1 ≡ false) (λ m of. ap (λ n. eqb n 1) of ∙ later) (moments_of t)
+      (all-version t.version 1 (empty_world listed) (plans listed t.version t.events)))
+      (born-first listed t.version t.events)
+      (subst (λ (xs : List Item). AreWithChildren xs c.sources.list.items sources) is.logged.items with_children)
+
+  -- where no fork is asked for
+  reached-none : (b : Birth) → IsNamedBy (moments_of t) b c → (forks : List Fork) → forks ≡ [] → sources ≡ c.sources.list.items
+      → IsConcerned (names_in forks (references b.place b.owner (moments_of t))) b c.owner sources
+  reached-none b named forks none same =
+      subst (IsConcerned (names_in forks (references b.place b.owner (moments_of t))) b c.owner) (sym same)
+      (subst (λ (fs : List Fork). IsConcerned (names_in fs (references b.place b.owner (moments_of t))) b c.owner c.sources.list.items) (sym none)
+      (concerned-named (moments_of t) b c named))
+
+  -- version 1 has no forks
+  none-at-first : (t.version == 1) ≡ true → forks_at (moments_of t) ≡ []
+  none-at-first one =
+      no-forks (moments_of t)
+      (All-weaker (λ (m : Moment). m.version ≡ t.version) (λ (m : Moment). m.version ≡ 1) (λ m of. of ∙ eqb-true t.version 1 one) (moments_of t)
+      (all-version t.version 1 (empty_world listed) (plans listed t.version t.events)))
+
+  reached-all : AreReached (not (t.version == 1)) said.log.items.items c.sources.list.items sources
+      → (b : Birth) → IsNamedBy (moments_of t) b c
+      → IsConcerned (names_in (forks_at (moments_of t)) (references b.place b.owner (moments_of t))) b c.owner sources
+  reached-all reached b named =
+      by_test (λ v. (t.version == 1) ≡ v → AreReached (not v) said.log.items.items c.sources.list.items sources
+      → IsConcerned (names_in (forks_at (moments_of t)) (references b.place b.owner (moments_of t))) b c.owner sources) (t.version == 1)
+      (λ _ one same. reached-none b named (forks_at (moments_of t)) (none-at-first one) same)
+      (λ _ later with_children. reached-later b named later with_children) refl reached
+
+  reached-met : AreReached (not (t.version == 1) && c.follows) said.log.items.items c.sources.list.items sources
+      → (b : Birth) → IsNamedBy (moments_of t) b c
+      → IsConcerned (names_met b.place b.owner (moments_of t)) b c.owner sources
+  reached-met reached b named =
+      by_test (λ f. c.follows ≡ f → AreReached (not (t.version == 1) && f) said.log.items.items c.sources.list.items sources
+      → IsConcerned (names_met b.place b.owner (moments_of t)) b c.owner sources) c.follows
+      (λ _ does have.
+      subst (λ f. IsConcerned (names_in (cond f (forks_at (moments_of t)) []) (references b.place b.owner (moments_of t))) b c.owner sources)
+      (sym does ∙ named.follows)
+      (reached-all (subst (λ v. AreReached v said.log.items.items c.sources.list.items sources) (and_true (not (t.version == 1))) have) b named))
+      (λ _ none same.
+      subst (λ f. IsConcerned (names_in (cond f (forks_at (moments_of t)) []) (references b.place b.owner (moments_of t))) b c.owner sources)
+      (sym none ∙ named.follows)
+      (reached-none b named [] refl (subst (λ v. AreReached v said.log.items.items c.sources.list.items sources) (and_right (not (t.version == 1)) false refl) same)))
+      refl reached
+    where
+      and_true : (b : Bool) → (b && true) ≡ b
+      and_true true = refl
+      and_true false = refl
+
+  pub is-private : (items : List Item) → AreReached (not (t.version == 1)) said.log.items.items c.sources.list.items sources
+      → items ≡ filter (is_from sources) said.log.items.items → IsPrivate t place c.owner items
+  is-private items reached picked = record {
+    owned = owned-there t said is place c at;
+    items_are = picked ∙ picked-there t said is place c at (λ p o. names_in (forks_at (moments_of t)) (references p o (moments_of t))) sources (reached-all reached);
+  }
+
+  -- what is picked where children are asked for in a later version than 1 alone, and by a kqueue that follows some
+  pub picked-met : AreReached (not (t.version == 1) && c.follows) said.log.items.items c.sources.list.items sources
+      → filter (is_from sources) said.log.items.items ≡ items_met place c.owner (moments_of t)
+  picked-met reached = picked-there t said is place c at (λ p o. names_met p o (moments_of t)) sources (reached-met reached)
 
 -- whose list it is
 born-in : (bs : List Birth) (place owner : ℕ) → list_any (λ (x : Birth). (x.place == place) && (x.owner == owner)) bs ≡ true

@@ -22,6 +22,7 @@ use Rattle.kq_model.specs.Views.{Views}
 use Rattle.kq_model.specs.World.{World, Call, Plan, Planned, Impossible, Possible, carried_out, empty_world, named_by, views_of}
 use Rattle.kq_model.proofs.CountedTables.{named_among-all}
 use Rattle.kq_model.proofs.HistoryPushed.{births-push, moments-push}
+use Rattle.kq_model.proofs.ListedTrace.{kqueues-listed, moments-listed}
 use Rattle.kq_model.proofs.SeenWorld.{seen-counted}
 use Rattle.kq_process.specs.declared.effect.Effect.{Effect}
 use Rattle.kq_process.specs.Effects.{IsDone, IsEffectOf, pairs_in}
@@ -93,12 +94,15 @@ called-below e w next c counts is = absurd (none-some c is)
 module _ (t : Traced) (e : Event) (counts : IsCountedWorld (end t e) (now t e)) where
   moments-longer : moments_of (longer t e) ≡ moments_of t ++ moment_by t.version (end t e) (plan (end t e) e (now t e)) (now t e)
   moments-longer =
-      ap (moments_from t.version 1 (empty_world counted)) (pushed t e)
+      moments-listed t.version (t.events ++ e ∷ []) ∙ ap (moments_from t.version 1 (empty_world counted)) (pushed t e)
       ∙ moments-push t.version 1 (end t e) (empty_world counted) (past t e) (plan (end t e) e (now t e)) (reached t e)
+      ∙ ap (λ ms. ms ++ moment_by t.version (end t e) (plan (end t e) e (now t e)) (now t e)) (sym (moments-listed t.version t.events))
 
   births-longer : births_of (longer t e) ≡ births_of t ++ birth_by (end t e) (plan (end t e) e (now t e))
   births-longer =
-      ap (births_from 1) (pushed t e) ∙ births-push 1 (end t e) (past t e) (plan (end t e) e (now t e)) (reached t e)
+      kqueues-listed t.version (t.events ++ e ∷ []) ∙ ap (births_from 1) (pushed t e)
+      ∙ births-push 1 (end t e) (past t e) (plan (end t e) e (now t e)) (reached t e)
+      ∙ ap (λ bs. bs ++ birth_by (end t e) (plan (end t e) e (now t e))) (sym (kqueues-listed t.version t.events))
 
   length_is : length (t.events ++ e ∷ []) ≡ end t e
   length_is = length-append t.events (e ∷ [])
@@ -211,6 +215,7 @@ module _ (t : Traced) (e : Event) (counts : IsCountedWorld (end t e) (now t e)) 
           (λ index d within here. subst (λ (v : Views). Grows (call_sources v (get_or k.concerned.items index d).owner c.changes)
           (get_or k.concerned.items index d).sources (get_or k'.concerned.items index d).sources) (sym m-views)
           (heard.1.named index d (inside index within) (ap (λ ps. get_or ps index 0) are.births ∙ here)))
+          (λ index d within here. heard.1.follows index d (inside index within) (ap (λ ps. get_or ps index 0) are.births ∙ here))
           (λ index d away. heard.1.others index d (λ here. away (ap (λ ps. get_or ps index 0) (sym are.births) ∙ here)))
           are.concerned),
     )

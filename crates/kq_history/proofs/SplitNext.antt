@@ -10,7 +10,7 @@ use Rattle.kq_model.specs.Close.{Pair}
 use Rattle.kq_model.specs.CountedWorld.{IsCountedWorld}
 use Rattle.kq_model.specs.ListedFiles.{AreListed}
 use Rattle.kq_model.specs.Moments.{moments_from, plans_from}
-use Rattle.kq_model.specs.Objects.{counted}
+use Rattle.kq_model.specs.Objects.{counted, listed}
 use Rattle.kq_model.specs.Plans.{plan}
 use Rattle.kq_model.specs.Projection.{plans}
 use Rattle.kq_model.specs.World as model
@@ -85,8 +85,8 @@ births-few place (Possible p ∷ qs) =
 pub few-kqueues : (t : Traced) → length (places_of t) ≤ length t.events
 few-kqueues t =
     let each = length-map (births_of t) (λ (b : Birth). b.place) in
-    let few = births-few 1 (plans counted t.version t.events) in
-    let all = plans-length 1 (empty_world counted) t.events in
+    let few = births-few 1 (plans listed t.version t.events) in
+    let all = plans-length 1 (empty_world listed) t.events in
     omega (arith, each, few, all)
 
 -- ---- no record

@@ -13,6 +13,7 @@ noted-shown n place worlds s noting has shows = record {
   view = λ at t. has.view at t ∙ shows.view at t;
   descriptor = shows.descriptor;
   now = shows.now;
+  within = shows.within;
 }
 
 -- the same, where none was left to note
@@ -22,4 +23,5 @@ none-left n worlds s noting none has shows = record {
   view = λ at t. has.view at t ∙ sym (ap (λ ss. view_by ss at t (n.view at t)) none) ∙ shows.view at t;
   descriptor = shows.descriptor;
   now = shows.now;
+  within = shows.within;
 }

@@ -1,5 +1,5 @@
 -- A trace with one record more: the world at its end, and what is seen at each place.
-use Rattle.std.proofs.Common.{◌≡◌, ◌+◌, ◌≤◌, ℕ, false, cond, ltb, length, List, [], ◌∷◌, ◌++◌, refl, ap, ◌∙◌, arith}
+use Rattle.std.proofs.Common.{◌≡◌, ◌+◌, ◌≤◌, ℕ, false, cond, ltb, length, List, [], ◌∷◌, ◌++◌, refl, sym, ap, ◌∙◌, arith}
 use Rattle.std.proofs.lemmas.Bool.{cond-false, le-ltb, ltb-false}
 use Rattle.kq_model.specs.declared.event.Event.{Event}
 use Rattle.kq_model.specs.Moments.{world_by, plans_from, world_at, world_after}
@@ -9,6 +9,7 @@ use Rattle.kq_model.specs.Projection.{plans}
 use Rattle.kq_model.specs.World.{World, Planned, empty_world, seen_world, views_of}
 use Rattle.kq_model.proofs.HistoryPushed.{plans-push, world_at-push}
 use Rattle.kq_model.proofs.KnoteLaws.{by_test}
+use Rattle.kq_model.proofs.ListedTrace.{history-listed}
 use Rattle.kq_model.proofs.SeenWorld.{seen-counted}
 use Rattle.kq_history.specs.Traced.{Traced, longer, seen_at, world_at_end}
 
@@ -63,13 +64,15 @@ module _ (t : Traced) (e : Event) where
   -- after its end what is seen is that of the last world
   pub seen-stands : (at : ℕ) → ltb at end ≡ false → seen_at t at ≡ views_of now
   seen-stands at later =
-      ap (λ (w : World counted). views_of (seen_world w))
+      history-listed t.version t.events at
+      ∙ ap (λ (w : World counted). views_of (seen_world w))
       (world_at-end at 1 (empty_world counted) past (let after : end ≤ at = ltb-false at end later in omega (arith, after, reached)))
       ∙ ap views_of (seen-counted now)
 
   pub seen-longer : (at : ℕ) → seen_at (longer t e) at ≡ cond (ltb at end) (seen_at t at) (views_of next)
   seen-longer at =
-      ap (λ qs. views_of (seen_world (world_at at 1 (empty_world counted) qs))) pushed
+      history-listed t.version (t.events ++ e ∷ []) at
+      ∙ ap (λ qs. views_of (seen_world (world_at at 1 (empty_world counted) qs))) pushed
       ∙ ap (λ (w : World counted). views_of (seen_world w)) (world_at-push at 1 end (empty_world counted) past (plan end e now) reached)
       ∙ by_test (λ b. views_of (seen_world (cond b (world_at at 1 (empty_world counted) past) next)) ≡ cond b (seen_at t at) (views_of next)) (ltb at end)
-      (λ _. refl) (λ _. ap views_of (seen-counted next))
+      (λ _. sym (history-listed t.version t.events at)) (λ _. ap views_of (seen-counted next))

@@ -13,7 +13,8 @@ use Rattle.kq_model.specs.World.{Plan, Planned, Impossible, Possible, carried_ou
 use Rattle.kq_process.specs.declared.effect.Effect.{Effect}
 use Rattle.kq_process.specs.declared.world.World.{World}
 use Rattle.kq_process.specs.Effects.{IsEffectOf, world_after}
-use Rattle.kq_process.specs.World.{world_of, IsEffectBy, IsNext}
+use Rattle.kq_process.specs.World.{last_of, world_of, IsEffectBy, IsNext}
+use Rattle.kq_process.proofs.Applied.{counted-now}
 use Rattle.kq_history.specs.declared.seen.Seen.{Seen}
 use Rattle.kq_history.specs.Noted.{AreAllUpTo, IsNextWorld}
 use Rattle.kq_history.specs.Keys.{pair_eq}
@@ -38,7 +39,7 @@ up-later noted n m s later up = record {
 }
 
 module _ (n : NotedViews) (t : Traced) (e : Event) (old new : World) (s s' : Seen) (effect : Effect) (tracked : IsTracked n t old s)
-    (counts : IsCountedWorld (end t e + 1) (world_of new)) where
+    (last : last_of new ≡ end t e) where
   abbrev counted_here : IsCountedWorld (end t e) (now t e)
   counted_here = counted_now t e old tracked.after
 
@@ -61,16 +62,17 @@ module _ (n : NotedViews) (t : Traced) (e : Event) (old new : World) (s s' : See
   tracked-by (Impossible why) is refused same followed =
       let none : s' ≡ s = subst (λ v. IsFollowedBy (end t e) e v effect.closed effect.hints (world_of new) s s') refused.verdict followed in
       record {
-        after = world-by t e old tracked.after new counts (Impossible why) is same;
+        after = world-by t e old tracked.after new last (Impossible why) is same;
         shows = subst (λ x. Shows (seen_at (longer t e)) (seen_by n x)) (sym none) (shows-still t e counted_here listed_here why is (seen_by n s) tracked.shows);
         up_to = up_next s' (subst (AreAllUpTo n (end t e)) (sym none) up_here);
       }
   tracked-by (Possible p) is done same followed =
       let noted = followed_done effect.verdict done.verdict followed in
+      let counts : IsCountedWorld (end t e + 1) (world_of new) = subst (λ k. IsCountedWorld (k + 1) (world_of new)) last (counted-now new) in
       let counted_after : IsCountedWorld (end t e + 1) (carried_out (end t e) p (now t e)) = subst (IsCountedWorld (end t e + 1)) same counts in
       let onward = next-world t e counted_here listed_here p is (seen_by n s) effect.closed done.closed counted_after tracked.shows in
       record {
-        after = world-by t e old tracked.after new counts (Possible p) is same;
+        after = world-by t e old tracked.after new last (Possible p) is same;
         shows = noted.1 (seen_at t) (seen_at (longer t e))
             (subst (λ (w : model.World counted). IsNextWorld (end t e) (views_of w) (touched_numbers e effect.closed w)
             (touched_targets e effect.hints (seen_by n s (end t e)) (views_of w) (touched_numbers e effect.closed w)) (seen_at t) (seen_at (longer t e))) (sym same)
@@ -89,11 +91,11 @@ module _ (n : NotedViews) (t : Traced) (e : Event) (old new : World) (s s' : See
       (planned-next t e old tracked.after new is) followed
 
 pub tracked-next : (n : NotedViews) (t : Traced) (e : Event) (place : ℕ) (old new : World) (s s' : Seen) (effect : Effect) → length t.events + 1 ≡ place → IsTracked n t old s
-    → IsCountedWorld (place + 1) (world_of new) → IsEffectBy (plan place e) old effect → IsNext place (plan place e) old new
+    → last_of new ≡ place → IsEffectBy (plan place e) old effect → IsNext place (plan place e) old new
     → IsFollowed place e effect (world_of new) s s' → IsTracked n (longer t e) new s'
 tracked-next n t e place old new s s' effect at tracked =
-    subst (λ p. IsCountedWorld (p + 1) (world_of new) → IsEffectBy (plan p e) old effect → IsNext p (plan p e) old new
-    → IsFollowed p e effect (world_of new) s s' → IsTracked n (longer t e) new s') at (λ counts. tracked-here n t e old new s s' effect tracked counts)
+    subst (λ p. last_of new ≡ p → IsEffectBy (plan p e) old effect → IsNext p (plan p e) old new
+    → IsFollowed p e effect (world_of new) s s' → IsTracked n (longer t e) new s') at (λ last. tracked-here n t e old new s s' effect tracked last)
 
 -- what was seen of targets was noted, and none of it is left
 pub all-noted : (n : NotedViews) (t : Traced) (w : World) (s : Seen) (left : Sights) → left.list.items ≡ [] → IsTracked n t w s
@@ -104,6 +106,7 @@ all-noted n t w s left none tracked = record {
     view = λ place x. ap (λ ss. view_by ss place x (view_by s.sights.list.items place x (n.view place x))) none ∙ tracked.shows.view place x;
     descriptor = tracked.shows.descriptor;
     now = tracked.shows.now;
+    within = tracked.shows.within;
   };
   up_to = record {
     numbers = tracked.up_to.numbers;

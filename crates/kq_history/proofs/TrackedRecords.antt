@@ -1,5 +1,5 @@
 -- One record more: what was seen goes on to be that of the worlds, where all that the record touches was noted.
-use Rattle.std.proofs.Common.{◌≡◌, ◌+◌, ℕ, Bool, true, false, cond, ltb, List, ◌++◌, map, Option, refl, sym, ap, subst, ◌∙◌, arith}
+use Rattle.std.proofs.Common.{◌≡◌, ◌≤◌, ◌+◌, ℕ, Bool, true, false, cond, ltb, List, ◌++◌, map, Option, refl, sym, ap, subst, ◌∙◌, arith}
 use Rattle.std.specs.List.{flat_map}
 use Rattle.std.proofs.Math.Path.{fun_ext}
 use Rattle.std.proofs.lemmas.Bool.{le-ltb}
@@ -12,6 +12,7 @@ use Rattle.kq_model.specs.ListedFiles.{AreListed, KeepsLists}
 use Rattle.kq_model.specs.Moments.{world_by}
 use Rattle.kq_model.specs.Objects.{counted}
 use Rattle.kq_model.specs.Plans.{plan}
+use Rattle.kq_model.specs.Ticks.{last_moment}
 use Rattle.kq_model.specs.Views.{Views}
 use Rattle.kq_model.specs.World.{World, Plan, Impossible, Possible, carried_out, named_by, views_of}
 use Rattle.kq_history.specs.Noted.{IsNextWorld}
@@ -96,4 +97,5 @@ module _ (t : Traced) (e : Event) (counts : IsCountedWorld (end t e) (now t e)) 
       view = λ at x. shows.view at x ∙ ap (λ (v : Views). v.view x) (sym (seen-stays at));
       descriptor = λ at pid number. shows.descriptor at pid number ∙ ap (λ (v : Views). v.descriptor pid number) (sym (seen-stays at));
       now = λ at. shows.now at ∙ ap (λ (v : Views). v.now) (sym (seen-stays at));
+      within = λ at. subst (λ (v : Views). v.now ≤ last_moment) (sym (seen-stays at)) (shows.within at);
     }

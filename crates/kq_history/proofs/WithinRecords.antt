@@ -15,7 +15,7 @@ use Rattle.kq_model.specs.declared.object.Target.{Target}
 use Rattle.kq_model.specs.declared.object.Target.TheVariants as target
 use Rattle.kq_model.specs.declared.why.Why.{Why}
 use Rattle.kq_model.specs.declared.why.Why.TheVariants.{UsedDescriptor, UsedPid, ClockBack, TooMany}
-use Rattle.kq_model.specs.Bits.{fork_note, exec_note, exit_note}
+use Rattle.kq_model.specs.Bits.{exec_note, exit_note}
 use Rattle.kq_model.specs.Close.{Pair, has_pair}
 use Rattle.kq_model.specs.Descriptors.{Descriptor, IsRising, named_among}
 use Rattle.kq_model.specs.DescriptorPlans.{close_doings, close_hints, closes, duplicated, plan_call, plan_close, plan_dup, plan_kevent, plan_kqueue}

@@ -1,14 +1,12 @@
 -- Sources to which the children of their processes come, one source after the other.
-use Rattle.std.proofs.Common.{◌≡◌, ◌∙◌, ◌+◌, ◌<◌, ◌≤◌, ◌==◌, ◌&&◌, ◌||◌, ℕ, Bool, true, false, cond, List, [], ◌∷◌, ◌++◌, map, filter, length, take, get_or, slice_get, zero, suc, Option, Some, None, refl, sym, ap, ap₂, subst, arith}
-use Rattle.std.specs.List.{All, Contains, flat_map, list_any}
+use Rattle.std.proofs.Common.{◌≡◌, ◌∙◌, ◌<◌, ◌≤◌, ◌&&◌, ◌||◌, ℕ, Bool, true, false, cond, List, [], ◌∷◌, ◌++◌, map, filter, length, get_or, slice_get, zero, suc, Some, None, refl, sym, ap, ap₂, arith}
+use Rattle.std.specs.List.{All, Contains, flat_map}
 use Rattle.std.proofs.lemmas.Bool.{and_from, and_parts, eq-eqb, eqb-true, false≢true, or_left, or_right}
 use Rattle.std.proofs.lemmas.Option.{none-some, same_Some}
 use Rattle.std.proofs.lemmas.List.{append_assoc}
 use Rattle.std.proofs.lemmas.List.Folds.{list_any-append}
 use Rattle.std.proofs.lemmas.List.Elements.{All-nil, All-cons, All-head, All-tail, All-weaker, All-contains}
-use Rattle.kq_model.specs.declared.object.Hint.{Hint}
 use Rattle.kq_model.specs.declared.object.Hint.TheVariants.{Child}
-use Rattle.kq_model.specs.declared.object.Target.{Target}
 use Rattle.kq_model.specs.declared.object.Target.TheVariants.{Process}
 use Rattle.kq_model.specs.Targets.{target_eq}
 use Rattle.kq_model.proofs.KnoteLaws.{by_test}
@@ -21,7 +19,7 @@ use Rattle.kq_history.specs.contracts.item.SourceEq.TheImpl.Laws.{laws-law}
 use Rattle.kq_history.specs.Children.{of_process, is_of_process, child_told, child_sources, children_at, children_of, IsForkIn, AreClosed}
 use Rattle.kq_history.specs.Items.{has_source, source_eq, source_of}
 use Rattle.kq_history.specs.Log.{comes_from, item_at, standing}
-use Rattle.kq_history.specs.Sources.{Begins, target_sources}
+use Rattle.kq_history.specs.Sources.{Begins}
 use Rattle.kq_history.proofs.Picked.{read_all}
 use Rattle.kq_history.proofs.PrivateOf.{eq_is}
 use Rattle.kq_history.proofs.Sourced.{same_source}

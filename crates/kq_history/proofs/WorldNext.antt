@@ -10,7 +10,8 @@ use Rattle.kq_model.specs.World as model
 use Rattle.kq_model.specs.World.{Planned, Impossible, Possible}
 use Rattle.kq_process.specs.declared.world.World.{World}
 use Rattle.kq_process.specs.Effects.{world_after}
-use Rattle.kq_process.specs.World.{world_of, IsNext}
+use Rattle.kq_process.specs.World.{last_of, world_of, IsNext}
+use Rattle.kq_process.proofs.Applied.{counted-now}
 use Rattle.kq_history.specs.Traced.{Traced, longer}
 use Rattle.kq_history.specs.Tracked.{IsWorldAfter}
 use Rattle.kq_history.proofs.TracedWorlds.{end, now, world-longer}
@@ -21,7 +22,8 @@ length_is t e = length-append t.events (e ∷ [])
 
 module _ (t : Traced) (e : Event) (old : World) (after : IsWorldAfter t old) where
   pub counted_now : IsCountedWorld (end t e) (now t e)
-  counted_now = subst (IsCountedWorld (end t e)) after.world after.counted
+  counted_now =
+      subst (IsCountedWorld (end t e)) after.world (subst (λ n. IsCountedWorld (n + 1) (world_of old)) after.last (counted-now old))
 
   pub listed_now : AreListed (now t e).objects
   listed_now = subst (λ (w : model.World counted). AreListed w.objects) after.world after.listed
@@ -31,25 +33,22 @@ module _ (t : Traced) (e : Event) (old : World) (after : IsWorldAfter t old) whe
       → world_of new ≡ world_after (end t e) (plan (end t e) e (now t e)) (now t e)
   planned-next new is = is ∙ ap (λ (w : model.World counted). world_after (end t e) (plan (end t e) e w) w) after.world
 
-  module _ (new : World) (counts : IsCountedWorld (end t e + 1) (world_of new)) where
-    counted_next : IsCountedWorld (length (t.events ++ e ∷ []) + 1) (world_of new)
-    counted_next = subst (λ n. IsCountedWorld (n + 1) (world_of new)) (sym (length_is t e)) counts
-
+  module _ (new : World) (last : last_of new ≡ end t e) where
     pub world-by : (q : Planned) → plan (end t e) e (now t e) ≡ q → world_of new ≡ world_after (end t e) q (now t e)
         → IsWorldAfter (longer t e) new
     world-by (Impossible why) is same = record {
       world = same ∙ sym (world-longer t e ∙ next-stays t e counted_now listed_now why is);
-      counted = counted_next;
+      last = last ∙ sym (length_is t e);
       listed = subst (λ (w : model.World counted). AreListed w.objects) (sym same) listed_now;
     }
     world-by (Possible p) is same = record {
       world = same ∙ sym (world-longer t e ∙ next-is t e counted_now listed_now p is);
-      counted = counted_next;
+      last = last ∙ sym (length_is t e);
       listed = subst (λ (w : model.World counted). AreListed w.objects) (sym same) (next-listed t e counted_now listed_now p is);
     }
 
 pub world-next : (t : Traced) (e : Event) (place : ℕ) (old new : World) → length t.events + 1 ≡ place → IsWorldAfter t old
-    → IsCountedWorld (place + 1) (world_of new) → IsNext place (plan place e) old new → IsWorldAfter (longer t e) new
+    → last_of new ≡ place → IsNext place (plan place e) old new → IsWorldAfter (longer t e) new
 world-next t e place old new at after =
-    subst (λ p. IsCountedWorld (p + 1) (world_of new) → IsNext p (plan p e) old new → IsWorldAfter (longer t e) new) at
-    (λ counts is. world-by t e old after new counts (plan (end t e) e (now t e)) refl (planned-next t e old after new is))
+    subst (λ p. last_of new ≡ p → IsNext p (plan p e) old new → IsWorldAfter (longer t e) new) at
+    (λ last is. world-by t e old after new last (plan (end t e) e (now t e)) refl (planned-next t e old after new is))

@@ -1,5 +1,5 @@
 -- The processes that descend from those that a kqueue names, by what the records say of forks.
-use Rattle.std.specs.Prelude.{◌≡◌, ◌≢◌, ℕ, Bool, true, false, List, filter, Option, Some, None, if◌then◌else◌}
+use Rattle.std.specs.Prelude.{◌≡◌, ℕ, Bool, true, false, List, filter, Option, Some, None}
 use Rattle.std.specs.List.{Contains, flat_map}
 use Rattle.kq_model.specs.declared.object.Hint.TheVariants.{Child}
 use Rattle.kq_model.specs.declared.object.Target.{Target}
@@ -56,7 +56,7 @@ children_at items numbers = flat_map (λ n. child_sources (item_at items n).what
 abbrev pub children_of : List Item → Source → List Source
 children_of items s = flat_map (λ (i : Item). child_sources i.what) (filter (comes_from s) items)
 
--- what is picked by what a kqueue's changes name: version 1 follows nobody
-abbrev pub AreReached : ℕ → List Item → List Source → List Source → Type 0
-AreReached version items named all =
-    (version ≡ 1 → all ≡ named) × (version ≢ 1 → AreWithChildren items named all)
+-- what is picked by what a kqueue's changes name, where children are asked for and where they are not
+abbrev pub AreReached : Bool → List Item → List Source → List Source → Type 0
+AreReached true items named all = AreWithChildren items named all
+AreReached false items named all = all ≡ named

@@ -1,8 +1,9 @@
 -- What was seen of a world after each place; and when that is what a trace's worlds show.
-use Rattle.std.specs.Prelude.{◌≡◌, ◌++◌, ℕ, List, [], Option, None}
+use Rattle.std.specs.Prelude.{◌≡◌, ◌≤◌, ◌++◌, ℕ, List, [], Option, None}
 use Rattle.std.specs.HashMap.{HashMap}
 use Rattle.kq_model.specs.declared.object.Named.{Named}
 use Rattle.kq_model.specs.declared.object.Target.{Target}
+use Rattle.kq_model.specs.Ticks.{last_moment}
 use Rattle.kq_model.specs.Views.{Views}
 use Rattle.kq_history.specs.declared.seen.Seen.{Seen}
 use Rattle.kq_history.specs.declared.timeline.Mark.{Mark}
@@ -27,11 +28,12 @@ abbrev pub named_around : {S : Type 0} → HashMap (ℕ × ℕ) (List (Mark (Opt
 named_around table place after p =
     targets_named (value_at place None (marks_at pair_eq table p)) ++ targets_named (after.descriptor p.0 p.1)
 
--- at every place what was seen is what these worlds show
+-- at every place what was seen is what these worlds show, whose clock is within its range
 pub record Shows (worlds seen : ℕ → Views) : Type 0 where
   pub view : (place : ℕ) (t : Target) → (seen place).view t ≡ (worlds place).view t
   pub descriptor : (place pid number : ℕ) → (seen place).descriptor pid number ≡ (worlds place).descriptor pid number
   pub now : (place : ℕ) → (seen place).now ≡ (worlds place).now
+  pub within : (place : ℕ) → (worlds place).now ≤ last_moment
 
 -- nothing was seen yet
 pub record IsBlank (s : Seen) : Type 0 where

@@ -1,15 +1,14 @@
 -- The world and what was seen of it, as far as a trace was gone through.
-use Rattle.std.specs.Prelude.{◌≡◌, ℕ, ◌+◌, List, length, Result, Ok, Err}
+use Rattle.std.specs.Prelude.{◌≡◌, ℕ, List, length, Result, Ok, Err}
 use Rattle.kq_model.specs.declared.event.Event.{Event}
 use Rattle.kq_model.specs.declared.why.Why.{Why}
-use Rattle.kq_model.specs.CountedWorld.{IsCountedWorld}
 use Rattle.kq_model.specs.ListedFiles.{AreListed}
 use Rattle.kq_model.specs.Objects.{counted}
 use Rattle.kq_model.specs.Targets.{Posted}
 use Rattle.kq_model.specs.Views.{Views}
 use Rattle.kq_model.specs.World as model
 use Rattle.kq_model.specs.World.{views_of}
-use Rattle.kq_process.specs.World.{world_of}
+use Rattle.kq_process.specs.World.{last_of, world_of}
 use Rattle.kq_process.specs.declared.effect.Effect.{Effect}
 use Rattle.kq_process.specs.declared.world.World.{World}
 use Rattle.kq_history.specs.declared.seen.Seen.{Seen}
@@ -22,7 +21,7 @@ use Rattle.kq_history.specs.Traced.{Traced, seen_at, world_at_end}
 -- this is the world after all of the records
 pub record IsWorldAfter (t : Traced) (w : World) : Type 0 where
   pub world : world_of w ≡ world_at_end t
-  pub counted : IsCountedWorld (length t.events + 1) (world_of w)
+  pub last : last_of w ≡ length t.events
   pub listed : AreListed (world_of w).objects
 
 -- and this is what was seen of the worlds up to it, where this was noted of targets before

@@ -22,7 +22,7 @@ impl<'s, 'a> Views for HistoryAt<'s, 'a> {
         self.split.descriptor(self.place, pid, number)
     }
 
-    fn now(&self) -> u64 {
+    fn now(&self) -> i64 {
         self.split.now(self.place)
     }
 }

@@ -118,15 +118,15 @@ impl Log {
         Err(Memory)
     }
 
-    /// The items that come from these sources, and in a later version than 1 from those of the processes
-    /// that descend from theirs.
-    pub fn pick_reached(&self, version: u32, named: &[Source]) -> Result<Vec<Item>, Memory>
+    /// The items that come from these sources, and where children are asked for from those of the processes that
+    /// descend from theirs. Else nothing tells of these, and no fork is read.
+    pub fn pick_reached(&self, children: bool, named: &[Source]) -> Result<Vec<Item>, Memory>
         requires distinct { IsDistinct source_eq named.now }
         requires shelved { AreShelved self.now.items.items self.now.shelves.table }
-        ensures { IfOk result (λ picked. (all : List Source) × AreReached version self.now.items.items named.now all
+        ensures { IfOk result (λ picked. (all : List Source) × AreReached children self.now.items.items named.now all
             × (picked.items ≡ filter (is_from all) self.now.items.items)) }
     {
-        if version == 1 {
+        if !children {
             return self.pick(named);
         }
         let all = self.with_children(named)?;
@@ -136,17 +136,17 @@ impl Log {
     /// Of these, those from the first one of this source among them to its last one.
     pub fn pick_reached_between(
         &self,
-        version: u32,
+        children: bool,
         named: &[Source],
         source: Source,
     ) -> Result<Vec<Item>, Memory>
         requires distinct { IsDistinct source_eq named.now }
         requires there { has_source named.now source ≡ true }
         requires shelved { AreShelved self.now.items.items self.now.shelves.table }
-        ensures { IfOk result (λ picked. (all : List Source) × AreReached version self.now.items.items named.now all
+        ensures { IfOk result (λ picked. (all : List Source) × AreReached children self.now.items.items named.now all
             × (picked.items ≡ joined (between (comes_from source) (filter (is_from all) self.now.items.items)))) }
     {
-        if version == 1 {
+        if !children {
             return self.pick_between(named, source);
         }
         let all = self.with_children(named)?;

@@ -37,7 +37,7 @@ impl Before {
         ensures kqueue { result.kqueue ≡ kqueue_of event.now (world_of world.now) }
     {
         Before {
-            clock: world.now(),
+            clock: world.now() as u64,
             kqueue: called(event, world),
         }
     }

@@ -1,5 +1,6 @@
-ghost use Rattle.std.specs.Prelude.{◌≡◌, ◌++◌, ℕ, ◌&&◌, nat_le, None, OnOk, if◌then◌else◌};
+ghost use Rattle.std.specs.Prelude.{◌≡◌, ◌≤◌, ◌++◌, ℕ, ◌&&◌, nat_le, None, OnOk, if◌then◌else◌};
 ghost use Rattle.std.specs.List.{flat_map};
+ghost use Rattle.kq_model.specs.Ticks.{last_moment};
 ghost use Rattle.kq_model.specs.Views as model;
 ghost use Rattle.kq_history.specs.Noted.{AreAllUpTo, IsNextWorld};
 ghost use Rattle.kq_history.specs.Keys.{pair_eq};
@@ -60,9 +61,17 @@ impl Seen {
     {
         note_numbers(&mut self.numbers, place, numbers, targets, views)?;
         self.sights.add(place, targets.as_slice(), views)?;
-        self.clock.note(place, 0, views.now())?;
+        self.clock.note(place, 0, moment_of(views))?;
         Ok(())
     }
+}
+
+/// The moment at which the clock is.
+fn moment_of<V: Views>(views: &V) -> u64
+    ensures moment { result ≡ (V.sees views.now).now }
+    ensures within { (V.sees views.now).now ≤ last_moment }
+{
+    views.now() as u64
 }
 
 /// What these numbers name, and the targets that they name before the place and after it.

@@ -1,4 +1,4 @@
-ghost use Rattle.std.specs.Prelude.{◌≡◌, IfOk};
+ghost use Rattle.std.specs.Prelude.{◌≡◌, pos, IfOk};
 
 use crate::answering::Answering;
 use crate::at::HistoryAt;
@@ -141,7 +141,7 @@ impl<'a> Split<'a> {
         let items = self
             .said
             .log
-            .pick_reached(self.version, concerned.sources.as_slice())?;
+            .pick_reached(self.version != 1, concerned.sources.as_slice())?;
         Ok(Private {
             split: self,
             kqueue,
@@ -151,9 +151,10 @@ impl<'a> Split<'a> {
     }
 
     /// What of that can show in its rows: the items from its first call to its last one, where steps
-    /// of the clock with no other item between them are one. Its cost is that of the items that are no
-    /// steps of the clock, a search among the steps for each of these, and two searches for each
-    /// source of what concerns the kqueue.
+    /// of the clock with no other item between them are one; where none of its calls asks that children
+    /// are followed, nothing of the processes that descend from those that it names. Its cost is that of
+    /// the items that are no steps of the clock, a search among the steps for each of these, and two
+    /// searches for each source of what concerns the kqueue. Where it follows nobody, no fork is read.
     pub fn answering<'s>(&'s self, kqueue: u64) -> Result<Answering<'s, 'a>, Memory>
         requires { IsBorn kqueue self.now }
         ensures split { IfOk result (λ p. p.split.now ≡ self.now) }
@@ -162,10 +163,11 @@ impl<'a> Split<'a> {
         let kqueues = &self.said.kqueues;
         let concerned = kqueues.of(kqueue);
         let sources = concerned.sources.as_slice();
+        let children = concerned.follows_in(self.version);
         let items = self
             .said
             .log
-            .pick_reached_between(self.version, sources, Source::Kqueue(kqueue))?;
+            .pick_reached_between(children, sources, Source::Kqueue(kqueue))?;
         Ok(Answering {
             split: self,
             kqueue,
@@ -204,10 +206,10 @@ impl<'a> Split<'a> {
     }
 
     /// The clock after a place, in ns.
-    pub(crate) fn now(&self, place: u64) -> u64
-        ensures { result ≡ (seen_at self.now place).now }
+    pub(crate) fn now(&self, place: u64) -> i64
+        ensures { result ≡ pos (seen_at self.now place).now }
     {
-        self.clock.at(place, 0)
+        self.clock.at(place, 0) as i64
     }
 }
 

@@ -1,8 +1,7 @@
 // The world over a trace, and what is seen of it after each record.
-ghost use Rattle.std.specs.Prelude.{◌≡◌, ◌+◌, length, IfOk, OnOk};
-ghost use Rattle.kq_model.specs.CountedWorld.{IsCountedWorld};
+ghost use Rattle.std.specs.Prelude.{◌≡◌, ◌+◌, ◌<◌, length, IfOk, OnOk};
 ghost use Rattle.kq_model.specs.Plans.{plan};
-ghost use Rattle.kq_process.specs.World.{world_of, IsEffectBy};
+ghost use Rattle.kq_process.specs.World.{last_of, world_of, IsEffectBy};
 ghost use Rattle.kq_history.specs.Noted.{AreAllUpTo};
 ghost use Rattle.kq_history.specs.Seen.{seen_by};
 ghost use Rattle.kq_history.specs.Sights.{NotedViews};
@@ -23,7 +22,7 @@ pub fn track(
     seen: &mut Seen,
     touched: &mut Touched,
 ) -> Result<Effect, Memory>
-    requires counted { IsCountedWorld place (world_of world.old) }
+    requires places { last_of world.old < place }
     requires up_to { (n : NotedViews) × AreAllUpTo n place seen.old }
     ensures effect { IfOk result (IsEffectBy (plan place event.now) world.old) }
     ensures tracked { OnOk result ((n : NotedViews) (t : Traced) → length t.events + 1 ≡ place

@@ -46,5 +46,12 @@ module _ {S T A B C D : Type 0} {h : Hearing S} {g : Hearing T} {f : S → T} {k
       ∙ ap (λ later. owned_in place (step place e s) ++ later) (owned-recast (place + 1) (step place e s).system es)
       ∙ sym (step-owned place s e es)
 
-pub folded-tallied : (version : ℕ) (es : List Event) → folded objects.listed version listed es ≡ folded counted version tallying es
-folded-tallied version es = sym (owned-recast tally_of-map listed-counts 1 (empty_system version) es)
+-- a tally is taken as it is
+same-map : IsHearingMap tallying tallying (λ tally. tally)
+same-map = record { empty = refl; heard = λ x tally. refl; count = λ tally. refl; notes = λ tally. refl; is_empty = λ tally. refl }
+
+-- where objects are kept as lists, what knotes heard may be kept as lists or counted
+pub folded-tallied : (version : ℕ) (es : List Event) → folded objects.listed version listed es ≡ folded objects.listed version tallying es
+folded-tallied version es =
+    sym (owned-recast tally_of-map listed-counts 1 (empty_system version) es)
+    ∙ owned-recast same-map listed-counts 1 (empty_system version) es

@@ -1,4 +1,4 @@
--- The steps of the clock in a private list: each begins where the one before it ended, and the clock never goes back.
+-- The steps of the clock in what concerns a kqueue: each begins where the one before it ended, and the clock never goes back.
 use Rattle.std.proofs.Common.{◌≡◌, ◌≤◌, ◌+◌, ◌||◌, ℕ, true, false, cond, List, [], ◌∷◌, ◌++◌, map, Option, Some, None, refl, sym, ap, ap₂, subst, ◌∙◌, arith}
 use Rattle.std.proofs.lemmas.List.{map-append}
 use Rattle.std.specs.List.{flat_map, list_any}
@@ -12,15 +12,15 @@ use Rattle.kq_model.specs.Moments.{moment_by, moments_from, plans_from, world_by
 use Rattle.kq_model.specs.Objects.{counted}
 use Rattle.kq_model.specs.Plans.{plan}
 use Rattle.kq_model.specs.PrivateList.{Concern, concern_of, concerns, has_item, own_clock, private_by}
-use Rattle.kq_model.specs.References.{Names, forks_at, names_in, references}
+use Rattle.kq_model.specs.References.{Names}
 use Rattle.kq_model.specs.Targets.{Posted}
 use Rattle.kq_model.specs.World.{Call, Impossible, Planned, Possible, World, carried_out, clock_after, empty_world, seen_world}
 use Rattle.kq_model.proofs.KnoteLaws.{by_test}
+use Rattle.kq_model.proofs.ListedTrace.{moments-listed}
 use Rattle.kq_history.specs.declared.item.Item.{Item}
 use Rattle.kq_history.specs.declared.item.What.{What}
 use Rattle.kq_history.specs.declared.item.What.TheVariants as what
 use Rattle.kq_history.specs.BetweenCalls.{between_calls, calls, from_first, to_last}
-use Rattle.kq_history.specs.Concerned.{private_items}
 use Rattle.kq_history.specs.Items.{bare, bare_items}
 use Rattle.kq_history.specs.Sayings.{SaysBy, born_of, call_of, clock_of}
 use Rattle.kq_history.specs.Traced.{Traced, moments_of}
@@ -175,7 +175,8 @@ module _ (version kqueue owner : ℕ) (ns : Names) where
       (by-plan place e (seen_world w) q refl (says (seen_world w) place e))
       (λ later same. all-onward (place + 1) later next es same)
 
-pub private-onward : (t : Traced) (kqueue owner : ℕ) → Onward 0 (private_items kqueue owner (moments_of t))
-private-onward t kqueue owner =
-    all-onward t.version kqueue owner (names_in (forks_at (moments_of t)) (references kqueue owner (moments_of t))) 1 0 (empty_world counted) t.events
-    (λ timer. refl)
+pub own-onward : (t : Traced) (kqueue owner : ℕ) (ns : Names)
+    → Onward 0 (bare_items (flat_map items_of (private_by kqueue owner ns (moments_of t))))
+own-onward t kqueue owner ns =
+    subst (λ ms. Onward 0 (bare_items (flat_map items_of (private_by kqueue owner ns ms)))) (sym (moments-listed t.version t.events))
+    (all-onward t.version kqueue owner ns 1 0 (empty_world counted) t.events (λ timer. refl))

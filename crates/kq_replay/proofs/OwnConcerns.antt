@@ -1,4 +1,4 @@
--- The private list of a kqueue stands by rising place, and its records have the rest of its items.
+-- What concerns a kqueue that names these stands by rising place, and its records have the rest of its items.
 use Rattle.std.proofs.Common.{◌≡◌, ◌<◌, ℕ, suc, ℤ, pos, negsuc, ◌+◌, true, cond, eqb, List, [], ◌∷◌, Option, Some, None, refl, sym, ap, subst, ◌∙◌, arith}
 use Rattle.std.proofs.lemmas.List.Elements.{All-head, All-tail}
 use Rattle.std.specs.List.{All}
@@ -11,10 +11,11 @@ use Rattle.kq_model.specs.Clock.{Span}
 use Rattle.kq_model.specs.Moment.{Moment, moment_of}
 use Rattle.kq_model.specs.Moments.{moment_by, moments_from, world_by}
 use Rattle.kq_model.specs.Objects.{counted}
-use Rattle.kq_model.specs.PrivateList.{Concern, concern_of, concerns, own_call, own_clock, private_by, private_list}
-use Rattle.kq_model.specs.References.{Names, forks_at, names_in, references}
+use Rattle.kq_model.specs.PrivateList.{Concern, concern_of, concerns, own_call, own_clock, private_by}
+use Rattle.kq_model.specs.References.{Names}
 use Rattle.kq_model.specs.World.{Call, World, Planned, Impossible, Possible, empty_world, named_by}
 use Rattle.kq_model.proofs.KnoteLaws.{by_test}
+use Rattle.kq_model.proofs.ListedTrace.{moments-listed}
 use Rattle.kq_history.specs.Sayings.{call_of, call_on, clock_of, span_to}
 use Rattle.kq_history.specs.Traced.{Traced, event_at, moments_of}
 use Rattle.kq_replay.specs.Recorded.{IsCallOf, IsClockOf}
@@ -124,6 +125,7 @@ module _ (t : Traced) where
         kept low m (private_by kqueue owner ns later) (All-head (IsOf 1 t.events) m later all) after
         (are-own low (place + 1) next qs (omega (arith, after)) rest) (are-own place (place + 1) next qs (omega arith) rest)
 
-  pub all-own : (kqueue owner : ℕ) → AreOwn t kqueue owner 0 (private_list kqueue owner (moments_of t))
-  all-own kqueue owner =
-      are-own kqueue owner (names_in (forks_at (moments_of t)) (references kqueue owner (moments_of t))) 0 1 (empty_world counted) _ (omega arith) (each-record t)
+  pub all-own : (kqueue owner : ℕ) (ns : Names) → AreOwn t kqueue owner 0 (private_by kqueue owner ns (moments_of t))
+  all-own kqueue owner ns =
+      subst (λ ms. AreOwn t kqueue owner 0 (private_by kqueue owner ns ms)) (sym (moments-listed t.version t.events))
+      (are-own kqueue owner ns 0 1 (empty_world counted) _ (omega arith) (each-record t))

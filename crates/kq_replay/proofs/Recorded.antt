@@ -1,4 +1,4 @@
--- Each item of a private list is of a record that says it.
+-- Each item of what concerns a kqueue is of a record that says it.
 use Rattle.std.proofs.Common.{◌≡◌, ℕ, List, [], ◌∷◌, ◌++◌, map, Option, Some, None, refl, sym, subst}
 use Rattle.std.proofs.lemmas.List.{map-append}
 use Rattle.std.proofs.lemmas.List.Elements.{All-nil, All-cons, All-append, All-map}
@@ -7,7 +7,8 @@ use Rattle.kq_model.specs.Clock.{Span}
 use Rattle.kq_model.specs.Close.{Pair}
 use Rattle.kq_model.specs.Items as model
 use Rattle.kq_model.specs.Items.{clock_whats, call_whats, items_at, items_of, whats}
-use Rattle.kq_model.specs.PrivateList.{Concern, private_list}
+use Rattle.kq_model.specs.PrivateList.{Concern, private_by}
+use Rattle.kq_model.specs.References.{Names}
 use Rattle.kq_model.specs.Targets.{Posted}
 use Rattle.kq_model.specs.World.{Call}
 use Rattle.kq_history.specs.Items.{bare, bare_items, bare_what}
@@ -63,5 +64,5 @@ module _ (t : Traced) where
         (All-map (λ (i : model.Item). IsRecorded t (bare i)) (λ (w : model.What). record { place = c.place; what = w }) ws (concern-said c own.1)))
         (all-said c.place cs own.2))
 
-    pub items-recorded : All (IsRecorded t) (bare_items (flat_map items_of (private_list kqueue owner (moments_of t))))
-    items-recorded = all-said 0 (private_list kqueue owner (moments_of t)) (all-own t kqueue owner)
+    pub items-recorded : (ns : Names) → All (IsRecorded t) (bare_items (flat_map items_of (private_by kqueue owner ns (moments_of t))))
+    items-recorded ns = all-said 0 (private_by kqueue owner ns (moments_of t)) (all-own t kqueue owner ns)

@@ -11,10 +11,11 @@ use Rattle.kq_model.specs.Moments.{moment_by, moments_from, plans_from, world_by
 use Rattle.kq_model.specs.Objects.{counted}
 use Rattle.kq_model.specs.Plans.{plan}
 use Rattle.kq_model.specs.ProcessPlans.{plan_clock, plan_clock_at}
+use Rattle.kq_model.specs.Projection.{moments}
 use Rattle.kq_model.specs.World.{World, Plan, Planned, Impossible, Possible, empty_world, idle, seen_world}
 use Rattle.kq_model.proofs.KnoteLaws.{by_test}
 use Rattle.kq_history.specs.Sayings.{SaysBy, born_of, call_of, clock_of}
-use Rattle.kq_history.specs.Traced.{Traced, moments_of}
+use Rattle.kq_history.specs.Traced.{Traced}
 use Rattle.kq_history.proofs.Sayings.{says}
 
 -- the clock never goes back
@@ -75,5 +76,5 @@ module _ (version : ℕ) where
       first place e es w q rest refl (says (seen_world w) place e)
       (All-weaker (IsOf (place + 1) es) (IsOf place (e ∷ es)) (later place e es) rest (each-is (place + 1) next es))
 
-pub each-record : (t : Traced) → All (IsOf 1 t.events) (moments_of t)
+pub each-record : (t : Traced) → All (IsOf 1 t.events) (moments counted t.version t.events)
 each-record t = each-is t.version 1 (empty_world counted) t.events

@@ -1,7 +1,6 @@
 // One kqueue that goes on alone.
-ghost use Rattle.std.specs.Prelude.{◌≡◌, ◌≤◌, ◌++◌, ℕ, pos, Some, All, List, IfOk, OnOk};
+ghost use Rattle.std.specs.Prelude.{◌≡◌, ◌≤◌, ◌++◌, ℕ, pos, All, List, IfOk, OnOk};
 ghost use Rattle.kq_model.specs.declared.change.Change.{Change};
-ghost use Rattle.kq_model.specs.declared.event.Event.TheVariants as event_of;
 ghost use Rattle.kq_model.specs.System.{row_of};
 ghost use Rattle.kq_model.specs.Ticks.{last_moment};
 ghost use Rattle.kq_history.specs.declared.item.What.TheVariants as what_of;
@@ -153,25 +152,28 @@ impl<'s, 'a> Alone<'s, 'a> {
         ensures { OnOk result (self.new ≡ gone_on (what_of.Clocked from to) self.old) }
     {
         self.hear()?;
-        // The type of a record keeps its moment in range, and that of an item does not.
-        let moment = if to <= LAST_MOMENT { to } else { self.moment() };
-        self.kq.clock(from, moment);
+        let moment = self.moment(to);
+        self.kq.clock(from as i64, moment);
         Ok(())
     }
 
-    /// The moment to which the record of this place has the clock go on.
-    fn moment(&self) -> u64
-        requires { (from : ℕ) × (to : ℕ) × IsClockOf (event_at self.now.trace self.now.place) from to }
-        ensures moment { event_at self.now.trace self.now.place ≡ Some (event_of.Clock (pos result)) }
-        ensures within { result ≤ last_moment }
+    /// The moment to which the record of this place has the clock go on. The type of a record keeps it
+    /// in range, and that of an item does not.
+    fn moment(&self, to: u64) -> i64
+        requires { (from : ℕ) × IsClockOf (event_at self.now.trace self.now.place) from to }
+        ensures moment { result ≡ pos to }
+        ensures within { to ≤ last_moment }
     {
+        if to <= LAST_MOMENT {
+            return to as i64;
+        }
         let Some(event) = self.split.event(self.place) else {
             unreachable!();
         };
         let Event::Clock { ns } = event else {
             unreachable!();
         };
-        *ns as u64
+        *ns
     }
 
     /// The call that the record is, and its row.

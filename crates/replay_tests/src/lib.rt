@@ -18,3 +18,5 @@ mod rows;
 mod steps;
 #[cfg(test)]
 mod thirds;
+#[cfg(test)]
+mod tree;

@@ -1,7 +1,6 @@
 //! At each place a split shows what the world shows there, in a trace with records of every kind.
-ghost use Rattle.std.specs.Prelude.{◌+◌, IfOk, OnOk};
-ghost use Rattle.kq_model.specs.CountedWorld.{IsCountedWorld};
-ghost use Rattle.kq_process.specs.World.{world_of};
+ghost use Rattle.std.specs.Prelude.{◌≡◌, ◌<◌, IfOk, OnOk};
+ghost use Rattle.kq_process.specs.World.{last_of};
 
 use kq_filters::Views;
 use kq_history::{HistoryAt, Split};
@@ -248,15 +247,15 @@ pub fn assert_seen(rt: &impl Abort, split: &Split, place: u64, world: &World) {
 
 /// The world before the first record.
 pub fn unborn(alloc: Global) -> Result<World, Memory>
-    ensures { IfOk result (λ world. IsCountedWorld 1 (world_of world)) }
+    ensures { IfOk result (λ world. last_of world ≡ 0) }
 {
     World::new(alloc)
 }
 
 /// Whether the record of this place, which comes next, is possible.
 fn step(world: &mut World, place: u64, event: &Event) -> Result<bool, Memory>
-    requires { IsCountedWorld place (world_of world.old) }
-    ensures { OnOk result (IsCountedWorld (place + 1) (world_of world.new)) }
+    requires { last_of world.old < place }
+    ensures { OnOk result (last_of world.new ≡ place) }
 {
     let effect = world.apply(place, event)?;
     Ok(effect.verdict.is_ok())
@@ -269,7 +268,7 @@ pub fn assert_seen_at_each(
     world: &mut World,
     events: &[Event],
 ) -> Result<usize, Memory>
-    requires { IsCountedWorld 1 (world_of world.old) }
+    requires { last_of world.old ≡ 0 }
 {
     let mut impossible = 0;
     for (before, event) in events.iter().enumerate() {

@@ -1,4 +1,4 @@
-use Rattle.std.proofs.Common.{◌≡◌, [], sym, subst}
+use Rattle.std.proofs.Common.{sym, subst}
 use Rattle.kq_history.specs.Log.{AreShelved}
 use Rattle.kq_history.proofs.hearing.Hearing.new.Goals as goal
 

@@ -1,9 +1,9 @@
-use Rattle.std.proofs.Common.{◌≡◌, ◌<◌, ◌∙◌, List, ℕ, [], length, ap, sym, subst}
+use Rattle.std.proofs.Common.{◌<◌, ◌∙◌, List, ℕ, length, ap, sym, subst}
 use Rattle.std.specs.List.{All}
 use Rattle.std.proofs.lemmas.Result.{on_ok_weaker}
 use Rattle.kq_history.specs.declared.item.Source.{Source}
-use Rattle.kq_history.specs.Children.{children_of, children_at}
-use Rattle.kq_history.specs.Log.{comes_from, standing}
+use Rattle.kq_history.specs.Children.{children_at}
+use Rattle.kq_history.specs.Log.{comes_from}
 use Rattle.kq_history.specs.Sources.{Grows}
 use Rattle.kq_history.proofs.Known.{grows-nothing}
 use Rattle.kq_history.proofs.Picked.{standing-inside}

@@ -1,14 +1,13 @@
-use Rattle.std.proofs.Common.{◌≡◌, ◌≤◌, ◌<◌, ◌||◌, ◌+◌, ◌∙◌, ◌++◌, ◌∷◌, [], List, ℕ, Bool, true, false, Some, None, length, take, get_or, refl, sym, ap, subst, arith, rules}
-use Rattle.std.specs.List.{Contains, list_any}
+use Rattle.std.proofs.Common.{◌≡◌, ◌||◌, ◌+◌, ◌∙◌, ◌++◌, ◌∷◌, [], true, false, take, refl, sym, ap, arith}
 use Rattle.std.proofs.lemmas.Bool.{or_left, or_right}
-use Rattle.std.proofs.lemmas.List.{take_all, take_more, take-append-le, length-append}
+use Rattle.std.proofs.lemmas.List.{take_all, take_more, take-append-le}
 use Rattle.std.proofs.lemmas.List.Elements.{All-contains_itself}
 use Rattle.std.proofs.lemmas.List.Folds.{list_any-append}
 use Rattle.std.proofs.lemmas.Option.{slice_get_within, get_or_from_slice_get}
 use Rattle.kq_model.proofs.KnoteLaws.{by_test}
 use Rattle.kq_history.specs.declared.item.Source.{Source}
 use Rattle.kq_history.specs.declared.item.Source.TheVariants.{Clock}
-use Rattle.kq_history.specs.Children.{of_process, children_of, IsForkIn}
+use Rattle.kq_history.specs.Children.{of_process, children_of}
 use Rattle.kq_history.specs.Items.{has_source, source_eq}
 use Rattle.kq_history.proofs.PrivateOf.{eq_is}
 use Rattle.kq_history.proofs.Worklist.{fork-told, from-children, is-process, no_more, past, there-itself}

@@ -16,7 +16,7 @@ use Rattle.kq_history.proofs.seen.Seen.note.Goals as goal
 
 pub returns-clause-up_to : goal.returns-clause-up_to
 returns-clause-up_to g c =
-    let now = c.now.result in
+    let now = c.moment_of.result in
     let old : Seen = c.args.self.now in
     let had : Bool = last_value 0 old.clock == now in
     let pushed : c.note.new.self ≡ old.clock ++ marked (not had) c.args.place now = c.in_ok-note.ensures.pushed in
@@ -30,7 +30,7 @@ returns-clause-up_to g c =
 
 pub returns-clause-shows : goal.returns-clause-shows
 returns-clause-shows g c =
-    let now = c.now.result in
+    let now = c.moment_of.result in
     let place = c.args.place in
     let after : Views = g.V.Views.sees c.args.views.now in
     let numbers = c.args.numbers.now in
@@ -45,11 +45,11 @@ returns-clause-shows g c =
     subst (λ (ts : List Target). AreAmong among ts) (sym c.as_slice.ensures.value) c.in_ok-note_numbers.ensures.named in
     λ (is : IsNextWorld place after numbers among worlds next) (shows : Shows worlds (seen_by n old)).
     shows-next place after numbers targets worlds next (seen_by n old) (seen_by n new)
-    (next-among place after numbers among targets worlds next there is) shows
+    (next-among place after numbers among targets worlds next there is) c.moment_of.ensures.within shows
     (λ pid number at. c.in_ok-note_numbers.ensures.noted pid number at)
     (λ t at. ap (λ ss. view_by ss at t (n.view at t)) c.in_ok-add.ensures
     ∙ view_by-append old.sights.list.items (sights_of place after targets) at t (n.view at t)
     ∙ view_by-sights place after targets at t (view_by old.sights.list.items at t (n.view at t)))
     (λ at. ap (value_at at 0) pushed
     ∙ value-noted true had place at 0 now old.clock c.requires.1.clock (λ _ same. eqb-true (last_value 0 old.clock) now same)
-    ∙ ap (λ n. cond (leb place at) n (value_at at 0 old.clock)) c.now.ensures)
+    ∙ ap (λ n. cond (leb place at) n (value_at at 0 old.clock)) c.moment_of.ensures.moment)

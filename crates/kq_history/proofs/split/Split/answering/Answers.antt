@@ -1,13 +1,10 @@
-use Rattle.std.proofs.Common.{◌≡◌, ◌∙◌, List, ℕ, true, filter, sym, ap, subst, rules}
+use Rattle.std.proofs.Common.{◌≡◌, ◌∙◌, List, ℕ, true, sym, subst, rules}
 use Rattle.std.specs.List.{Contains, IsDistinct}
 use Rattle.kq_history.specs.declared.item.Source.{Source}
 use Rattle.kq_history.specs.declared.item.Source.TheVariants.{Kqueue}
-use Rattle.kq_history.specs.BetweenCalls.{between}
-use Rattle.kq_history.specs.Items.{has_source, is_from, source_eq}
-use Rattle.kq_history.specs.Log.{comes_from}
+use Rattle.kq_history.specs.Items.{has_source, source_eq}
 use Rattle.kq_history.specs.Children.{AreReached}
 use Rattle.kq_history.specs.Private.{IsAnswering}
-use Rattle.kq_history.specs.Steps.{joined}
 use Rattle.kq_history.specs.Traced.{Traced, places_of}
 use Rattle.kq_history.proofs.AnsweringOf.{calls-named, is-answering}
 use Rattle.kq_history.proofs.PrivateOf.{known-there}
@@ -47,6 +44,9 @@ invariant_of-result c =
       own = subst (λ (x : Traced). IsAnswering x c.args.kqueue concerned.owner c.in_ok-items.items.items) same
           (is-answering t c.self.inside.said c.self.invariant.said c.args.kqueue concerned c.of-concerned.ensures c.in_ok-items.items.items
           c.in_ok-items.ensures.0
-          (subst (λ ss. AreReached t.version c.self.inside.said.log.items.items ss c.in_ok-items.ensures.0) c.as_slice-sources.ensures c.in_ok-items.ensures.1)
+          (subst (λ children. AreReached children c.self.inside.said.log.items.items concerned.sources.list.items c.in_ok-items.ensures.0)
+          c.follows_in-children.ensures
+          (subst (λ ss. AreReached c.follows_in-children.result c.self.inside.said.log.items.items ss c.in_ok-items.ensures.0)
+          c.as_slice-sources.ensures c.in_ok-items.ensures.1))
           c.in_ok-items.ensures.2);
     }

@@ -1,11 +1,11 @@
-use Rattle.std.proofs.Common.{◌≡◌, ◌∙◌, List, ℕ, filter, sym, ap, subst, rules}
+use Rattle.std.proofs.Common.{◌≡◌, ◌∙◌, ◌==◌, not, List, ℕ, sym, subst, rules}
 use Rattle.std.specs.List.{Contains, IsDistinct}
 use Rattle.kq_history.specs.declared.item.Source.{Source}
-use Rattle.kq_history.specs.Items.{is_from, source_eq}
+use Rattle.kq_history.specs.Items.{source_eq}
 use Rattle.kq_history.specs.Children.{AreReached}
 use Rattle.kq_history.specs.Private.{IsPrivate}
 use Rattle.kq_history.specs.Traced.{Traced, places_of}
-use Rattle.kq_history.proofs.PrivateOf.{is-private-reached, known-there}
+use Rattle.kq_history.proofs.PrivateOf.{is-private, known-there}
 use Rattle.kq_history.proofs.SplitNext.{one-each, places-rise}
 use Rattle.kq_history.proofs.split.Split.private.Goals as goal
 
@@ -35,8 +35,8 @@ invariant_of-result c =
     let concerned = c.of-concerned.result.now in
     record {
       own = subst (λ (x : Traced). IsPrivate x c.args.kqueue concerned.owner c.in_ok-items.items.items) same
-          (is-private-reached t c.self.inside.said c.self.invariant.said c.args.kqueue concerned c.of-concerned.ensures c.in_ok-items.items.items
-          c.in_ok-items.ensures.0
-          (subst (λ ss. AreReached t.version c.self.inside.said.log.items.items ss c.in_ok-items.ensures.0) c.as_slice.ensures c.in_ok-items.ensures.1)
+          (is-private t c.self.inside.said c.self.invariant.said c.args.kqueue concerned c.of-concerned.ensures
+          c.in_ok-items.ensures.0 c.in_ok-items.items.items
+          (subst (λ ss. AreReached (not (t.version == 1)) c.self.inside.said.log.items.items ss c.in_ok-items.ensures.0) c.as_slice.ensures c.in_ok-items.ensures.1)
           c.in_ok-items.ensures.2);
     }

@@ -1,9 +1,6 @@
-use Rattle.std.proofs.Common.{List, sym, subst, ap, ◌∙◌, append-nil, ◌++◌}
+use Rattle.std.proofs.Common.{List, sym, subst}
 use Rattle.kq_model.specs.declared.event.Event.{Event}
-use Rattle.kq_history.specs.declared.item.Item.{Item}
-use Rattle.kq_history.specs.Said.{AreAllSaid}
 use Rattle.kq_history.specs.Split.{IsSplit, shown_by}
-use Rattle.kq_history.specs.Splitting.{HasLogged}
 use Rattle.kq_history.specs.Traced.{seen_at, traced}
 use Rattle.kq_history.proofs.HeardItems.{all_heard, none_behind}
 use Rattle.kq_history.proofs.SplitShown.{none-left}

@@ -2,7 +2,6 @@ use Rattle.std.proofs.Common.{◌≡◌, ◌∙◌, ◌+◌, ◌≤◌, ◌++◌
 use Rattle.std.proofs.lemmas.List.{take_all, take_more}
 use Rattle.kq_model.specs.declared.event.Event.{Event}
 use Rattle.kq_history.specs.declared.item.Item.{Item}
-use Rattle.kq_history.specs.declared.watching.Watching.{Watching}
 use Rattle.kq_history.specs.Sights.{NotedViews}
 use Rattle.kq_history.specs.Splitting.{IsWatchedSoFar}
 use Rattle.kq_history.specs.Traced.{Traced}

@@ -1,7 +1,5 @@
-use Rattle.std.proofs.Common.{◌≡◌, ◌+◌, ◌≤◌, List, length, subst, arith}
+use Rattle.std.proofs.Common.{◌≡◌, ◌+◌, List, length, arith}
 use Rattle.std.proofs.lemmas.Result.{on_ok_weaker}
-use Rattle.kq_model.specs.CountedWorld.{IsCountedWorld}
-use Rattle.kq_process.specs.World.{world_of}
 use Rattle.kq_history.specs.declared.item.Item.{Item}
 use Rattle.kq_history.specs.declared.watching.Watching.{Watching}
 use Rattle.kq_history.specs.Sights.{NotedViews}
@@ -12,9 +10,8 @@ use Rattle.kq_history.proofs.SplittingNext.{watching-next}
 use Rattle.kq_history.proofs.TrackedNext.{up-later}
 use Rattle.kq_history.proofs.watching.Watching.take_one.Goals as goal
 
-pub track-requires-clause-counted : goal.track-requires-clause-counted
-track-requires-clause-counted c =
-    subst (λ k. IsCountedWorld k (world_of c.args.self.now.world)) c.requires.3 c.requires.4.tracked.after.counted
+pub track-requires-clause-places : goal.track-requires-clause-places
+track-requires-clause-places c = omega (arith, c.requires.3, c.requires.4.tracked.after.last)
 
 pub track-requires-clause-up_to : goal.track-requires-clause-up_to
 track-requires-clause-up_to c = (

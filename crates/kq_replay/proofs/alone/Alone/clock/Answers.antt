@@ -7,6 +7,5 @@ use Rattle.kq_replay.proofs.alone.Alone.clock.Goals as goal
 pub moment-moment-requires : goal.moment-moment-requires
 moment-moment-requires c = (
   c.args.from,
-  c.args.to,
   subst (λ (a : LoneKqueue). IsClockOf (event_at a.trace a.place) c.args.from c.args.to) (sym c.in_ok-hear.ensures) c.requires,
 )
