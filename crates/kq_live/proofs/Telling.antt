@@ -21,6 +21,14 @@ use Rattle.kq_live.specs.Recorded.{IsBook, IsReplayed, IsRun, events_in, recorde
 use Rattle.kq_live.specs.Replies.{replies}
 use Rattle.kq_live.proofs.Replaying.{legal_replays, next_step}
 
+-- ---- the opening
+
+pub opened_empty : (lock : LockName LiveMachine) (machine : LiveMachine) (version last : ℕ)
+    → lock.opening ≡ Some machine → lock.last ≡ last → IsEmpty version machine → IsVersion version
+    → last ≤ 2 ^ 31 - 1 → OpensEmpty lock version
+opened_empty lock machine version last opened most empty known few =
+    (machine, opened, empty, known, subst (λ (n : ℕ). n ≤ 2 ^ 31 - 1) (sym most) few)
+
 -- ---- one call
 
 pub is_called : (lock : LockName LiveMachine) (version : ℕ) (v w : LiveSeated) (event : Event) (at : ℕ) (reply : Reply)

@@ -1,10 +1,10 @@
 //! The live system and its calls.
-ghost use Rattle.std.specs.Prelude.{◌≡◌, ◌≢◌, ◌+◌, ◌-◌, ◌^◌, ◌≤◌, true, false, [], length, vec_len, IfOk, IfErr};
+ghost use Rattle.std.specs.Prelude.{◌≡◌, ◌≢◌, ◌+◌, ◌-◌, ◌^◌, ◌<◌, ◌≤◌, true, false, [], length, vec_len, IfOk, IfErr};
 ghost use mathlib.Core.List.{IsPrefix};
 ghost use Rattle.kq_lock.specs.Calls.{calls_by, longer};
 ghost use Rattle.kq_lock.specs.Seats.{AllParted, AreApart, AreHalves, EachSeat, IsFresh, Refused, own_calls};
 ghost use Rattle.kq_model.specs.Limits.{IsVersion};
-ghost use Rattle.kq_live.specs.Lives.{IsCalled, IsWhole};
+ghost use Rattle.kq_live.specs.Lives.{IsCalled, IsWhole, OpensEmpty};
 
 use crate::book::Book;
 use crate::machine::LiveMachine;
@@ -58,6 +58,7 @@ impl Live {
         requires version { IsVersion version }
         requires seats { (1 ≤ seats) × (seats ≤ 64) }
         ensures live { IfOk result (λ r. (r.0.version ≡ version) × (r.0.lock.last ≡ 2 ^ 31 - 1)) }
+        ensures opens { IfOk result (λ r. OpensEmpty r.0.lock version) }
         ensures count { IfOk result (λ r. vec_len r.1 ≡ seats) }
         ensures fresh { IfOk result (λ r. EachSeat (IsFresh r.0.lock) r.1.items) }
         ensures apart { IfOk result (λ r. AreApart r.1.items) }
@@ -78,6 +79,7 @@ impl Live {
         requires seats { (1 ≤ seats) × (seats ≤ 64) }
         requires last { last ≤ 2 ^ 31 - 1 }
         ensures live { IfOk result (λ r. (r.0.version ≡ version) × (r.0.lock.last ≡ last)) }
+        ensures opens { IfOk result (λ r. OpensEmpty r.0.lock version) }
         ensures count { IfOk result (λ r. vec_len r.1 ≡ seats) }
         ensures fresh { IfOk result (λ r. EachSeat (IsFresh r.0.lock) r.1.items) }
         ensures apart { IfOk result (λ r. AreApart r.1.items) }
@@ -106,6 +108,7 @@ impl Live {
         ensures kept { (seat.new.lock ≡ seat.old.lock) × (seat.new.number ≡ seat.old.number) }
         ensures stride { seat.new.stride ≡ seat.old.stride }
         ensures ok { IfOk result (λ r. IsCalled self.now.version seat.old seat.new event r.at r.answer r.seen_len) }
+        ensures longer { IfOk result (λ r. r.seen_len < r.at) }
         ensures err { IfErr result (λ e. Refused seat.old seat.new e) }
         ensures worn { seat.old.worn ≡ true → result ≡ Err TurnError.WornOut }
         ensures never_busy { IfErr result (λ e. e ≢ TurnError.Busy) }
@@ -120,6 +123,7 @@ impl Live {
         ensures kept { (seat.new.lock ≡ seat.old.lock) × (seat.new.number ≡ seat.old.number) }
         ensures stride { seat.new.stride ≡ seat.old.stride }
         ensures ok { IfOk result (λ r. IsCalled self.now.version seat.old seat.new event r.at r.answer r.seen_len) }
+        ensures longer { IfOk result (λ r. r.seen_len < r.at) }
         ensures err { IfErr result (λ e. Refused seat.old seat.new e) }
         ensures worn { seat.old.worn ≡ true → result ≡ Err TurnError.WornOut }
     {

@@ -1,5 +1,5 @@
 //! The calls that callers make.
-ghost use Rattle.std.specs.Prelude.{◌≡◌, ◌≢◌, true, IfOk, IfErr};
+ghost use Rattle.std.specs.Prelude.{◌≡◌, ◌≢◌, ◌<◌, true, IfOk, IfErr};
 ghost use Rattle.kq_lock.specs.Seats.{Called, Refused};
 
 use crate::entry::Receipt;
@@ -27,6 +27,7 @@ impl<M: Machine> TurnLock<M> {
         ensures stride { seat.new.stride ≡ seat.old.stride }
         ensures ok { IfOk result (λ r.
             Called M.leads seat.old seat.new step r.at r.answer r.seen_len) }
+        ensures longer { IfOk result (λ r. r.seen_len < r.at) }
         ensures err { IfErr result (λ e. Refused seat.old seat.new e) }
         ensures worn { seat.old.worn ≡ true → result ≡ Err TurnError.WornOut }
         ensures never_busy { IfErr result (λ e. e ≢ TurnError.Busy) }
@@ -56,6 +57,7 @@ impl<M: Machine> TurnLock<M> {
         ensures stride { seat.new.stride ≡ seat.old.stride }
         ensures ok { IfOk result (λ r.
             Called M.leads seat.old seat.new step r.at r.answer r.seen_len) }
+        ensures longer { IfOk result (λ r. r.seen_len < r.at) }
         ensures err { IfErr result (λ e. Refused seat.old seat.new e) }
         ensures worn { seat.old.worn ≡ true → result ≡ Err TurnError.WornOut }
     {
