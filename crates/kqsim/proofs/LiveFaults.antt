@@ -6,10 +6,10 @@ use Rattle.kq_model.specs.Reading.{Good, reading}
 use Rattle.kq_trace.specs.Faults.{IsFault}
 use Rattle.kq_trace.specs.declared.fault.TraceError.{TraceError}
 use Rattle.kq_trace.specs.declared.fault.TraceError.TheVariants as error
-use Rattle.kq_trace.specs.Blocks.{WereGiven}
 use Rattle.kqsim.specs.Fault.{fault_of}
 use Rattle.kqsim.specs.Living.{IsLiveFault, IsRunFault}
-use Rattle.kqsim.specs.Run.{IsOutputFault, IsReaderFault}
+use Rattle.kqsim.specs.Replay.{Had}
+use Rattle.kqsim.specs.Run.{IsOutputFault, IsReaderFault, most_bytes}
 use Rattle.kqsim.specs.Workers.{IsThreadCount}
 use Rattle.kqsim.specs.declared.order.Order.{Order}
 use Rattle.kqsim.specs.declared.fault.Fault.{Fault}
@@ -35,7 +35,8 @@ read_fault bytes threads error.Memory is = tt
 read_fault bytes threads (error.Bad line fault) is = is
 
 -- a fault of bytes that a reader had
-pub live_fault_given : (o : Order) (threads : ℕ) (given : Option (List ℕ)) (bytes : List ℕ) → WereGiven given bytes → IsThreadCount threads
+pub live_fault_given : (o : Order) (threads : ℕ) (given : Option (List ℕ)) (bytes : List ℕ) → Had given most_bytes bytes
+    → IsThreadCount threads
     → ((fault : Fault) → IsLiveFault bytes threads fault → IsOutputFault o bytes fault)
     → (fault : Fault) → IsLiveFault bytes threads fault → IsReaderFault o given fault
 live_fault_given o threads given bytes had is of Usage h = h is

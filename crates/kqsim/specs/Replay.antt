@@ -4,12 +4,11 @@ use Rattle.std.specs.Prelude.{◌≡◌, ◌≤◌, ℕ, List, length, Option}
 use Rattle.std.specs.List.Sorted.{IsPermutation}
 use Rattle.kq_model.specs.declared.event.Event.{Event}
 use Rattle.kq_model.specs.declared.row.Row.{Row}
-use Rattle.kq_model.specs.Objects.{counted}
 use Rattle.kq_model.specs.OwnedRows.{Rise}
-use Rattle.kq_model.specs.Projection.{kqueues}
 use Rattle.kq_model.specs.Reading.{Good, Bad, reading}
 use Rattle.kq_model.specs.Report.{report_of}
 use Rattle.kq_model.specs.System.{rows}
+use Rattle.kq_history.specs.Traced.{births_of}
 use Rattle.kq_trace.specs.Blocks.{WereGiven}
 use Rattle.kqsim.specs.Workers.{IsWorkerCount}
 use Rattle.kqsim.specs.declared.replayed.Replayed.{Replayed}
@@ -18,7 +17,7 @@ use Rattle.kqsim.specs.declared.fault.Fault.TheVariants.{Usage, Read, Trace, Mem
 
 -- the trace makes more than one kqueue
 abbrev pub HasKqueues : ℕ → List Event → Type 0
-HasKqueues version events = 2 ≤ length (kqueues counted version events)
+HasKqueues version events = 2 ≤ length (births_of (record { version = version; events = events }))
 
 -- the text is the report of the trace that these bytes are, of the version that it names
 abbrev pub IsReport : List ℕ → List ℕ → Type 0

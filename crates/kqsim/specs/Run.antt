@@ -1,15 +1,18 @@
 -- What a run of the program leaves, by the bytes that its reader had and those that its writer got.
 use Rattle.std.specs.Prelude.{◌≡◌, ◌⊎◌, ℕ, List, ◌++◌, Option, string_bytes}
 use Rattle.std.specs.Io.KnownBytes.{Appends, Keeps}
-use Rattle.kq_trace.specs.Blocks.{WereGiven}
 use Rattle.kqsim.specs.Fault.{status_of}
 use Rattle.kqsim.specs.Living.{IsBookText, IsLiveFault, IsLiveReport}
-use Rattle.kqsim.specs.Replay.{IsFault, IsReport}
+use Rattle.kqsim.specs.Replay.{Had, IsFault, IsReport}
 use Rattle.kqsim.specs.Workers.{IsThreadCount, IsWorkerCount}
 use Rattle.kqsim.specs.declared.fault.Fault.{Fault}
 use Rattle.kqsim.specs.declared.fault.Fault.TheVariants.{Usage, Read, Trace, Memory, Spawn, Write}
 use Rattle.kqsim.specs.declared.order.Order.{Order}
 use Rattle.kqsim.specs.declared.order.Order.TheVariants as order
+
+-- the most bytes that the program reads
+abbrev pub most_bytes : ℕ
+most_bytes = 268435456
 
 abbrev pub file_of : Order → List ℕ
 file_of (order.Replay workers file) = string_bytes file
@@ -39,26 +42,26 @@ abbrev pub IsReaderFault : Order → Option (List ℕ) → Fault → Type 0
 IsReaderFault o given Usage = ⊥
 IsReaderFault o given Read = Unit {0}
 IsReaderFault o given (Trace line fault) =
-    (bytes : List ℕ) × WereGiven given bytes × IsOutputFault o bytes (Trace line fault)
+    (bytes : List ℕ) × Had given most_bytes bytes × IsOutputFault o bytes (Trace line fault)
 IsReaderFault o given Memory = Unit {0}
-IsReaderFault o given Spawn = (bytes : List ℕ) × WereGiven given bytes × IsOutputFault o bytes Spawn
+IsReaderFault o given Spawn = (bytes : List ℕ) × Had given most_bytes bytes × IsOutputFault o bytes Spawn
 IsReaderFault o given Write = ⊥
 
 -- what the order makes of the reader's bytes was written
 abbrev pub WritesOutput : Order → Option (List ℕ) → Option (List ℕ) → Option (List ℕ) → Type 0
 WritesOutput o given before after =
-    (bytes : List ℕ) × (text : List ℕ) × WereGiven given bytes × IsOutput o bytes text × Appends before after text
+    (bytes : List ℕ) × (text : List ℕ) × Had given most_bytes bytes × IsOutput o bytes text × Appends before after text
 
 -- a prefix of that was written
 abbrev pub WritesPart : Order → Option (List ℕ) → Option (List ℕ) → Option (List ℕ) → Type 0
 WritesPart o given before after =
-    (bytes : List ℕ) × (done : List ℕ) × (rest : List ℕ) × WereGiven given bytes × IsOutput o bytes (done ++ rest)
+    (bytes : List ℕ) × (done : List ℕ) × (rest : List ℕ) × Had given most_bytes bytes × IsOutput o bytes (done ++ rest)
     × Appends before after done
 
 -- the fault comes from the bytes that the reader had, and nothing was written
 abbrev pub LeavesNothing : Fault → Order → Option (List ℕ) → Option (List ℕ) → Option (List ℕ) → Type 0
 LeavesNothing fault o given before after =
-    ((bytes : List ℕ) × WereGiven given bytes × IsOutputFault o bytes fault) × Keeps before after
+    ((bytes : List ℕ) × Had given most_bytes bytes × IsOutputFault o bytes fault) × Keeps before after
 
 -- after the fault; but for Write nothing was written
 abbrev pub LeavesBy : Fault → Order → Option (List ℕ) → Option (List ℕ) → Option (List ℕ) → Type 0

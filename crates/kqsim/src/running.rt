@@ -1,7 +1,7 @@
 ghost use Rattle.std.specs.Prelude.{◌≡◌, ◌↔◌, ℕ, IfErr, IfOk, IsErrOf, IsTrue, List, OnOk};
 ghost use Rattle.std.specs.Io.KnownBytes.{Keeps};
-ghost use Rattle.kq_trace.specs.Blocks.{WereGiven};
-ghost use Rattle.kqsim.specs.Run.{EndsBy, IsInRange, IsOutput, IsReaderFault, LeavesBy, WritesOutput};
+ghost use Rattle.kqsim.specs.Replay.{Had};
+ghost use Rattle.kqsim.specs.Run.{EndsBy, IsInRange, IsOutput, IsReaderFault, LeavesBy, WritesOutput, most_bytes};
 
 use crate::fault::Fault;
 use crate::input::read_in;
@@ -18,7 +18,7 @@ use std::thread::Threads;
 const MOST_BYTES: usize = 268435456;
 
 /// Carries an order out: reads the trace, writes the report or the book, and prints the line of a fault on
-/// `err`. The exit status is 0, or that of the fault, [`Fault::status`].
+/// `err`. The exit status is 0, or that of the fault, [`Fault::status`]. A trace has 2^28 bytes at most.
 ///
 /// An order whose number of workers or threads is out of range is [`Fault::Usage`] before anything is read.
 /// After the statuses 2 to 6 nothing was written to `out`, after 7 a prefix. A failing `err` changes no status.
@@ -79,7 +79,7 @@ fn output_of<R: AllocGlobal + Threads + Wait + Sync, I: Read + Send>(
     reader: &mut I,
 ) -> Result<Vec<u8>, Fault>
     requires { IsInRange order.now }
-    ensures output { IfOk result (λ text. (bytes : List ℕ) × WereGiven (I.remaining reader.old) bytes
+    ensures output { IfOk result (λ text. (bytes : List ℕ) × Had (I.remaining reader.old) most_bytes bytes
         × IsOutput order.now bytes text.items) }
     ensures fault { IfErr result (IsReaderFault order.now (I.remaining reader.old)) }
 {

@@ -1,17 +1,9 @@
--- What tests of objects and of the world start from: nothing is seen at a place, or records came one after the other.
-use Rattle.std.proofs.Common.{◌≡◌, ℕ, ◌+◌, false, [], Option, None, Some, is_some, refl, sym, subst}
+-- What tests of objects start from: nothing is seen at a place.
+use Rattle.std.proofs.Common.{◌≡◌, ℕ, false, Option, None, Some, is_some, refl, sym}
 use Rattle.std.specs.Option.{option_map}
-use Rattle.kq_model.specs.declared.act.Act.{Act}
 use Rattle.kq_model.specs.declared.object.Target.TheVariants as target
 use Rattle.kq_model.specs.declared.object.View.{View}
-use Rattle.kq_model.specs.CountedWorld.{IsCountedWorld}
-use Rattle.kq_model.specs.Holding.{made_names}
-use Rattle.kq_model.specs.ObjectRecordPlans.{plan_act}
 use Rattle.kq_model.specs.Objects.{Objects, counted, view_of, IsFree}
-use Rattle.kq_model.specs.World.{World}
-use Rattle.kq_model.proofs.CountedRecords.{counted-act}
-use Rattle.kq_process.specs.Effects.{world_after}
-use Rattle.kq_process.proofs.Applied.{counted-after}
 
 unseen : {A B : Type 0} (f : A → B) (x : Option A) → option_map f x ≡ None → x ≡ None
 unseen f None none = refl
@@ -31,10 +23,3 @@ free-unseen place o socket pipe open_file = record {
   pipe = unseen _ (o.pipe place) pipe;
   description = unseen _ (o.description place) open_file;
 }
-
--- the next record may come after one that gives no number a name
-pub counted-acted : (place : ℕ) (a : Act) (w after : World counted) → made_names place a ≡ []
-    → after ≡ world_after place (plan_act place [] a w) w → IsCountedWorld place w → IsCountedWorld (place + 1) after
-counted-acted place a w after none is c =
-    subst (IsCountedWorld (place + 1)) (sym is)
-    (counted-after place w (plan_act place [] a w) (counted-act place a w none) c)

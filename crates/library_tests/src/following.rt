@@ -23,7 +23,7 @@ impl Views for AllLive {
         None
     }
 
-    fn now(&self) -> u64 {
+    fn now(&self) -> i64 {
         0
     }
 }
@@ -49,7 +49,7 @@ fn following(alloc: Global) -> Result<Kq, Memory> {
 
 /// The flags of what is registered of a process, out of how many.
 fn registered(kqueue: &Kq, pid: u64) -> (Option<u32>, usize) {
-    let found = kqueue.knotes().find(tracked(pid).key());
+    let found = kqueue.knotes().get(tracked(pid).key());
     (found.map(|knote| knote.fflags), kqueue.knotes().len())
 }
 

@@ -36,7 +36,7 @@ impl Views for OneFile {
         })
     }
 
-    fn now(&self) -> u64 {
+    fn now(&self) -> i64 {
         0
     }
 }

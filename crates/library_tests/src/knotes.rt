@@ -43,7 +43,7 @@ fn attached(alloc: Global, knote: Knote) -> Result<Knotes, Memory> {
 }
 
 fn bits_under(knotes: &Knotes, key: Key) -> Option<u32> {
-    let knote = knotes.find(key)?;
+    let knote = knotes.get(key)?;
     Some(knote.bits)
 }
 

@@ -1,6 +1,8 @@
 //! The objects as a library: records of each kind are planned where there is memory, and what they come to.
-ghost use Rattle.std.specs.Prelude.{◌≡◌, true};
-ghost use Rattle.kq_model.specs.Objects.{IsFree};
+ghost use Rattle.std.specs.Prelude.{◌≡◌, true, Ok, OnErr, OnOk};
+ghost use Rattle.kq_model.specs.ObjectPlan.{ObjectPlan};
+ghost use Rattle.kq_model.specs.Objects.{all_done, IsFree};
+ghost use Rattle.kq_model.specs.Planning.{plan};
 ghost use Rattle.kq_objects.specs.Objects.{objects_of};
 
 use kq_model::{Act, Hint, Mode, Named, Note, Side, Target, View};
@@ -38,6 +40,25 @@ fn played(rt: &impl Abort, alloc: Global, acts: &[Act]) -> Result<Objects, PlanE
         objects.commit(plan);
     }
     Ok(objects)
+}
+
+/// Two records are planned for a place, and the first is carried out: planning the second changed nothing of it. The
+/// errors are those of both plans.
+fn first_of_two(
+    objects: &mut Objects,
+    place: u64,
+    first: &Act,
+    second: &Act,
+) -> Result<(), PlanError>
+    requires { IsFree place (objects_of objects.old) }
+    ensures done { OnOk result ((p : ObjectPlan) → plan place first.now (objects_of objects.old) ≡ Ok p
+        → objects_of objects.new ≡ all_done p.doings (objects_of objects.old)) }
+    ensures refused { OnErr result (objects_of objects.new ≡ objects_of objects.old) }
+{
+    let planned = objects.plan(place, first)?;
+    let _other = objects.plan(place, second)?;
+    objects.commit(planned);
+    Ok(())
 }
 
 /// A socket of these sizes is made.
@@ -174,5 +195,27 @@ fn a_file(rt: HostRuntime) -> Result<(), Fail> {
     let open = View::Open { size: 7, offset: 3 };
     assert_eq!(rt; objects.view(Target::Open(2)), Some(open));
     assert_eq!(rt; objects.view(Target::File(8)), Some(View::File));
+    Ok(())
+}
+
+#[test]
+fn the_first_of_two_plans_is_carried_out(rt: HostRuntime) -> Result<(), Fail> {
+    let file = Act::File { file: 8, size: 5 };
+    let mut objects = played(&rt, rt.alloc(), &[file])?;
+    assert!(rt; is_free(&objects, 2));
+    let read = Act::Open {
+        file: 8,
+        mode: Mode::Read,
+    };
+    let write = Act::Open {
+        file: 8,
+        mode: Mode::Write,
+    };
+    first_of_two(&mut objects, 2, &read, &write)?;
+    let view = View::Open { size: 5, offset: 0 };
+    assert_eq!(rt; objects.view(Target::Open(2)), Some(view));
+    assert!(rt; is_free(&objects, 3));
+    first_of_two(&mut objects, 3, &Act::Pipe { cap: 10 }, &socket(7, 7))?;
+    assert_eq!(rt; objects.view(Target::Socket(3)), None);
     Ok(())
 }

@@ -1,7 +1,6 @@
 //! Timers of one kqueue, in a world that is a clock alone.
-ghost use Rattle.std.specs.Prelude.{◌≤◌, None};
+ghost use Rattle.std.specs.Prelude.{◌≤ℤ◌, ◌<◌, ◌^◌, pos, None};
 ghost use Rattle.kq_model.specs.Views as world;
-ghost use Rattle.kq_model.specs.Ticks.{last_moment};
 
 use bitflags::Flags;
 use kq_filters::Views;
@@ -13,10 +12,13 @@ use std::test::Fail;
 
 /// A world of which nothing is seen but its clock, in nanoseconds.
 #[derive(Drop)]
-struct ClockAlone(u64);
+struct ClockAlone {
+    now: u64,
+    ghost within: { now < 2 ^ 63 },
+}
 
 impl Views for ClockAlone {
-    ghost sees = { λ clock. record { view = λ _. None; descriptor = λ _ _. None; now = clock.0 } };
+    ghost sees = { λ clock. record { view = λ _. None; descriptor = λ _ _. None; now = clock.now } };
 
     fn view(&self, _target: Target) -> Option<View> {
         None
@@ -26,8 +28,8 @@ impl Views for ClockAlone {
         None
     }
 
-    fn now(&self) -> u64 {
-        self.0
+    fn now(&self) -> i64 {
+        self.now as i64
     }
 }
 
@@ -56,8 +58,10 @@ fn flagged(fflags: u32, timer: Change) -> Change {
 }
 
 /// One kevent call at this moment.
-fn called(kqueue: &mut Kq, changes: &[Change], room: u32, now: u64) -> Result<Reply, Memory> {
-    kqueue.call(changes, room, &ClockAlone(now))
+fn called(kqueue: &mut Kq, changes: &[Change], room: u32, now: i64) -> Result<Reply, Memory>
+    requires { pos 0 ≤ℤ now }
+{
+    kqueue.call(changes, room, &ClockAlone { now: now as u64 })
 }
 
 /// A kqueue with these timers, which start at 0.
@@ -68,15 +72,17 @@ fn started(alloc: Global, timers: &[Change]) -> Result<Kq, Memory> {
 }
 
 /// The clock goes on.
-fn pass(kqueue: &mut Kq, from: u64, to: u64)
-    requires ordered { from ≤ to }
-    requires within { to ≤ last_moment }
+fn pass(kqueue: &mut Kq, from: i64, to: i64)
+    requires past { pos 0 ≤ℤ from }
+    requires ordered { from ≤ℤ to }
 {
     kqueue.clock(from, to);
 }
 
 /// The timers that a poll at this moment returns, each with the number of its expirations.
-fn polled(alloc: Global, kqueue: &mut Kq, now: u64) -> Result<Vec<(u64, i64)>, Memory> {
+fn polled(alloc: Global, kqueue: &mut Kq, now: i64) -> Result<Vec<(u64, i64)>, Memory>
+    requires { pos 0 ≤ℤ now }
+{
     let mut found = Vec::new(alloc);
     if let Reply::Events(events) = called(kqueue, &[], 4, now)? {
         for event in events.as_slice() {
@@ -86,13 +92,9 @@ fn polled(alloc: Global, kqueue: &mut Kq, now: u64) -> Result<Vec<(u64, i64)>, M
     Ok(found)
 }
 
-fn assert_polled(
-    rt: &impl Abort,
-    alloc: Global,
-    kqueue: &mut Kq,
-    now: u64,
-    expected: &[(u64, i64)],
-) {
+fn assert_polled(rt: &impl Abort, alloc: Global, kqueue: &mut Kq, now: i64, expected: &[(u64, i64)])
+    requires { pos 0 ≤ℤ now }
+{
     let found = polled(alloc, kqueue, now).expect(rt, "memory");
     assert_eq!(rt; found.as_slice(), expected);
 }
@@ -142,7 +144,7 @@ fn three_timers() -> [Change; 3] {
 #[test]
 fn a_huge_step_is_counted(rt: HostRuntime) -> Result<(), Fail> {
     let mut kqueue = started(rt.alloc(), &three_timers())?;
-    let last = i64::MAX as u64;
+    let last = i64::MAX;
     pass(&mut kqueue, 0, last);
     let expected = [
         (3, i64::MAX),

@@ -3,8 +3,8 @@ use Rattle.std.proofs.Common.{List}
 use Rattle.std.proofs.lemmas.List.Elements.{All-weaker}
 use Rattle.std.specs.List.{All}
 use Rattle.kq_model.specs.declared.rows.Rows.{Rows}
-use Rattle.kq_model.specs.Hearing.{tallying}
-use Rattle.kq_model.specs.Objects.{counted}
+use Rattle.kq_model.specs.Hearing.{listed}
+use Rattle.kq_model.specs.Objects as objects
 use Rattle.kq_model.specs.OwnedRows.{Rise}
 use Rattle.kq_model.proofs.Projection.{rising}
 use Rattle.kq_history.specs.Traced.{Traced, plain_rows_of}
@@ -17,4 +17,4 @@ kqueues_never_fall t kqueues are =
     All-weaker (λ (one : Rows). Rise one.rows) (λ (one : Rows). NeverFall one.rows) (λ one rises. never_fall one.rows rises) kqueues are.rise
 
 pub plain_never_falls : (t : Traced) → NeverFall (plain_rows_of t)
-plain_never_falls t = never_fall (plain_rows_of t) (rising tallying counted t.version t.events).1
+plain_never_falls t = never_fall (plain_rows_of t) (rising listed objects.listed t.version t.events).1

@@ -1,10 +1,10 @@
 -- The bytes are those that the reader had.
 use Rattle.std.proofs.Common.{rules, sym, subst, IfErr}
 use Rattle.std.proofs.lemmas.Result.{IfErr-weaker}
-use Rattle.kq_trace.specs.Blocks.{WereGiven}
 use Rattle.kqsim.specs.declared.order.Order.TheVariants as order
 use Rattle.kqsim.specs.Living.{IsLiveFault}
-use Rattle.kqsim.specs.Run.{IsInRange, IsReaderFault}
+use Rattle.kqsim.specs.Replay.{Had}
+use Rattle.kqsim.specs.Run.{IsInRange, IsReaderFault, most_bytes}
 use Rattle.kqsim.specs.Workers.{IsThreadCount}
 use Rattle.kqsim.proofs.LiveFaults.{live_fault_given}
 use Rattle.kqsim.proofs.running.output_of.Goals as goal
@@ -15,7 +15,8 @@ returns-in_ok-bytes-in-Live-clause-fault g c =
     let bytes = c.as_slice.result.now in
     let threads = c.in-Live.threads in
     let made = order.Live threads c.in-Live.file in
-    let had : WereGiven given bytes = rw c.as_slice.ensures.value c.in_ok-bytes-in-Live.ensures.all in
+    let had : Had given most_bytes bytes =
+    rw c.as_slice.ensures.value (c.in_ok-bytes-in-Live.ensures.all, c.in_ok-bytes-in-Live.ensures.within) in
     let in_range : IsInRange c.args.order.now = search rules in
     let is : IsThreadCount threads = subst IsInRange c.in-Live.is in_range in
     subst (λ o. IfErr c.live_report.result (IsReaderFault o given)) (sym c.in-Live.is)
@@ -28,7 +29,8 @@ returns-in_ok-bytes-in-Book-clause-fault g c =
     let bytes = c.as_slice-in-Book.result.now in
     let threads = c.in-Book.threads in
     let made = order.Book threads c.in-Book.file in
-    let had : WereGiven given bytes = rw c.as_slice-in-Book.ensures.value c.in_ok-bytes-in-Book.ensures.all in
+    let had : Had given most_bytes bytes =
+    rw c.as_slice-in-Book.ensures.value (c.in_ok-bytes-in-Book.ensures.all, c.in_ok-bytes-in-Book.ensures.within) in
     let in_range : IsInRange c.args.order.now = search rules in
     let is : IsThreadCount threads = subst IsInRange c.in-Book.is in_range in
     subst (λ o. IfErr c.book_text.result (IsReaderFault o given)) (sym c.in-Book.is)

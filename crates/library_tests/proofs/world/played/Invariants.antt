@@ -1,7 +1,6 @@
-use Rattle.std.proofs.Common.{◌+◌}
-use Rattle.kq_model.specs.CountedWorld.{IsCountedWorld}
-use Rattle.kq_process.specs.World.{world_of}
+use Rattle.std.proofs.Common.{◌≡◌}
+use Rattle.kq_process.specs.World.{last_of}
 use Rattle.library_tests.proofs.world.played.Given as goal
 
 abbrev pub invariant-loop-before : goal.invariant-loop-before
-invariant-loop-before l = IsCountedWorld (l.before + 1) (world_of l.world)
+invariant-loop-before l = last_of l.world ≡ l.before

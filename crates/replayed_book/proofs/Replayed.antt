@@ -1,0 +1,26 @@
+-- The rows of kqueues that were replayed alone, and the plain ones, stand by place, as a merge wants them; and what it
+-- gives are the rows of the trace.
+use Rattle.std.proofs.Common.{◌≡◌, List}
+use Rattle.std.proofs.lemmas.List.Elements.{All-weaker}
+use Rattle.std.specs.List.{All}
+use Rattle.kq_model.specs.declared.row.Row.{Row}
+use Rattle.kq_model.specs.declared.rows.Rows.{Rows}
+use Rattle.kq_model.specs.OwnedRows.{Rise}
+use Rattle.kq_model.specs.System.{rows}
+use Rattle.kq_history.specs.Traced.{Traced, plain_rows_of}
+use Rattle.kq_merge.specs.ByPlace.{IsOnlyOrder, NeverFall, rows_in}
+use Rattle.kq_merge.proofs.Places.{never_fall}
+use Rattle.kq_replay.specs.Replayed.{AreReplayed}
+
+pub kqueues_never_fall : (t : Traced) (kqueues : List Rows) → AreReplayed t kqueues
+    → All (λ (one : Rows). NeverFall one.rows) kqueues
+kqueues_never_fall t kqueues are =
+    All-weaker (λ (one : Rows). Rise one.rows) (λ (one : Rows). NeverFall one.rows)
+    (λ one rises. never_fall one.rows rises) kqueues are.rise
+
+pub plain_never_falls : (t : Traced) (kqueues : List Rows) → AreReplayed t kqueues → NeverFall (plain_rows_of t)
+plain_never_falls t kqueues are = never_fall (plain_rows_of t) are.plain
+
+pub rows_again : (t : Traced) (kqueues : List Rows) (merged : List Row) → AreReplayed t kqueues
+    → IsOnlyOrder (rows_in kqueues (plain_rows_of t)) merged → merged ≡ rows t.version t.events
+rows_again t kqueues merged are only = only (rows t.version t.events) are.whole are.ordered
