@@ -42,7 +42,6 @@ mod SaidNext
 pub mod PrivateOf
 mod AnsweringOf
 mod SplitShown
-pub mod ThirdsSplit
 mod SplitNext
 mod SplittingNext
 mod Events

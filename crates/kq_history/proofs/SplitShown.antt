@@ -1,22 +1,12 @@
--- What the timelines of a split show is what was seen, where all that was seen of targets was noted.
+-- What the timelines of a split show is what was seen, where nothing that was seen of targets is left to note.
 use Rattle.std.proofs.Common.{◌≡◌, ◌∙◌, ℕ, [], sym, ap}
 use Rattle.kq_history.specs.declared.noting.Noting.{Noting}
 use Rattle.kq_history.specs.declared.seen.Seen.{Seen}
 use Rattle.kq_history.specs.Seen.{seen_by, Shows}
-use Rattle.kq_history.specs.Sights.{and_then, view_by, HasNoted, NotedViews}
+use Rattle.kq_history.specs.Sights.{view_by, HasNoted, NotedViews}
 use Rattle.kq_history.specs.Split.{shown_by}
 use Rattle.kq_model.specs.Views.{Views}
 
-pub noted-shown : (n : NotedViews) (place : ℕ) (worlds : ℕ → Views) (s : Seen) (noting : Noting)
-    → HasNoted (and_then n place s.sights.list.items) noting → Shows worlds (seen_by n s) → Shows worlds (shown_by s.numbers noting.timelines s.clock)
-noted-shown n place worlds s noting has shows = record {
-  view = λ at t. has.view at t ∙ shows.view at t;
-  descriptor = shows.descriptor;
-  now = shows.now;
-  within = shows.within;
-}
-
--- the same, where none was left to note
 pub none-left : (n : NotedViews) (worlds : ℕ → Views) (s : Seen) (noting : Noting) → s.sights.list.items ≡ [] → HasNoted n noting
     → Shows worlds (seen_by n s) → Shows worlds (shown_by s.numbers noting.timelines s.clock)
 none-left n worlds s noting none has shows = record {

@@ -20,10 +20,6 @@ pub record IsWatchedSoFar (n : NotedViews) (before : List Item) (t : Traced) (w 
   pub kqueues : AreTheKqueues t w.kqueues
   pub plain_is : w.plain.items ≡ plain_rows_of t
 
-abbrev pub AreSoManyWatched : ℕ → Watching → Type 0
-AreSoManyWatched count w =
-    (n : NotedViews) × (before : List Item) × (t : Traced) × (length t.events ≡ count) × IsWatchedSoFar n before t w
-
 -- all was handed over
 pub record HasHandedOver (w : Watching) : Type 0 where
   pub sights : w.seen.sights.list.items ≡ []
@@ -43,7 +39,7 @@ IsWatchedWith noting hearing t w =
 -- ---- all of them: these are all records that came so far, and nothing is left to be handed over
 
 pub record IsSplitSoFar (t : Traced) (s : Splitting) : Type 0 where
-  pub thirds : IsWatchedWith s.noting s.hearing t s.watching
+  pub parts : IsWatchedWith s.noting s.hearing t s.watching
   pub handed_over : HasHandedOver s.watching
 
 -- so many records came so far

@@ -30,12 +30,7 @@ mod weave;
 
 pub use answering::Answering;
 pub use at::HistoryAt;
-pub use hearing::Hearing;
 pub use item::{Item, Source, What};
-pub use items::Items;
-pub use noting::Noting;
 pub use private::Private;
-pub use sights::Sights;
 pub use split::{Spent, Split};
 pub use splitting::Splitting;
-pub use watching::Watching;

@@ -2,15 +2,12 @@ ghost use Rattle.std.specs.Prelude.{◌≡◌, pos, IfOk};
 
 use crate::answering::Answering;
 use crate::at::HistoryAt;
-use crate::hearing::Hearing;
 use crate::item::Source;
-use crate::noting::Noting;
 use crate::private::Private;
 use crate::said::Said;
 use crate::splitting::Splitting;
 use crate::timeline::Timeline;
 use crate::timelines::Timelines;
-use crate::watching::Watching;
 use kq_model::{Event, Memory, Named, Row, Target, Trace, View};
 use std::alloc::Global;
 use std::marker::Model;
@@ -53,7 +50,6 @@ impl<'a> Model for Split<'a> {
 }
 
 impl<'a> Split<'a> {
-    ghost use Rattle.kq_history.specs.Splitting.{IsWatchedWith};
     ghost use Rattle.kq_history.specs.Traced.{places_of, plain_rows_of, seen_at, traced, IsBorn};
 
     /// One pass of the world over the trace. Its cost is that of the trace. Memory: a growth was refused.
@@ -64,45 +60,6 @@ impl<'a> Split<'a> {
         let mut splitting = Splitting::new(alloc)?;
         splitting.take(0, events)?;
         Ok(splitting.end(trace))
-    }
-
-    /// The same from three thirds, of which the one that watches took all records of the trace: what was not handed
-    /// over yet is noted and heard here. Its cost is that, and that of dropping the world. Memory: a growth was
-    /// refused.
-    #[tactic(auto, using(crate::proofs::ThirdsSplit::left_to_note, crate::proofs::ThirdsSplit::is_split))]
-    pub fn of_thirds(
-        trace: &'a Trace,
-        watching: Watching,
-        noting: Noting,
-        hearing: Hearing,
-    ) -> Result<Self, Memory>
-        requires { IsWatchedWith noting hearing (traced trace.now) watching }
-        ensures { IfOk result (λ s. s ≡ traced trace.now) }
-    {
-        let events = trace.events.as_slice();
-        let Watching {
-            seen,
-            items,
-            kqueues,
-            plain,
-            ..
-        } = watching;
-        let mut noting = noting;
-        noting.take(&seen.sights)?;
-        let mut hearing = hearing;
-        hearing.take(&items)?;
-        Ok(Split {
-            version: trace.version,
-            events,
-            numbers: seen.numbers,
-            views: noting.timelines,
-            clock: seen.clock,
-            said: Said {
-                log: hearing.log,
-                kqueues,
-            },
-            plain,
-        })
     }
 
     /// What it kept, to be let go of. It costs nothing.

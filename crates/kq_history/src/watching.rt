@@ -1,6 +1,6 @@
-ghost use Rattle.std.specs.Prelude.{◌≡◌, ◌+◌, ◌<◌, ◌^◌, ◌++◌, [], ℕ, List, length, IfOk, OnOk};
-ghost use Rattle.kq_history.specs.Sights.{and_then, nothing_noted, AreBetween, NotedViews};
-ghost use Rattle.kq_history.specs.Splitting.{AreSoManyWatched, HasHandedOver, IsWatchedSoFar};
+ghost use Rattle.std.specs.Prelude.{◌≡◌, ◌+◌, ◌++◌, [], ℕ, List, length, IfOk, OnOk};
+ghost use Rattle.kq_history.specs.Sights.{and_then, nothing_noted, NotedViews};
+ghost use Rattle.kq_history.specs.Splitting.{HasHandedOver, IsWatchedSoFar};
 ghost use Rattle.kq_history.specs.Traced.{longer, Traced};
 ghost use Rattle.kq_history.specs.declared.item.Item.{Item};
 
@@ -16,11 +16,10 @@ use crate::tracking::track;
 use kq_model::{Event, Memory, Row};
 use kq_process::World;
 use std::alloc::Global;
-use std::mem::swap;
 
 /// The part of a splitting that sees the world after each record, and keeps what numbers named, the clock, the kqueues
 /// with what concerns each, and the rows of impossible records. What it sees of targets is handed over to
-/// [`Noting`](crate::Noting), and what the records say to kqueues to [`Hearing`](crate::Hearing).
+/// [`Noting`](crate::noting::Noting), and what the records say to kqueues to [`Hearing`](crate::hearing::Hearing).
 #[derive(Drop)]
 pub struct Watching {
     pub(crate) world: World,
@@ -77,36 +76,7 @@ impl Watching {
         put_plain(&mut self.plain, place, &effect.verdict)
     }
 
-    /// The records that follow those so far, which are so many: the world takes each of them. Its cost
-    /// is theirs. After Memory nothing is known, and it is to be dropped.
-    pub fn take(&mut self, before: u64, events: &[Event]) -> Result<(), Memory>
-        requires few { before + length events.now < 2 ^ 31 }
-        requires before { AreSoManyWatched before self.old }
-        ensures { OnOk result ((n : NotedViews) (said : List Item) (t : Traced) → length t.events ≡ before
-            → IsWatchedSoFar n said t self.old
-            → IsWatchedSoFar n said (record { version = t.version; events = t.events ++ events.now }) self.new) }
-    {
-        for (taken, event) in events.iter().enumerate() {
-            self.take_one(before + taken as u64 + 1, event)?;
-        }
-        Ok(())
-    }
-
-    /// Hands over what was seen of targets and what was said since this was done last, in place of what the lists had.
-    pub fn hand_over(&mut self, sights: &mut Sights, items: &mut Items)
-        ensures order { (n : NotedViews) (said : List Item) (t : Traced) → IsWatchedSoFar n said t self.old
-            → AreBetween n.place (length t.events) sights.new.list.items }
-        ensures watched { (n : NotedViews) (said : List Item) (t : Traced) → IsWatchedSoFar n said t self.old
-            → IsWatchedSoFar (and_then n (length t.events) sights.new.list.items) (said ++ items.new.list.items) t
-            self.new }
-    {
-        sights.clear();
-        swap(&mut self.seen.sights, sights);
-        items.clear();
-        swap(&mut self.items, items);
-    }
-
-    /// What it has of both was handed over.
+    /// What it had to hand over was taken.
     pub(crate) fn forget(&mut self)
         ensures watched { (n : NotedViews) (said : List Item) (t : Traced) → IsWatchedSoFar n said t self.old
             → IsWatchedSoFar (and_then n (length t.events) self.old.seen.sights.list.items)

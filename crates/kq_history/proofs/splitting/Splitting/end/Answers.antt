@@ -10,17 +10,17 @@ pub invariant_of-result : goal.invariant_of-result
 invariant_of-result c =
     let t = traced c.args.trace.now in
     let w = c.args.self.watching in
-    let thirds = c.requires.thirds in
+    let parts = c.requires.parts in
     let none = c.requires.handed_over in
     subst (λ (xs : List Event). IsSplit (record { version = c.args.trace.now.version; events = xs })
     (shown_by w.seen.numbers c.args.self.noting.timelines w.seen.clock) (record { log = c.args.self.hearing.log; kqueues = w.kqueues }) w.plain.items)
     (sym c.as_slice-events.ensures) (record {
-      shows = none-left thirds.0 (seen_at t) w.seen c.args.self.noting none.sights thirds.2 thirds.4.tracked.shows;
+      shows = none-left parts.0 (seen_at t) w.seen c.args.self.noting none.sights parts.2 parts.4.tracked.shows;
       said = record {
-        logged = all_heard t thirds.1 w.items.list.items c.args.self.hearing thirds.4.said
-            (none_behind thirds.1 w.items.list.items c.args.self.hearing none.items thirds.3);
-        kqueues = thirds.4.kqueues;
+        logged = all_heard t parts.1 w.items.list.items c.args.self.hearing parts.4.said
+            (none_behind parts.1 w.items.list.items c.args.self.hearing none.items parts.3);
+        kqueues = parts.4.kqueues;
       };
-      plain_is = thirds.4.plain_is;
+      plain_is = parts.4.plain_is;
       countable = c.args.trace.now.countable;
     })

@@ -5,6 +5,6 @@ use Rattle.kq_history.proofs.splitting.Splitting.new.Goals as goal
 pub returns : goal.returns
 returns c =
     λ (version : ℕ). record {
-      thirds = (nothing_noted, [], c.new-noting.ensures, c.new-hearing.ensures, c.in_ok-watching.ensures.watched version);
+      parts = (nothing_noted, [], c.new-noting.ensures, c.new-hearing.ensures, c.in_ok-watching.ensures.watched version);
       handed_over = c.in_ok-watching.ensures.handed_over;
     }
