@@ -9,6 +9,8 @@ mod gates;
 #[cfg(test)]
 mod lists;
 #[cfg(test)]
+mod parts;
+#[cfg(test)]
 mod places;
 #[cfg(test)]
 mod private;
@@ -16,7 +18,5 @@ mod private;
 mod rows;
 #[cfg(test)]
 mod steps;
-#[cfg(test)]
-mod thirds;
 #[cfg(test)]
 mod tree;

@@ -1,0 +1,34 @@
+//! A trace that comes in two parts is split as it is at once.
+ghost use Rattle.std.specs.Prelude.{◌≡◌, IfOk};
+ghost use Rattle.kq_history.specs.Traced.{traced};
+
+use crate::places::{assert_seen, assert_seen_at_each, unborn, whole};
+use kq_history::{Split, Splitting};
+use kq_model::{Memory, Trace};
+use std::alloc::Global;
+use std::test::Fail;
+
+/// The second part comes once the first was taken.
+fn in_parts(alloc: Global, trace: &Trace) -> Result<Split<'_>, Memory>
+    ensures { IfOk result (λ split. split ≡ traced trace.now) }
+{
+    let events = trace.events.as_slice();
+    let (first, second) = events.split_at(events.len() / 2);
+    let mut splitting = Splitting::new(alloc)?;
+    splitting.take(0, first)?;
+    splitting.take(first.len() as u64, second)?;
+    Ok(splitting.end(trace))
+}
+
+#[test]
+fn in_parts_the_same_is_seen(rt: HostRuntime) -> Result<(), Fail> {
+    let trace = whole(&rt, rt.alloc())?;
+    let split = in_parts(rt.alloc(), &trace)?;
+    let mut world = unborn(rt.alloc())?;
+    assert_seen(&rt, &split, 0, &world);
+    let impossible = assert_seen_at_each(&rt, &split, &mut world, trace.events.as_slice())?;
+    assert_eq!(rt; split.plain_rows().len(), impossible);
+    let at_once = Split::of(rt.alloc(), &trace)?;
+    assert_eq!(rt; split.kqueues(), at_once.kqueues());
+    Ok(())
+}
