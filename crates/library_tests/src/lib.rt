@@ -7,6 +7,8 @@ mod following;
 #[cfg(test)]
 mod hints;
 #[cfg(test)]
+mod joins;
+#[cfg(test)]
 mod knotes;
 #[cfg(test)]
 mod objects;
