@@ -16,6 +16,5 @@ mod worker;
 pub use counter::ClaimCounter;
 pub use fault::RunFault;
 pub use jobs::Jobs;
-pub use kq_serve::{Always, Gate, Open, Starts};
 pub use running::{MOST_WORKERS, run_all};
 pub use seat::ClaimSeat;

@@ -8,7 +8,7 @@ mod kqueues;
 mod replay;
 mod running;
 
-pub use kq_jobs::{Always, Gate, Open, RunFault, Starts};
+pub use kq_jobs::RunFault;
 pub use kq_model::Rows;
 pub use replay::Replay;
 pub use running::{replay_all, replay_all_with};

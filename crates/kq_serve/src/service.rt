@@ -6,9 +6,9 @@ ghost use Rattle.kq_serve.specs.Faults.{IsServeFault};
 ghost use Rattle.kq_serve.specs.Shares.{share, shares, steps_of, AreServed, Serves};
 
 use crate::error::ServeError;
-use crate::gate::{Gate, Starts};
 use crate::served::Served;
 use crate::share::{ShareOf, serve_share};
+use kq_gate::{Gate, Starts};
 use kq_lock::{Entry, TurnLock, TurnSeat};
 use std::alloc::Global;
 use std::snapshot::Snapshot;

@@ -5,8 +5,8 @@ ghost use Rattle.kq_serve.specs.Faults.{IsServeFault};
 ghost use Rattle.kq_serve.specs.Shares.{share, HasServed};
 
 use crate::error::ServeError;
-use crate::gate::Gate;
 use crate::served::Served;
+use kq_gate::Gate;
 use kq_lock::{TurnLock, TurnSeat};
 use std::snapshot::Snapshot;
 use std::sync::Wait;

@@ -2,9 +2,10 @@
 
 use crate::watch::Watch;
 use anyhow::Context;
+use kq_gate::Open;
 use kq_history::Split;
 use kq_merge::{Merging, copied, report_by_place};
-use kq_replay::{Open, replay_all};
+use kq_replay::replay_all;
 use kq_trace::read_trace_with;
 use std::alloc::AllocError;
 use std::io::Write;

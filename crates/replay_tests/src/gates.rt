@@ -1,5 +1,5 @@
 //! A gate that holds workers, and starts of which one is refused.
-use kq_replay::{Gate, Starts};
+use kq_gate::{Gate, Starts};
 use std::sync::atomic::AtomicU64;
 use std::sync::atomic::Ordering::SeqCst;
 use std::thread::yield_now;

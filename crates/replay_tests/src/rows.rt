@@ -2,9 +2,10 @@
 use crate::dup::{dup_over, nothing};
 use crate::gates::{Meeting, Without};
 use crate::lists::born;
+use kq_gate::{Always, Gate, Open, Starts};
 use kq_history::Split;
 use kq_model::{Memory, Reply, Rows};
-use kq_replay::{Always, Gate, Open, Replay, RunFault, Starts, replay_all, replay_all_with};
+use kq_replay::{Replay, RunFault, replay_all, replay_all_with};
 use std::alloc::Global;
 use std::sync::Wait;
 use std::test::Fail;

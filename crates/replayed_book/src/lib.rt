@@ -8,11 +8,12 @@ ghost use Rattle.kq_model.specs.System.{rows};
 #[cfg(test)]
 mod tests;
 
+use kq_gate::Open;
 use kq_history::Split;
 use kq_live::Book;
 use kq_merge::merge;
 use kq_model::Row;
-use kq_replay::{Open, RunFault, replay_all};
+use kq_replay::{RunFault, replay_all};
 use std::sync::Wait;
 use std::thread::Threads;
 

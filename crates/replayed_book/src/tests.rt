@@ -1,11 +1,11 @@
 //! That the rows come, which no clause says.
 use crate::replayed_rows;
 use bitflags::Flags;
+use kq_gate::{Always, Open};
 use kq_live::{Book, live_run};
 use kq_merge::report_text;
 use kq_model::{Change, EvFlags, Event, Filter, Memory, Row, Series, Trace};
 use kq_replay::RunFault;
-use kq_serve::{Always, Open};
 use std::alloc::Global;
 use std::test::Fail;
 

@@ -7,7 +7,8 @@ ghost use Rattle.std.specs.Prelude.{◌≡◌, ◌^◌, ◌<◌, ◌≤◌, leng
 mod meeting;
 mod total;
 
-use kq_serve::{Always, Gate, Open, ServeError, Starts, serve};
+use kq_gate::{Always, Gate, Open, Starts};
+use kq_serve::{ServeError, serve};
 use meeting::Meeting;
 use std::alloc::Global;
 use std::io;

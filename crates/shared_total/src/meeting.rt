@@ -1,4 +1,4 @@
-use kq_serve::Gate;
+use kq_gate::Gate;
 use std::sync::atomic::AtomicU64;
 use std::sync::atomic::Ordering::SeqCst;
 use std::thread::yield_now;

@@ -1,5 +1,5 @@
 //! Gates that count the workers and hold them.
-use kq_serve::{Gate, Starts};
+use kq_gate::{Gate, Starts};
 use std::sync::atomic::AtomicU64;
 use std::sync::atomic::Ordering::SeqCst;
 use std::thread::yield_now;

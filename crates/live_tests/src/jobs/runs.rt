@@ -2,7 +2,8 @@
 ghost use Rattle.std.specs.Prelude.{◌≡◌, ◌*◌};
 
 use super::gates::{Counts, Meeting, Without};
-use kq_jobs::{Always, Gate, Jobs, Open, RunFault, Starts, run_all};
+use kq_gate::{Always, Gate, Open, Starts};
+use kq_jobs::{Jobs, RunFault, run_all};
 use kq_model::Memory;
 use std::alloc::Global;
 use std::process::Abort;

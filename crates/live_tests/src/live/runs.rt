@@ -1,8 +1,9 @@
 //! A trace that many threads run.
 use super::{TRIGGER, add, poll};
+use kq_gate::{Always, Gate, Open, Starts};
 use kq_live::{Book, live_run};
 use kq_model::{Event, Memory, Reply, Series, Trace};
-use kq_serve::{Always, Gate, Open, ServeError, Starts};
+use kq_serve::ServeError;
 use std::alloc::Global;
 use std::process::Abort;
 use std::sync::atomic::AtomicU64;
