@@ -17,67 +17,70 @@ use std::thread::Threads;
 /// How many workers there can be.
 pub const MOST_WORKERS: u32 = 256;
 
+/// What the workers of a run share.
+#[derive(Drop)]
+struct Run<'a, J, G, S> {
+    jobs: &'a J,
+    gate: &'a G,
+    starts: &'a S,
+    counter: &'a ClaimCounter,
+    /// How many workers there are.
+    workers: u32,
+}
+
 // Starts the workers from this one on, and then is worker 1. Each level starts one, has the next level run, and joins
 // its own; so those that were started are joined wherever a start is refused.
 fn run_from<J: Jobs + Sync, R: Threads + Wait + Sync, G: Gate + Sync, S: Starts>(
     rt: &R,
     alloc: Global,
-    jobs: &J,
-    gate: &G,
-    starts: &S,
-    counter: &ClaimCounter,
+    run: &Run<J, G, S>,
     mut seat: ClaimSeat,
     worker: u32,
-    workers: u32,
 ) -> Result<Vec<Option<J::Outcome>>, RunFault>
 where
     J::Outcome: Send,
-    requires seat { (seat.counter ≡ counter.now) × (seat.done ≡ false) }
-    requires parts { workers + 1 < seat.parts + worker }
-    requires count { counter.now.count ≡ J.count jobs.now }
-    requires workers { (2 ≤ worker) × (worker ≤ workers + 1) × (workers ≤ 256) }
-    ensures ok { IfOk result (λ v. FitSlots (J.gives jobs.now) (J.count jobs.now) v.items) }
-    ensures err { IfErr result (λ e. IsStartFault worker workers e) }
+    requires seat { (seat.counter ≡ run.now.counter.now) × (seat.done ≡ false) }
+    requires parts { run.now.workers + 1 < seat.parts + worker }
+    requires count { run.now.counter.now.count ≡ J.count run.now.jobs.now }
+    requires workers { (2 ≤ worker) × (worker ≤ run.now.workers + 1) × (run.now.workers ≤ 256) }
+    ensures ok { IfOk result (λ v. FitSlots (J.gives run.now.jobs.now) (J.count run.now.jobs.now) v.items) }
+    ensures err { IfErr result (λ e. IsStartFault worker run.now.workers e) }
 {
-    if worker > workers {
-        let mut slots = empty_slots(alloc, jobs)?;
-        let ran = work(alloc, jobs, gate, counter, seat, 1)?;
-        put_in(jobs, &mut slots, ran);
+    if worker > run.workers {
+        let mut slots = empty_slots(alloc, run.jobs)?;
+        let ran = work(alloc, run.jobs, run.gate, run.counter, seat, 1)?;
+        put_in(run.jobs, &mut slots, ran);
         return Ok(slots);
     }
-    if !starts.allow(worker) {
+    if !run.starts.allow(worker) {
         return Err(RunFault::Spawn);
     }
-    let theirs = counter.split(&mut seat);
+    let theirs = run.counter.split(&mut seat);
     thread::scope(
         thread::scope_env(),
         rt,
         |scope| -> Result<Vec<Option<J::Outcome>>, RunFault>
-            requires seat { (seat.counter ≡ counter.now) × (seat.done ≡ false) }
-            requires theirs { theirs.counter ≡ counter.now }
-            requires parts { workers < seat.parts + worker }
-            requires count { counter.now.count ≡ J.count jobs.now }
-            requires workers { (2 ≤ worker) × (worker ≤ workers) × (workers ≤ 256) }
+            requires seat { (seat.counter ≡ run.now.counter.now) × (seat.done ≡ false) }
+            requires theirs { theirs.counter ≡ run.now.counter.now }
+            requires parts { run.now.workers < seat.parts + worker }
+            requires count { run.now.counter.now.count ≡ J.count run.now.jobs.now }
+            requires workers { (2 ≤ worker) × (worker ≤ run.now.workers) × (run.now.workers ≤ 256) }
             ensures ok { IfOk result (λ v.
-                FitSlots (J.gives jobs.entry.now) (J.count jobs.entry.now) v.items) }
-            ensures err { IfErr result (λ e. IsStartFault worker workers e) }
+                FitSlots (J.gives run.entry.now.jobs.now) (J.count run.entry.now.jobs.now) v.items) }
+            ensures err { IfErr result (λ e. IsStartFault worker run.entry.now.workers e) }
         {
+            let Run {
+                jobs,
+                gate,
+                counter,
+                ..
+            } = *run;
             let Ok(child) = scope.spawn_with(WorkOf { jobs }, move || {
                 work(alloc, jobs, gate, counter, theirs, worker)
             }) else {
                 return Err(RunFault::Spawn);
             };
-            let others = run_from(
-                rt,
-                alloc,
-                jobs,
-                gate,
-                starts,
-                counter,
-                seat,
-                worker + 1,
-                workers,
-            );
+            let others = run_from(rt, alloc, run, seat, worker + 1);
             let ran = child.join(rt);
             let mut slots = others?;
             put_in(jobs, &mut slots, ran?);
@@ -109,7 +112,14 @@ where
     let count = jobs.len();
     let (counter, seat) = ClaimCounter::new(alloc, u64::from(count))?;
     let needed = workers.min(count).max(1);
-    let slots = run_from(rt, alloc, jobs, gate, starts, &counter, seat, 2, needed)?;
+    let run = Run {
+        jobs,
+        gate,
+        starts,
+        counter: &counter,
+        workers: needed,
+    };
+    let slots = run_from(rt, alloc, &run, seat, 2)?;
     let outcomes = in_order(alloc, jobs, slots)?;
     Ok(outcomes)
 }
