@@ -16,8 +16,7 @@ use Rattle.kq_model.specs.declared.why.Why.{Why}
 use Rattle.kq_model.specs.declared.why.Why.TheVariants.{NoProcess, UsedPid, NoDescriptor, UsedDescriptor, WrongKind, Absent, UsedFile, ClockBack, TooMany}
 use Rattle.kq_model.specs.Errno.{error_number}
 use Rattle.kq_model.specs.Spelling.{flags_data, integer, line_text, natural}
-use Rattle.kq_model.specs.Report.{call_count, calls_in, event_count, events_data, events_in, kevent_data, last_line, reply_line, report, row_data, row_lines}
-use Rattle.kq_model.specs.declared.row.Row.{Row}
+use Rattle.kq_model.specs.Report.{events_data, kevent_data, last_line, reply_line, row_data}
 use Rattle.kq_text.specs.Adds.{Adds}
 use Rattle.kq_merge.specs.EventsText.{before_flags, events_text}
 
@@ -136,41 +135,7 @@ events_ended later es i first out new past kept end =
     let closed : events_text later (drop i es) ≡ 93 ∷ [] = rw none refl in
     record { is = end.is ∙ ap (λ l. out ++ l) (sym closed) ∙ kept }
 
--- ---- rows
-
+-- a record that was only done has no line
 pub done_line : (place : ℕ) (old : List ℕ) → Adds old (reply_line place Done) old
 unfolding reply_line
 done_line place old = record { is = sym (append-nil old) }
-
-pub row_taken : (rs : List Row) (i : ℕ) (row : Row) (old new : List ℕ) → i < length rs → row ≡ get_or rs i row
-    → Adds old (reply_line row.at row.reply) new → new ++ row_lines (drop (i + 1) rs) ≡ old ++ row_lines (drop i rs)
-unfolding row_lines
-row_taken rs i row old new lt at is = rw (is.is, add-one, drop-cons rs i row, ← at) (simp append_assoc)
-
-pub calls_taken : (rs : List Row) (i : ℕ) (row : Row) → i < length rs → row ≡ get_or rs i row
-    → call_count (drop i rs) ≡ calls_in row.reply + call_count (drop (i + 1) rs)
-unfolding call_count
-calls_taken rs i row lt at = rw (add-one, drop-cons rs i row, ← at) refl
-
-pub events_taken : (rs : List Row) (i : ℕ) (row : Row) → i < length rs → row ≡ get_or rs i row
-    → event_count (drop i rs) ≡ events_in row.reply + event_count (drop (i + 1) rs)
-unfolding event_count
-events_taken rs i row lt at = rw (add-one, drop-cons rs i row, ← at) refl
-
--- nothing is left once every row was passed
-pub row_lines-end : (rs : List Row) (i : ℕ) → length rs ≤ i → row_lines (drop i rs) ≡ []
-unfolding row_lines
-row_lines-end rs i past = let none : drop i rs ≡ [] = drop_of_length-le rs past in rw none refl
-
-pub call_count-end : (rs : List Row) (i : ℕ) → length rs ≤ i → call_count (drop i rs) ≡ 0
-unfolding call_count
-call_count-end rs i past = let none : drop i rs ≡ [] = drop_of_length-le rs past in rw none refl
-
-pub event_count-end : (rs : List Row) (i : ℕ) → length rs ≤ i → event_count (drop i rs) ≡ 0
-unfolding event_count
-event_count-end rs i past = let none : drop i rs ≡ [] = drop_of_length-le rs past in rw none refl
-
-pub report-is : (rs : List Row) (records calls events : ℕ) (lines new : List ℕ) → lines ≡ row_lines rs → calls ≡ call_count rs → events ≡ event_count rs
-    → Adds lines (last_line calls events records) new → new ≡ report rs records
-unfolding report
-report-is rs records calls events lines new l c e end = rw (end.is, l, c, e) refl

@@ -1,17 +1,18 @@
 -- Round after round: no row is lost, and none stands before one that was taken.
-use Rattle.std.proofs.Common.{◌≡◌, ◌∙◌, ◌+◌, List, [], ◌++◌, length, refl, sym, ap, subst, arith, append_assoc, append-nil, length-append}
+use Rattle.std.proofs.Common.{◌≡◌, ◌∙◌, ◌+◌, ℕ, List, [], ◌++◌, length, refl, sym, ap, subst, arith, append_assoc, append-nil, length-append}
 use Rattle.std.specs.List.Sorted.{IsPermutation}
 use Rattle.std.proofs.lemmas.List.Sorted.{IsPermutation-append_right, IsPermutation-trans, length_permutation}
 use Rattle.kq_model.specs.declared.row.Row.{Row}
-use Rattle.kq_model.specs.Report.{call_count, event_count, row_lines}
+use Rattle.kq_model.specs.Report.{call_count, event_count, last_line, row_lines}
 use Rattle.kq_merge.specs.AtPlaces.{present}
-use Rattle.kq_merge.specs.ByPlace.{Precede}
-use Rattle.kq_merge.specs.Merged.{AreWrittenByPlace, IsRound}
+use Rattle.kq_merge.specs.ByPlace.{NeverFall, Precede}
+use Rattle.kq_merge.specs.Merged.{IsReportByPlace, IsRound}
 use Rattle.kq_merge.specs.Parts.{AreWritten}
 use Rattle.kq_merge.specs.Rounds.{IsRoundBehind, IsUnderWay}
 use Rattle.kq_merge.specs.Written.{Written, nothing_written, written}
 use Rattle.kq_merge.specs.declared.report.rounds.Writing.{Writing}
 use Rattle.kq_merge.proofs.Runs.{lead_all, lead_on}
+use Rattle.kq_merge.proofs.WrittenRows.{report-is}
 
 -- a round takes so many of the rows
 pub so_many : (all rows left : List Row) → IsRound all rows left → length rows + length left ≡ length all
@@ -33,17 +34,14 @@ round_more all before rows left later end so_far round = record {
 }
 
 -- with no row in a round, those that were taken are all
-pub last_round : (all before rows left : List Row) (text : Written) → IsRoundBehind all before rows left → rows ≡ [] → text ≡ written before
-    → AreWrittenByPlace all text
-last_round all before rows left text so_far none is =
+pub last_round : (all before rows left : List Row) → IsRoundBehind all before rows left → rows ≡ [] → IsPermutation all before × NeverFall before
+last_round all before rows left so_far none =
     let no_more : left ≡ [] = so_far.end none in
     let empty : rows ++ left ≡ [] = ap (λ r. r ++ left) none ∙ no_more in
     let whole : before ++ (rows ++ left) ≡ before = ap (λ r. before ++ r) empty ∙ append-nil before in
     let same : before ++ rows ≡ before = ap (λ r. before ++ r) none ∙ append-nil before in (
-      before,
       subst (IsPermutation all) whole so_far.same,
       lead_all before left no_more (subst (λ r. Precede r left) same so_far.first),
-      is,
     )
 
 -- nothing is written yet
@@ -69,8 +67,28 @@ gone_on all w next so_far text parts round = record {
   next = parts;
 }
 
+-- the same, where the round was put behind the text too
+pub gone_on_alone : (all : List Row) (w next : Writing) (so_far : IsUnderWay all w)
+    → next.text ≡ written ((so_far.put ++ so_far.behind) ++ present w.round.slots.items) → next.parts.items ≡ []
+    → IsRound w.round.left (present next.round.slots.items) next.round.left → IsUnderWay all next
+gone_on_alone all w next so_far text parts round =
+    let before = so_far.put ++ so_far.behind in
+    let slots = present w.round.slots.items in
+    let here = present next.round.slots.items in
+    record {
+      put = before ++ slots;
+      behind = [];
+      round = subst (λ l. IsRoundBehind all l here next.round.left) (sym (append-nil (before ++ slots)))
+          (round_more all before slots w.round.left here next.round.left so_far.round round);
+      done = text;
+      next = subst (AreWritten []) (sym parts) ([], refl, tt);
+    }
+
 -- with no row left, those that were taken are all of them
-pub all_gone : (all : List Row) (w : Writing) (so_far : IsUnderWay all w) (text : Written) → (present w.round.slots.items) ≡ [] → text ≡ written (so_far.put ++ so_far.behind)
-    → AreWrittenByPlace all text
-all_gone all w so_far text none is =
-    last_round all (so_far.put ++ so_far.behind) (present w.round.slots.items) w.round.left text so_far.round none is
+pub all_gone : (all : List Row) (w : Writing) (so_far : IsUnderWay all w) (records : ℕ) (text : Written) (whole : List ℕ)
+    → present w.round.slots.items ≡ [] → text ≡ written (so_far.put ++ so_far.behind)
+    → whole ≡ text.lines ++ last_line text.calls text.events records → IsReportByPlace all records whole
+all_gone all w so_far records text whole none is ended =
+    let before = so_far.put ++ so_far.behind in
+    let all_are = last_round all before (present w.round.slots.items) w.round.left so_far.round none in
+    (before, all_are.0, all_are.1, report-is before records text whole is ended)

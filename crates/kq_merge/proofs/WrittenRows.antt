@@ -1,6 +1,5 @@
 -- A report that is written row by row.
-use native.Mathlib.Numerals.{unary_clauses}
-use Rattle.std.proofs.Common.{◌≡◌, ◌∙◌, ◌+◌, ◌*◌, ◌<◌, ◌≤◌, ◌++◌, ℕ, List, [], ◌∷◌, length, codes, drop, get_or, refl, ap, ap₂, arith, rules, add-one, append-nil, append_assoc, drop-cons, drop_of_length-le, length-append}
+use Rattle.std.proofs.Common.{◌≡◌, ◌∙◌, ◌+◌, ◌*◌, ◌<◌, ◌≤◌, ◌++◌, ℕ, List, [], ◌∷◌, length, codes, refl, sym, ap, ap₂, arith, rules, append-nil, append_assoc, length-append}
 use Rattle.serde_json.specs.Data.{Data}
 use Rattle.serde_json.specs.Written.{compact_text}
 use Rattle.kq_model.specs.declared.reply.Reply.{Reply}
@@ -9,9 +8,8 @@ use Rattle.kq_model.specs.declared.row.Row.{Row}
 use Rattle.kq_model.specs.Errno.{error_number}
 use Rattle.kq_model.specs.Report.{call_count, calls_in, event_count, events_data, events_in, last_line, reply_line, report, row_data, row_lines}
 use Rattle.kq_model.specs.Spelling.{line_text, natural}
-use Rattle.kq_model.specs.System.{row_of}
 use Rattle.kq_text.specs.Adds.{Adds}
-use Rattle.kq_merge.specs.Written.{Written, nothing_written, with_reply, written}
+use Rattle.kq_merge.specs.Written.{Written, nothing_written, with_part, with_reply, written}
 
 -- ---- a reply that counts as a call has a line, so there are no more calls than bytes
 
@@ -39,48 +37,47 @@ calls-in-lines at r calls more old new added is within =
     let longer : length new ≡ length old + length (reply_line at r) = ap length added.is ∙ length-append old (reply_line at r) in
     omega (arith, longer, is, within, calls-in-line at r)
 
--- ---- one row after the other
+-- ---- rows one behind the other
 
-unfoldable pub with_rows : List Row → Written → Written
-with_rows [] w = w
-with_rows (row ∷ rest) w = with_rows rest (with_reply row.at row.reply w)
+lines-behind : (rows later : List Row) → row_lines (rows ++ later) ≡ row_lines rows ++ row_lines later
+unfolding row_lines
+lines-behind [] later = refl
+lines-behind (row ∷ rows) later =
+    ap (λ l. reply_line row.at row.reply ++ l) (lines-behind rows later)
+    ∙ sym (append_assoc (reply_line row.at row.reply) (row_lines rows) (row_lines later))
 
-pub with_rows-step : (rs : List Row) (i : ℕ) (row : Row) (w : Written) → i < length rs → row ≡ get_or rs i row
-    → with_rows (drop (i + 1) rs) (with_reply row.at row.reply w) ≡ with_rows (drop i rs) w
-unfolding with_rows
-with_rows-step rs i row w lt at = rw (add-one, drop-cons rs i row, ← at) refl
+calls-behind : (rows later : List Row) → call_count (rows ++ later) ≡ call_count rows + call_count later
+unfolding call_count
+calls-behind [] later = omega arith
+calls-behind (row ∷ rows) later = omega (arith, calls-behind rows later)
 
-pub with_rows-end : (rs : List Row) (i : ℕ) (w : Written) → length rs ≤ i → with_rows (drop i rs) w ≡ w
-unfolding with_rows
-with_rows-end rs i w past = let none : drop i rs ≡ [] = drop_of_length-le rs past in rw none refl
+events-behind : (rows later : List Row) → event_count (rows ++ later) ≡ event_count rows + event_count later
+unfolding event_count
+events-behind [] later = omega arith
+events-behind (row ∷ rows) later = omega (arith, events-behind rows later)
 
--- what a record that was only done leaves as it was
-pub with_row_of : (at : ℕ) (r : Reply) (rest : List Row) (w : Written) → with_rows (row_of at r ++ rest) w ≡ with_rows rest (with_reply at r w)
-unfolding row_of with_rows reply_line calls_in events_in
-with_row_of at Done rest w = rw (append-nil w.lines) (simp unary_clauses refl)
-with_row_of at (Events es) rest w = refl
-with_row_of at (Failed e) rest w = refl
-with_row_of at (Impossible why) rest w = refl
+pub written-behind : (rows later : List Row) → written (rows ++ later) ≡ with_part (written rows) (written later)
+written-behind rows later =
+    ap (λ (l : List ℕ). record { lines = l; calls = call_count (rows ++ later); events = event_count (rows ++ later) }) (lines-behind rows later)
+    ∙ ap₂ (λ (c e : ℕ). record { lines = row_lines rows ++ row_lines later; calls = c; events = e }) (calls-behind rows later) (events-behind rows later)
 
--- ---- what has come together at the end
+pub nothing_is : nothing_written ≡ written []
+unfolding row_lines call_count event_count
+nothing_is = refl
 
-pub all-written : (rs : List Row) (w : Written) → with_rows rs w
-    ≡ record { lines = w.lines ++ row_lines rs; calls = w.calls + call_count rs; events = w.events + event_count rs }
-unfolding with_rows row_lines call_count event_count
-all-written [] w = rw (append-nil w.lines) (simp unary_clauses refl)
-all-written (row ∷ rest) w =
-    all-written rest (with_reply row.at row.reply w)
-    ∙ ap (λ (l : List ℕ). record { lines = l; calls = w.calls + calls_in row.reply + call_count rest; events = w.events + events_in row.reply + event_count rest })
-    (append_assoc w.lines (reply_line row.at row.reply) (row_lines rest))
-    ∙ ap₂ (λ (c e : ℕ). record { lines = w.lines ++ (reply_line row.at row.reply ++ row_lines rest); calls = c; events = e })
-    (omega arith) (omega arith)
+one_row : (before : List Row) (row : Row) → with_part (written before) (written (row ∷ [])) ≡ with_reply row.at row.reply (written before)
+unfolding row_lines call_count event_count
+one_row before row =
+    ap (λ (l : List ℕ). record { lines = row_lines before ++ l; calls = call_count before + (calls_in row.reply + 0); events = event_count before + (events_in row.reply + 0) })
+    (append-nil (reply_line row.at row.reply))
+    ∙ ap₂ (λ (c e : ℕ). record { lines = row_lines before ++ reply_line row.at row.reply; calls = c; events = e }) (omega arith) (omega arith)
 
-from-zero : (n : ℕ) → 0 + n ≡ n
-from-zero n = omega arith
+-- one row more is written
+pub row_more : (before : List Row) (row : Row) (w : Written) → w ≡ written before → with_reply row.at row.reply w ≡ written (before ++ row ∷ [])
+row_more before row w done =
+    ap (with_reply row.at row.reply) done ∙ sym (written-behind before (row ∷ []) ∙ one_row before row)
 
-pub written-is : (rs : List Row) (w : Written) → w ≡ with_rows rs nothing_written → w ≡ written rs
-written-is rs w all = all ∙ all-written rs nothing_written
-    ∙ ap₂ (λ (c e : ℕ). record { lines = row_lines rs; calls = c; events = e }) (from-zero (call_count rs)) (from-zero (event_count rs))
+-- ---- the whole text
 
 pub report-is : (rs : List Row) (records : ℕ) (w : Written) (text : List ℕ) → w ≡ written rs
     → text ≡ w.lines ++ last_line w.calls w.events records → text ≡ report rs records

@@ -1,18 +1,13 @@
--- What is written of rows that are merged meanwhile.
+-- Rows that are taken round after round, and their report.
 use Rattle.std.specs.Prelude.{◌≡◌, ℕ, List, [], ◌++◌}
 use Rattle.std.specs.List.Sorted.{IsPermutation}
 use Rattle.kq_model.specs.declared.row.Row.{Row}
 use Rattle.kq_model.specs.Report.{report}
 use Rattle.kq_merge.specs.ByPlace.{NeverFall, Precede}
-use Rattle.kq_merge.specs.Written.{Written, written}
 
 -- these rows are the next ones, and those are left: none of all rows is lost, and with no next one none is left
 abbrev pub IsRound : List Row → List Row → List Row → Type 0
 IsRound all rows left = IsPermutation all (rows ++ left) × Precede rows left × (rows ≡ [] → left ≡ [])
-
--- all these rows, each once, were written by place
-abbrev pub AreWrittenByPlace : List Row → Written → Type 0
-AreWrittenByPlace all text = (rows : List Row) × IsPermutation all rows × NeverFall rows × (text ≡ written rows)
 
 -- the report of all these rows, each once, by place
 abbrev pub IsReportByPlace : List Row → ℕ → List ℕ → Type 0

@@ -7,6 +7,8 @@ mod report;
 mod rows_ahead;
 mod run;
 
-pub use merging::{copied, merge};
-pub use report::{ReportText, report_by_place, report_text, report_text_with};
+pub use merging::merge;
+pub use report::{
+    ReportText, calls_in, events_in, put_counts, put_reply, report_by_place, report_text,
+};
 pub use rows_ahead::Merging;

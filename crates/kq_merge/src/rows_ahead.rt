@@ -8,13 +8,18 @@ ghost use Rattle.kq_merge.specs.ByPlace.{NeverFall, rows_in};
 ghost use Rattle.kq_merge.specs.Merged.{IsRound};
 ghost use Rattle.kq_model.specs.declared.row.Row.{Row};
 
-use crate::merging::runs_of;
-use crate::placing::Places;
-use crate::run::Run;
+use crate::placing::{Places, have_no_row, push_rows};
+use crate::run::{Run, runs_of};
 use kq_model::{Memory, Row, Rows};
 use std::alloc::Global;
 use std::collections::VecDeque;
 use std::marker::Model;
+
+/// No round has more places: its rows are a few megabytes.
+pub const MOST_PLACES: u32 = 131_072;
+
+/// The rounds of one thread have no fewer.
+const LEAST_PLACES: u32 = 2_048;
 
 /// Rows in runs, which are put in order as they are taken.
 #[derive(Drop)]
@@ -41,21 +46,31 @@ pub struct Round {
 
 impl Merging {
     /// All rows of these kqueues and the plain rows, each once. The rows of each kqueue, and the plain ones, stand by
-    /// place already. No row is copied.
-    pub fn of(alloc: Global, kqueues: Vec<Rows>, plain: Vec<Row>) -> Result<Self, Memory>
+    /// place already. Rows of kqueues move; the plain ones are copied.
+    pub fn of(alloc: Global, kqueues: Vec<Rows>, plain: &[Row]) -> Result<Self, Memory>
         requires kqueues { All (λ kqueue. NeverFall kqueue.rows) kqueues.items }
-        requires plain { NeverFall plain.items }
-        ensures { IfOk result (λ rows. rows ≡ rows_in kqueues.items plain.items) }
+        requires plain { NeverFall plain.now }
+        ensures { IfOk result (λ rows. rows ≡ rows_in kqueues.items plain.now) }
     {
         let runs = runs_of(alloc, kqueues, plain)?;
-        Ok(Merging {
-            runs: Vec::from(runs),
-        })
+        Ok(Merging { runs })
     }
 
-    /// How many runs there are, or u32's most where there are more.
-    pub(crate) fn run_count(&self) -> u32 {
-        u32::try_from(self.runs.len()).unwrap_or(u32::MAX)
+    /// These rows, which stand by place already. None is copied.
+    pub fn one(alloc: Global, rows: Vec<Row>) -> Result<Self, Memory>
+        requires { NeverFall rows.items }
+        ensures { IfOk result (λ all. all ≡ rows.items) }
+    {
+        let mut runs = Vec::new(alloc);
+        runs.push(Run::from_vec(rows)).map_err(|_| Memory)?;
+        Ok(Merging { runs })
+    }
+
+    /// How many places the next round has where one thread takes it and uses it: one for each run, so few that its rows
+    /// are still near, but not so few that looking at each run for each round costs more than that.
+    pub(crate) fn places_alone(&self) -> u32 {
+        let runs = u32::try_from(self.runs.len()).unwrap_or(MOST_PLACES);
+        runs.clamp(LEAST_PLACES, MOST_PLACES)
     }
 
     /// How many rows there are, or usize's most where there are more.
@@ -65,6 +80,23 @@ impl Merging {
             count = count.saturating_add(run.len());
         }
         count
+    }
+
+    /// All rows, each once, by place.
+    pub(crate) fn into_rows(self, alloc: Global) -> Result<Vec<Row>, Memory>
+        ensures same { IfOk result (λ rows. IsPermutation self rows.items) }
+        ensures by_place { IfOk result (λ rows. NeverFall rows.items) }
+    {
+        let mut rows = Vec::with_capacity(alloc, self.row_count()).map_err(|_| Memory)?;
+        let places = self.places_alone();
+        let mut round = self.next_round(alloc, places)?;
+        'rounds: while !have_no_row(round.slots.as_slice()) {
+            let Round { slots, left } = round;
+            push_rows(&mut rows, slots)?;
+            let places = left.places_alone();
+            round = left.next_round(alloc, places)?;
+        }
+        Ok(rows)
     }
 
     /// Takes the rows of the places that come first, of no more places than so many; none only where none is left.

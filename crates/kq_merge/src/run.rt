@@ -1,12 +1,12 @@
-ghost use Rattle.std.specs.Prelude.{◌≡◌, ◌↔◌, [], ◌∷◌, ◌++◌, ◌≤◌, ◌<◌, IfNone, IfOk, IfSome, IsTrue, OnOk};
-ghost use Rattle.std.specs.List.{All};
-ghost use Rattle.std.specs.List.Sorted.{IsPermutation};
+//! Rows whose places never fall, and the runs of many kqueues.
+
+ghost use Rattle.std.specs.Prelude.{◌≡◌, ◌↔◌, [], ◌∷◌, ◌≤◌, ◌<◌, IfNone, IfOk, IfSome, IsTrue, OnOk};
+ghost use Rattle.std.specs.List.{All, flat_map};
 ghost use Rattle.kq_merge.specs.AtPlaces.{AreTaken, IsFirstPlace};
-ghost use Rattle.kq_merge.specs.ByPlace.{NeverFall};
-ghost use Rattle.kq_merge.specs.Joined.{goes_first};
+ghost use Rattle.kq_merge.specs.ByPlace.{NeverFall, rows_in};
 
 use crate::placing::Places;
-use kq_model::{Memory, Row};
+use kq_model::{Memory, Row, Rows};
 use std::alloc::Global;
 use std::collections::VecDeque;
 use std::marker::Model;
@@ -31,15 +31,6 @@ impl Model for Run {
 }
 
 impl Run {
-    /// No row.
-    pub fn empty(alloc: Global) -> Self
-        ensures { result ≡ [] }
-    {
-        Run {
-            rows: VecDeque::new(alloc),
-        }
-    }
-
     pub fn from_vec(rows: Vec<Row>) -> Self
         requires { NeverFall rows.items }
         ensures { result ≡ rows.items }
@@ -47,14 +38,6 @@ impl Run {
         Run {
             rows: VecDeque::from(rows),
         }
-    }
-
-    pub fn into_vec(self) -> Vec<Row>
-        ensures same { result.items ≡ self }
-        ensures by_place { NeverFall result.items }
-    {
-        let Run { rows } = self;
-        Vec::from(rows)
     }
 
     /// How many rows it has.
@@ -103,45 +86,32 @@ impl Run {
         }
         Ok(())
     }
-
-    /// Whether the next row is this run's, of two at one place too.
-    fn goes_first(&self, other: &Run) -> bool
-        ensures { result ≡ goes_first self.now other.now }
-    {
-        match (self.rows.front(), other.rows.front()) {
-            (Some(row), Some(other_row)) => row.at <= other_row.at,
-            (row, _) => row.is_some(),
-        }
-    }
 }
 
-/// One run of the rows of two. Where one has none, it is the other, and no row moves.
-pub fn join(alloc: Global, mut first: Run, mut second: Run) -> Result<Run, Memory>
-    ensures { IfOk result (λ run. IsPermutation (first ++ second) run) }
+/// A run of each kqueue, in their order, and behind them one of copies of the plain rows.
+pub fn runs_of(alloc: Global, kqueues: Vec<Rows>, plain: &[Row]) -> Result<Vec<Run>, Memory>
+    requires kqueues { All (λ kqueue. NeverFall kqueue.rows) kqueues.items }
+    requires plain { NeverFall plain.now }
+    ensures { IfOk result (λ runs. flat_map (λ run. run) runs.items ≡ rows_in kqueues.items plain.now) }
 {
-    if first.rows.is_empty() {
-        return Ok(second);
+    let room = kqueues.len().saturating_add(1);
+    let mut runs = Vec::with_capacity(alloc, room).map_err(|_| Memory)?;
+    for kqueue in kqueues {
+        let run = Run::from_vec(kqueue.rows.into_vec());
+        runs.push(run).map_err(|_| Memory)?;
     }
-    if second.rows.is_empty() {
-        return Ok(first);
-    }
-    let room = first.rows.len().saturating_add(second.rows.len());
-    let mut rows = VecDeque::with_capacity(alloc, room).map_err(|_| Memory)?;
-    while let Some(row) = take_earliest(&mut first, &mut second) {
-        rows.push_back(row).map_err(|_| Memory)?;
-    }
-    Ok(Run { rows })
+    let run = Run::from_vec(copied(alloc, plain)?);
+    runs.push(run).map_err(|_| Memory)?;
+    Ok(runs)
 }
 
-/// Takes the row of the earliest place out of two runs; of two at one place, that of the first.
-pub fn take_earliest(first: &mut Run, second: &mut Run) -> Option<Row>
-    ensures taken { IfSome result (λ row. IsPermutation (first.old ++ second.old) (row ∷ (first.new ++ second.new))) }
-    ensures earliest { IfSome result (λ row. All (λ later. row.at ≤ later.at) (first.new ++ second.new)) }
-    ensures none { IfNone result ((first.old ++ second.old ≡ []) × (first.new ++ second.new ≡ [])) }
+/// Copies of these rows.
+fn copied(alloc: Global, rows: &[Row]) -> Result<Vec<Row>, Memory>
+    ensures { IfOk result (λ copies. copies.items ≡ rows.now) }
 {
-    if first.goes_first(second) {
-        first.rows.pop_front()
-    } else {
-        second.rows.pop_front()
+    let mut copies = Vec::with_capacity(alloc, rows.len()).map_err(|_| Memory)?;
+    for row in rows {
+        copies.push(row.copy()?).map_err(|_| Memory)?;
     }
+    Ok(copies)
 }

@@ -4,27 +4,21 @@ ghost use Rattle.std.specs.Prelude.{◌≡◌, ◌+◌, ◌++◌, [], IfOk, List
 ghost use Rattle.std.specs.Thread.{IsSync};
 ghost use Rattle.kq_model.specs.declared.row.Row.{Row};
 ghost use Rattle.kq_merge.specs.AtPlaces.{present};
-ghost use Rattle.kq_merge.specs.Merged.{AreWrittenByPlace, IsRound};
+ghost use Rattle.kq_merge.specs.Merged.{IsReportByPlace, IsRound};
 ghost use Rattle.kq_merge.specs.Parts.{AreWritten};
 ghost use Rattle.kq_merge.specs.Rounds.{IsUnderWay};
 ghost use Rattle.kq_merge.specs.Written.{written};
 
-use super::parts::{Part, put_behind};
-use super::slots::{have_no_row, parts_in, with_slots};
+use super::parts::{Part, parts_in, put_behind, with_slots};
 use super::text::ReportText;
-use crate::rows_ahead::{Merging, Round};
+use crate::placing::have_no_row;
+use crate::rows_ahead::{MOST_PLACES, Merging, Round};
 use kq_model::{Memory, Row};
 use std::alloc::Global;
 use std::thread::{Threads, join};
 
 /// The first round has no more places, since nothing is written while it is taken.
 const FIRST_PLACES: u32 = 8_192;
-
-/// None has more: its rows are a few megabytes.
-const MOST_PLACES: u32 = 131_072;
-
-/// The rounds of one thread have no fewer.
-const LEAST_PLACES: u32 = 2_048;
 
 /// A report that is being written.
 #[derive(Drop)]
@@ -40,24 +34,58 @@ pub struct Writing {
 }
 
 impl Writing {
-    fn start(alloc: Global, rows: Merging) -> Result<Self, Memory>
+    /// Takes the first round, for so many threads.
+    fn start(alloc: Global, rows: Merging, threads: u32) -> Result<Self, Memory>
         ensures { IfOk result (IsUnderWay rows) }
     {
-        let round = rows.next_round(alloc, FIRST_PLACES)?;
+        let text = ReportText::with_room(alloc, rows.row_count())?;
+        let most = if threads < 2 {
+            rows.places_alone()
+        } else {
+            FIRST_PLACES
+        };
+        let round = rows.next_round(alloc, most)?;
         Ok(Writing {
-            text: ReportText::new(alloc),
+            text,
             parts: Vec::new(alloc),
             spent: Vec::new(alloc),
             round,
         })
     }
 
-    /// Puts the parts behind the text, and meanwhile writes the round and takes the next one.
+    /// Writes the round behind the text, and then takes the next one.
+    fn next_alone(self, alloc: Global) -> Result<Self, Memory>
+        ensures under_way { (all : List Row) → IsUnderWay all self → IfOk result (IsUnderWay all) }
+        ensures fewer { IfOk result (λ next. length (present next.round.slots.items) + length next.round.left
+            ≡ length self.round.left) }
+    {
+        let Writing {
+            text,
+            parts,
+            round: Round { slots, left },
+            ..
+        } = self;
+        let text = with_slots(put_behind(text, parts)?, slots.as_slice())?;
+        let most = left.places_alone();
+        let round = left.next_round(alloc, most)?;
+        Ok(Writing {
+            text,
+            parts: Vec::new(alloc),
+            spent: Vec::new(alloc),
+            round,
+        })
+    }
+
+    /// By two threads or more, of which one puts the parts behind the text while the others write the round and take
+    /// the next one; else alone.
     fn next<R: AllocGlobal + Threads + Sync>(self, rt: &R, threads: u32) -> Result<Self, Memory>
         ensures under_way { (all : List Row) → IsUnderWay all self → IfOk result (IsUnderWay all) }
         ensures fewer { IfOk result (λ next. length (present next.round.slots.items) + length next.round.left
             ≡ length self.round.left) }
     {
+        if threads < 2 {
+            return self.next_alone(rt.alloc());
+        }
         let Writing {
             text,
             parts,
@@ -70,11 +98,12 @@ impl Writing {
         { put_behind(text, parts) };
         let now = slots.as_slice();
         let most = places_behind(now);
+        let writers = threads - 1;
         let write_and_take = move || -> (Result<Vec<Part>, Memory>, Result<Round, Memory>)
             requires { IsSync R.row }
             ensures { IfOk result.0 (λ parts. AreWritten (present now.entry.now) parts.items)
                 × IfOk result.1 (λ round. IsRound left (present round.slots.items) round.left) }
-        { write_and_take(rt, now, spent, left, most, threads) };
+        { write_and_take(rt, now, spent, left, most, writers) };
         let (text, (parts, round)) = join(rt, put, write_and_take);
         Ok(Writing {
             text: text?,
@@ -137,44 +166,22 @@ fn take_and_let_go<R: AllocGlobal + Threads + Sync>(
     round
 }
 
-/// The places of a round of one thread, one for each kqueue that has rows: few, so that what is written was just taken,
-/// but not so few that looking at each kqueue for each round costs more than that.
-fn places_alone(left: &Merging) -> u32 {
-    left.run_count().clamp(LEAST_PLACES, MOST_PLACES)
-}
-
-/// The lines of all rows by place, and what the last line counts of them, by the calling thread.
-fn text_alone(alloc: Global, rows: Merging) -> Result<ReportText, Memory>
-    ensures { IfOk result (AreWrittenByPlace rows) }
-{
-    let mut text = ReportText::with_room(alloc, rows.row_count())?;
-    let places = places_alone(&rows);
-    let mut round = rows.next_round(alloc, places)?;
-    'rounds: while !have_no_row(round.slots.as_slice()) {
-        text = with_slots(text, round.slots.as_slice())?;
-        let places = places_alone(&round.left);
-        round = round.left.next_round(alloc, places)?;
-    }
-    Ok(text)
-}
-
-/// The lines of all rows by place, and what the last line counts of them. By two threads or more, all but one of them
+/// The report of rows by place, which are put in order as they are written. By two threads or more, all but one of them
 /// write, while one puts the rows ahead in order, one puts together what was written before, and one lets go of the
-/// rows of that.
-pub fn text_by_place<R: AllocGlobal + Threads + Sync>(
+/// rows of that; by 0 and 1 the calling one does all. `rt` gives the memory and the threads; a thread that does not
+/// start is no error.
+pub fn report_by_place<R: AllocGlobal + Threads + Sync>(
     rt: &R,
     rows: Merging,
+    records: u64,
     threads: u32,
-) -> Result<ReportText, Memory>
-    ensures { IfOk result (AreWrittenByPlace rows) }
+) -> Result<Vec<u8>, Memory>
+    ensures { IfOk result (λ text. IsReportByPlace rows records text.items) }
 {
-    let alloc = rt.alloc();
-    if threads < 2 {
-        return text_alone(alloc, rows);
-    }
-    let mut writing = Writing::start(alloc, rows)?;
+    let mut writing = Writing::start(rt.alloc(), rows, threads)?;
     'rounds: while !have_no_row(writing.round.slots.as_slice()) {
-        writing = writing.next(rt, threads - 1)?;
+        writing = writing.next(rt, threads)?;
     }
-    put_behind(writing.text, writing.parts)
+    let text = put_behind(writing.text, writing.parts)?;
+    text.end(records)
 }

@@ -90,7 +90,7 @@ impl ReportText {
 
 /// How many answers of calls a reply is.
 #[tactic(auto, unfolding(kq_model::specs::Report::calls_in))]
-fn calls_in(reply: &Reply) -> u64
+pub fn calls_in(reply: &Reply) -> u64
     ensures value { result ≡ calls_in reply.now }
     ensures bound { result ≤ 1 }
 {
@@ -102,7 +102,7 @@ fn calls_in(reply: &Reply) -> u64
 
 /// How many events a reply has.
 #[tactic(auto, unfolding(kq_model::specs::Report::events_in))]
-fn events_in(reply: &Reply) -> u64
+pub fn events_in(reply: &Reply) -> u64
     ensures { result ≡ events_in reply.now }
 {
     match reply {

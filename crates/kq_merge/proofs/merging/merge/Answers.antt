@@ -1,3 +1,4 @@
+-- Rows that never fall stand in their only order by rising place.
 use Rattle.std.proofs.Common.{rules}
 use Rattle.std.specs.List.Sorted.{IsPermutation}
 use Rattle.kq_merge.specs.ByPlace.{rows_in}
@@ -7,6 +8,6 @@ use Rattle.kq_merge.proofs.merging.merge.Goals as goal
 pub returns-clause-only : goal.returns-clause-only
 returns-clause-only c =
     let all = rows_in c.args.kqueues.items c.args.plain.now in
-    let rows = c.into_vec.result.items in
+    let rows = c.in_ok-rows.rows.items in
     let same : IsPermutation all rows = search rules in
-    only_order all rows same c.into_vec.ensures.by_place
+    only_order all rows same c.in_ok-rows.ensures.by_place

@@ -1,6 +1,0 @@
-use Rattle.std.proofs.Common.{[], ◌∙◌}
-use Rattle.kq_merge.proofs.WrittenParts.{nothing_is}
-use Rattle.kq_merge.proofs.report.slots.text_in.Goals as goal
-
-pub returns : goal.returns
-returns c = c.with_slots.ensures [] (c.in_ok-text.ensures ∙ nothing_is)
