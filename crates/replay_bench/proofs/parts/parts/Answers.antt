@@ -10,5 +10,5 @@ of-requires-2-clause-kqueues g c = kqueues_never_fall c.in_ok-split.split c.in_o
 
 pub of-requires-2-clause-plain : goal.of-requires-2-clause-plain
 of-requires-2-clause-plain g c =
-    let are : c.in_ok-plain.plain.items ≡ plain_rows_of c.in_ok-split.split = search rules in
+    let are : c.plain_rows.result.now ≡ plain_rows_of c.in_ok-split.split = search rules in
     subst NeverFall (sym are) (plain_never_falls c.in_ok-split.split)
