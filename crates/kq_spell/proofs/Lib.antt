@@ -1,0 +1,9 @@
+pub mod Lines
+pub mod FlagBits
+pub mod Words
+pub mod MemberTexts
+pub mod Visible
+pub mod ReadsBack
+pub mod LineTexts
+pub mod EventAgain
+pub mod ReadAgain

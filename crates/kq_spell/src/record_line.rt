@@ -1,0 +1,267 @@
+//! A record on its line: its members in the order of their names' bytes.
+
+ghost use Rattle.std.specs.Prelude.{OnOk};
+ghost use Rattle.kq_model.specs.Spelling.{line_text, record_data};
+ghost use Rattle.kq_text.specs.Adds.{Adds};
+ghost use Rattle.kq_spell.specs.Again.{FitsRecord};
+
+use crate::members::Spelled::{Changes, Integer, Name, Number, Truth};
+use crate::members::put_line;
+use kq_model::{Event, Memory};
+
+/// Adds the line of a record.
+#[tactic(auto, unfolding(kq_model::specs::Spelling::record_data, kq_model::specs::Spelling::members_of, crate::specs::Again::FitsRecord))]
+pub fn put_record(out: &mut Vec<u8>, event: &Event) -> Result<(), Memory>
+    ensures text { OnOk result (Adds out.old.items (line_text (record_data event.now)) out.new.items) }
+    ensures fits { OnOk result (FitsRecord event.now) }
+{
+    match event {
+        Event::Proc { pid } => put_line(out, &[("op", Name("proc")), ("pid", Number(*pid))]),
+        Event::Fork { pid, child } => put_line(
+            out,
+            &[
+                ("child", Number(*child)),
+                ("op", Name("fork")),
+                ("pid", Number(*pid)),
+            ],
+        ),
+        Event::Exit { pid, status } => put_line(
+            out,
+            &[
+                ("op", Name("exit")),
+                ("pid", Number(*pid)),
+                ("status", Number(*status)),
+            ],
+        ),
+        Event::Kqueue { pid, fd } => put_line(
+            out,
+            &[
+                ("fd", Number(*fd)),
+                ("op", Name("kqueue")),
+                ("pid", Number(*pid)),
+            ],
+        ),
+        Event::Dup { pid, fd, to } => put_line(
+            out,
+            &[
+                ("fd", Number(*fd)),
+                ("op", Name("dup")),
+                ("pid", Number(*pid)),
+                ("to", Number(*to)),
+            ],
+        ),
+        Event::Close { pid, fd } => put_line(
+            out,
+            &[
+                ("fd", Number(*fd)),
+                ("op", Name("close")),
+                ("pid", Number(*pid)),
+            ],
+        ),
+        Event::Socket { pid, fd, rcv, snd } => put_line(
+            out,
+            &[
+                ("fd", Number(*fd)),
+                ("op", Name("socket")),
+                ("pid", Number(*pid)),
+                ("rcv", Number(*rcv)),
+                ("snd", Number(*snd)),
+            ],
+        ),
+        Event::Listen { pid, fd, backlog } => put_line(
+            out,
+            &[
+                ("backlog", Number(*backlog)),
+                ("fd", Number(*fd)),
+                ("op", Name("listen")),
+                ("pid", Number(*pid)),
+            ],
+        ),
+        Event::Arrive { pid, fd } => put_line(
+            out,
+            &[
+                ("fd", Number(*fd)),
+                ("op", Name("arrive")),
+                ("pid", Number(*pid)),
+            ],
+        ),
+        Event::Accept {
+            pid,
+            fd,
+            to,
+            rcv,
+            snd,
+        } => put_line(
+            out,
+            &[
+                ("fd", Number(*fd)),
+                ("op", Name("accept")),
+                ("pid", Number(*pid)),
+                ("rcv", Number(*rcv)),
+                ("snd", Number(*snd)),
+                ("to", Number(*to)),
+            ],
+        ),
+        Event::Connect { pid, fd } => put_line(
+            out,
+            &[
+                ("fd", Number(*fd)),
+                ("op", Name("connect")),
+                ("pid", Number(*pid)),
+            ],
+        ),
+        Event::Rx { pid, fd, n } => put_line(
+            out,
+            &[
+                ("fd", Number(*fd)),
+                ("n", Number(*n)),
+                ("op", Name("rx")),
+                ("pid", Number(*pid)),
+            ],
+        ),
+        Event::Tx { pid, fd, n } => put_line(
+            out,
+            &[
+                ("fd", Number(*fd)),
+                ("n", Number(*n)),
+                ("op", Name("tx")),
+                ("pid", Number(*pid)),
+            ],
+        ),
+        Event::Shut {
+            pid,
+            fd,
+            side,
+            error,
+        } => put_line(
+            out,
+            &[
+                ("error", Number(*error)),
+                ("fd", Number(*fd)),
+                ("op", Name("shut")),
+                ("pid", Number(*pid)),
+                ("side", Name(side.name())),
+            ],
+        ),
+        Event::Lowat { pid, fd, side, n } => put_line(
+            out,
+            &[
+                ("fd", Number(*fd)),
+                ("n", Number(*n)),
+                ("op", Name("lowat")),
+                ("pid", Number(*pid)),
+                ("side", Name(side.name())),
+            ],
+        ),
+        Event::Pipe { pid, rfd, wfd, cap } => put_line(
+            out,
+            &[
+                ("cap", Number(*cap)),
+                ("op", Name("pipe")),
+                ("pid", Number(*pid)),
+                ("rfd", Number(*rfd)),
+                ("wfd", Number(*wfd)),
+            ],
+        ),
+        Event::Read { pid, fd, n } => put_line(
+            out,
+            &[
+                ("fd", Number(*fd)),
+                ("n", Number(*n)),
+                ("op", Name("read")),
+                ("pid", Number(*pid)),
+            ],
+        ),
+        Event::Write { pid, fd, n } => put_line(
+            out,
+            &[
+                ("fd", Number(*fd)),
+                ("n", Number(*n)),
+                ("op", Name("write")),
+                ("pid", Number(*pid)),
+            ],
+        ),
+        Event::Exec { pid } => put_line(out, &[("op", Name("exec")), ("pid", Number(*pid))]),
+        Event::Sigset { pid, sig, ignore } => put_line(
+            out,
+            &[
+                ("ignore", Truth(*ignore)),
+                ("op", Name("sigset")),
+                ("pid", Number(*pid)),
+                ("sig", Number(*sig)),
+            ],
+        ),
+        Event::Sig { pid, sig } => put_line(
+            out,
+            &[
+                ("op", Name("sig")),
+                ("pid", Number(*pid)),
+                ("sig", Number(*sig)),
+            ],
+        ),
+        Event::File { file, size } => put_line(
+            out,
+            &[
+                ("file", Number(*file)),
+                ("op", Name("file")),
+                ("size", Integer(*size)),
+            ],
+        ),
+        Event::Open {
+            pid,
+            fd,
+            file,
+            mode,
+        } => put_line(
+            out,
+            &[
+                ("fd", Number(*fd)),
+                ("file", Number(*file)),
+                ("mode", Name(mode.name())),
+                ("op", Name("open")),
+                ("pid", Number(*pid)),
+            ],
+        ),
+        Event::Seek { pid, fd, offset } => put_line(
+            out,
+            &[
+                ("fd", Number(*fd)),
+                ("offset", Integer(*offset)),
+                ("op", Name("seek")),
+                ("pid", Number(*pid)),
+            ],
+        ),
+        Event::Truncate { file, size } => put_line(
+            out,
+            &[
+                ("file", Number(*file)),
+                ("op", Name("truncate")),
+                ("size", Integer(*size)),
+            ],
+        ),
+        Event::Note { file, note } => put_line(
+            out,
+            &[
+                ("file", Number(*file)),
+                ("note", Name(note.name())),
+                ("op", Name("note")),
+            ],
+        ),
+        Event::Clock { ns } => put_line(out, &[("ns", Integer(*ns)), ("op", Name("clock"))]),
+        Event::Kevent {
+            pid,
+            fd,
+            changes,
+            room,
+        } => put_line(
+            out,
+            &[
+                ("changes", Changes(changes.as_slice())),
+                ("fd", Number(*fd)),
+                ("op", Name("kevent")),
+                ("pid", Number(*pid)),
+                ("room", Number(*room)),
+            ],
+        ),
+    }
+}
