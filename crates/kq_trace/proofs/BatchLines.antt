@@ -1,20 +1,13 @@
--- The lines of a batch one by one, and the batches that all lines are cut into.
-use Rattle.std.proofs.Common.{Bor, Vec, Global, ◌≡◌, ℕ, suc, ◌+◌, ◌<◌, ◌≤◌, List, [], ◌∷◌, ◌++◌, length, map, drop, get_or, Ok, Err, refl, sym, ap, ◌∙◌, append_assoc, add-one, arith}
+-- The lines of a batch one by one.
+use Rattle.std.proofs.Common.{Bor, Vec, Global, ◌≡◌, ℕ, suc, ◌+◌, ◌<◌, ◌≤◌, List, [], ◌∷◌, ◌++◌, length, drop, get_or, Ok, Err, sym, ap, ◌∙◌, append_assoc, add-one, arith}
 use Rattle.std.proofs.Math.Seq.{drop-cons}
 use Rattle.std.proofs.lemmas.List.{drop_all, length-map, map-append}
-use Rattle.std.proofs.lemmas.List.Folds.{flat_map-map}
-use Rattle.std.specs.Prelude.{flat_map}
-use Rattle.std.specs.List.{AllZip}
-use Rattle.rayon.specs.Lists.{chunks_of}
-use Rattle.rayon.proofs.ListFacts.{AllZip-through}
-use Rattle.rayon.proofs.ToStd.{chunks_of-concat, slice-AllZip}
 use Rattle.kq_model.specs.declared.event.Event.{Event}
 use Rattle.kq_model.specs.declared.line_fault.LineFault.{LineFault}
 use Rattle.kq_model.specs.Limits.{most_records}
 use Rattle.kq_model.specs.Reading.{Bad, joined, read_records, record_on}
-use Rattle.kq_trace.specs.declared.batches.Batch.{Batch}
 use Rattle.kq_trace.specs.declared.batches.Batch.TheVariants as batch
-use Rattle.kq_trace.specs.Batches.{AreReadAs, IsReadAs}
+use Rattle.kq_trace.specs.Batches.{IsReadAs}
 use Rattle.kq_trace.specs.Rest.{texts}
 use Rattle.kq_trace.specs.Unread.{behind_events}
 use Rattle.kq_trace.proofs.TraceLines.{all_read, behind_more, none_yet}
@@ -27,12 +20,6 @@ line_cut all ahead later lines after line so_far cut added =
     let now = λ (l : Bor (List ℕ)). l.now in
     so_far ∙ ap (λ ls. texts lines ++ ls) cut ∙ sym (append_assoc (texts lines) (line.now ∷ []) later)
     ∙ ap (λ ls. ls ++ later) (sym (map-append now lines (line ∷ []))) ∙ ap (λ ls. texts ls ++ later) (sym added)
-
-pub few_texts : (lines : List (Bor (List ℕ))) (most : ℕ) → length lines ≤ most → length (texts lines) ≤ most
-few_texts lines most few = omega (arith, few, length-map lines (λ (line : Bor (List ℕ)). line.now))
-
-pub few_lines : (lines : List (Bor (List ℕ))) (first : ℕ) → first + length lines ≤ 2 + most_records → first + length (texts lines) ≤ 2 + most_records
-few_lines lines first few = omega (arith, few, length-map lines (λ (line : Bor (List ℕ)). line.now))
 
 -- ---- a line at a time
 
@@ -98,23 +85,4 @@ lines_read lines place events end within count so_far = (
   λ version first fits.
       all_read _ _ events.items version (so_far version first fits)
       (ap (λ ls. read_records version (first + place) (texts ls)) (drop_all place lines end)),
-)
-
--- ---- the batches of all lines
-
-texts_apart : (parts : List (List (Bor (List ℕ)))) → flat_map texts parts ≡ texts (flat_map (λ part. part) parts)
-texts_apart [] = refl
-texts_apart (part ∷ parts) =
-    ap (λ l. texts part ++ l) (texts_apart parts)
-    ∙ sym (map-append (λ (line : Bor (List ℕ)). line.now) part (flat_map (λ part. part) parts))
-
-pub cut_into : (parts : List (Bor (List (Bor (List ℕ))))) (lines : List (Bor (List ℕ))) (size : ℕ) (batches : List Batch) → 0 < size
-    → map (λ (part : Bor (List (Bor (List ℕ)))). part.now) parts ≡ chunks_of size lines
-    → AllZip (λ (part : Bor (List (Bor (List ℕ)))) (b : Batch). IsReadAs (texts part.now) b) parts batches → AreReadAs (texts lines) batches
-cut_into parts lines size batches some shown each = (
-  map texts (chunks_of size lines),
-  flat_map-map (λ (part : List (List ℕ)). part) texts (chunks_of size lines)
-      ∙ texts_apart (chunks_of size lines) ∙ ap texts (chunks_of-concat size lines some),
-  AllZip-through texts (λ (part : List (Bor (List ℕ))) (b : Batch). IsReadAs (texts part) b) IsReadAs (λ part b is. is) (chunks_of size lines) batches
-      (slice-AllZip parts (chunks_of size lines) shown (λ (part : List (Bor (List ℕ))) (b : Batch). IsReadAs (texts part) b) batches each),
 )

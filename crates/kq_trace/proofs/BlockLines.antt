@@ -2,9 +2,9 @@
 use Rattle.std.proofs.Common.{◌≡◌, ℕ, zero, suc, ◌<◌, Bool, true, false, ◌==◌, cond, List, [], ◌∷◌, ◌++◌, length, take, get_or, refl, sym, ap, ◌∙◌, append-nil, arith, length-append}
 use Rattle.std.proofs.lemmas.Bool.{eqb-true}
 use Rattle.kq_model.specs.Lines.{lines_among, lines_of, onto_first, pieces_of, without_empty_end}
+use Rattle.kq_spell.proofs.Lines.{some_piece}
 use Rattle.kq_trace.specs.Blocks.{EndsLine}
 use Rattle.kq_trace.specs.Rest.{lines_behind}
-use Rattle.kq_trace.proofs.Cuts.{some_piece}
 use Rattle.kq_trace.proofs.LinesCut.{no_lines}
 
 -- a text up to one of its line feeds

@@ -1,7 +1,8 @@
 -- A text is cut at its first line feed.
-use Rattle.std.proofs.Common.{◌≡◌, ℕ, zero, suc, ◌-◌, ◌<◌, Bool, true, false, ◌==◌, cond, List, [], ◌∷◌, length, take, drop, get_or, refl, arith}
+use Rattle.std.proofs.Common.{◌≡◌, ℕ, zero, suc, ◌-◌, ◌<◌, Bool, true, false, ◌==◌, List, [], ◌∷◌, length, take, drop, get_or, refl, arith}
 use Rattle.std.proofs.lemmas.Grind.{common_steps}
 use Rattle.kq_model.specs.Lines.{onto_first, pieces_of, without_empty_end, lines_among, lines_of}
+use Rattle.kq_spell.proofs.Lines.{keeps}
 use Rattle.kq_trace.specs.Rest.{lines_behind}
 
 -- no line feed stands below this place
@@ -27,29 +28,6 @@ pub uncut : (text : List ℕ) → NoneBelow text (length text) → pieces_of tex
 unfolding pieces_of onto_first
 uncut [] none = refl
 uncut (b ∷ bs) none = rw (not_true _ (none 0 (omega arith)), uncut bs (below_tail b bs (length bs) none)) refl
-
-some_onto : (b : ℕ) (pieces : List (List ℕ)) → (q : List ℕ) × (qs : List (List ℕ)) × (onto_first b pieces ≡ q ∷ qs)
-unfolding onto_first
-some_onto b [] = (b ∷ [], [], refl)
-some_onto b (piece ∷ pieces) = (b ∷ piece, pieces, refl)
-
-some_if : (c : Bool) (b : ℕ) (pieces : List (List ℕ)) → (q : List ℕ) × (qs : List (List ℕ)) × (cond c ([] ∷ pieces) (onto_first b pieces) ≡ q ∷ qs)
-some_if true b pieces = ([], pieces, refl)
-some_if false b pieces = some_onto b pieces
-
--- there is always a piece
-pub some_piece : (text : List ℕ) → (q : List ℕ) × (qs : List (List ℕ)) × (pieces_of text ≡ q ∷ qs)
-unfolding pieces_of
-some_piece [] = ([], [], refl)
-some_piece (b ∷ bs) = some_if (b == 10) b (pieces_of bs)
-
-keeps_at : (piece q : List ℕ) (qs : List (List ℕ)) → without_empty_end (piece ∷ q ∷ qs) ≡ piece ∷ without_empty_end (q ∷ qs)
-unfolding without_empty_end
-keeps_at [] q qs = refl
-keeps_at (b ∷ bs) q qs = refl
-
-pub keeps : (piece text : List ℕ) → without_empty_end (piece ∷ pieces_of text) ≡ piece ∷ without_empty_end (pieces_of text)
-keeps piece text = let some = some_piece text in rw some.2 (keeps_at piece some.0 some.1)
 
 pub first_cut : (text : List ℕ) (k : ℕ) → k < length text → NoneBelow text k → (get_or text k 0 == 10) ≡ true
     → lines_of text ≡ take k text ∷ lines_behind (drop (suc k) text)

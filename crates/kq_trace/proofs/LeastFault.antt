@@ -6,10 +6,10 @@ use Rattle.kq_model.specs.declared.event.Event.{Event}
 use Rattle.kq_model.specs.declared.line_fault.LineFault.{LineFault}
 use Rattle.kq_model.specs.Lines.{lines_among, lines_of}
 use Rattle.kq_model.specs.Reading.{Outcome, Good, Bad, behind_header, fault_of, fault_on, joined, read_lines, read_records, reading, record_on, version_on, with_event}
+use Rattle.kq_spell.proofs.Lines.{some_piece}
 use Rattle.kq_trace.specs.declared.fault.TraceError.{TraceError}
 use Rattle.kq_trace.specs.declared.fault.TraceError.TheVariants.{Memory as NoMemory, Bad as BadTrace}
 use Rattle.kq_trace.specs.Faults.{IsFault, IsFirstBad, IsLeastFault}
-use Rattle.kq_trace.proofs.Cuts.{some_piece}
 
 -- ---- one line
 

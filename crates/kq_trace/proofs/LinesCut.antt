@@ -2,9 +2,9 @@
 use Rattle.std.proofs.Common.{◌≡◌, ℕ, zero, suc, ◌<◌, Bool, true, false, ◌==◌, cond, List, [], ◌∷◌, ◌++◌, length, take, drop, get_or, refl, sym, ap, ◌∙◌, append_assoc, append-nil, arith}
 use Rattle.std.proofs.lemmas.List.{take-append-drop}
 use Rattle.kq_model.specs.Lines.{onto_first, pieces_of, without_empty_end}
+use Rattle.kq_spell.proofs.Lines.{some_piece}
 use Rattle.kq_trace.specs.Blocks.{EndsLine}
 use Rattle.kq_trace.specs.Rest.{lines_behind}
-use Rattle.kq_trace.proofs.Cuts.{some_piece}
 
 -- the pieces of a text that a line feed follows
 closed : List ℕ → List (List ℕ)

@@ -1,10 +1,10 @@
 -- The lines of a text, piece by piece, and the batches that they are read as.
 use denote.Ref.{Bor}
-use Rattle.std.proofs.Common.{Vec, Global, ◌≡◌, ℕ, suc, ◌+◌, ◌≤◌, List, [], ◌∷◌, ◌++◌, length, slice_get, Some, IfSome, refl, sym, ap, subst, ◌∙◌, append_assoc, append-nil, arith, length-append}
+use Rattle.std.proofs.Common.{Vec, Global, ◌≡◌, ℕ, ◌+◌, ◌≤◌, List, [], ◌∷◌, ◌++◌, length, map, refl, sym, ap, subst, ◌∙◌, append_assoc, append-nil, arith, length-append}
 use Rattle.std.proofs.lemmas.Grind.{flat_map-append}
-use Rattle.std.specs.Prelude.{flat_map}
+use Rattle.std.proofs.lemmas.List.Folds.{flat_map-map}
 use Rattle.std.specs.List.{AllZip}
-use Rattle.kq_jobs.specs.Outcomes.{AreOutcomes}
+use Rattle.rayon.proofs.ListFacts.{AllZip-through}
 use Rattle.kq_model.specs.declared.event.Event.{Event}
 use Rattle.kq_model.specs.Limits.{most_records}
 use Rattle.kq_model.specs.Reading.{Good, read_records}
@@ -33,20 +33,15 @@ pub all_cut : (all : List (List ℕ)) (pieces : List (Bor (List ℕ))) (rest : L
 all_cut all pieces rest none so_far =
     sym (so_far ∙ ap (λ t. lines_in pieces ++ lines_behind t) none ∙ ap (λ l. lines_in pieces ++ l) no_lines ∙ append-nil (lines_in pieces))
 
-each_read : (parts : List (List (List ℕ))) (batches : List Batch) → length batches ≡ length parts
-    → ((i : ℕ) (b : Batch) → slice_get batches i ≡ Some b → IfSome (slice_get parts i) (λ lines. IsReadAs lines b))
-    → AllZip IsReadAs parts batches
-each_read [] [] count each = tt
-each_read [] (b ∷ batches) count each = absurd (omega (arith, count))
-each_read (part ∷ parts) [] count each = absurd (omega (arith, count))
-each_read (part ∷ parts) (b ∷ batches) count each =
-    (each 0 b refl, each_read parts batches (omega (arith, count)) (λ i x found. each (suc i) x found))
-
-pub pieces_read : (all : List (List ℕ)) (parts : List (List (List ℕ))) (batches : List Batch)
-    → flat_map (λ part. part) parts ≡ all
-    → AreOutcomes (λ n batch. IfSome (slice_get parts n) (λ lines. IsReadAs lines batch)) (length parts) batches
-    → AreReadAs all batches
-pieces_read all parts batches cut are = (parts, cut, each_read parts batches are.count are.each)
+-- each piece is read as its batch
+pub pieces_read : (pieces : List (Bor (List ℕ))) (batches : List Batch)
+    → AllZip (λ (piece : Bor (List ℕ)) (b : Batch). IsReadAs (lines_behind piece.now) b) pieces batches → AreReadAs (lines_in pieces) batches
+pieces_read pieces batches each =
+    let lines = λ (piece : Bor (List ℕ)). lines_behind piece.now in (
+      map lines pieces,
+      flat_map-map (λ (part : List (List ℕ)). part) lines pieces,
+      AllZip-through lines (λ (piece : Bor (List ℕ)) (b : Batch). IsReadAs (lines_behind piece.now) b) IsReadAs (λ piece b is. is) pieces batches each,
+    )
 
 -- ---- batches that are gathered
 

@@ -1,13 +1,11 @@
 -- Lines that are read in parts are read as one list.
-use Rattle.std.proofs.Common.{Vec, Global, ◌≡◌, ℕ, suc, ◌+◌, ◌<◌, ◌≤◌, List, [], ◌∷◌, ◌++◌, length, Result, Ok, Err, refl, sym, ap, subst, ◌∙◌, append_assoc, append-nil, arith, length-append}
+use Rattle.std.proofs.Common.{◌≡◌, ℕ, suc, ◌+◌, List, [], ◌∷◌, ◌++◌, length, Result, Ok, Err, refl, sym, ap, subst, ◌∙◌, arith}
 use Rattle.std.specs.Prelude.{flat_map}
 use Rattle.std.specs.List.{AllZip}
 use Rattle.kq_model.specs.declared.event.Event.{Event}
 use Rattle.kq_model.specs.declared.line_fault.LineFault.{LineFault}
-use Rattle.kq_model.specs.Limits.{most_records}
 use Rattle.kq_model.specs.Reading.{Outcome, Good, Bad, joined, read_records, record_on, with_event}
 use Rattle.kq_trace.specs.declared.batches.Batch.{Batch}
-use Rattle.kq_trace.specs.declared.batches.Batch.TheVariants as batch
 use Rattle.kq_trace.specs.Batches.{AreReadAs, IsReadAs}
 use Rattle.kq_trace.specs.Unread.{behind_events}
 use Rattle.kq_trace.proofs.TraceLines.{behind_none}
@@ -66,25 +64,7 @@ pub counted : (version first : ℕ) (lines : List (List ℕ)) (v : ℕ) (events 
     → read_records version first lines ≡ Good v events → length events ≡ length lines
 counted version first lines v events is = subst (λ o. HasEvents o (length lines)) is (has_events version first lines)
 
--- ---- batches that are put together
-
--- Lines that are numbered from `first`: what was put together so far are the records on the first of them, and the batches ahead are those of the others.
-pub record IsPutTogether (first : ℕ) (lines : List (List ℕ)) (events : List Event) (ahead : List Batch) : Type 0 where
-  pub before : List (List ℕ)
-  pub behind : List (List ℕ)
-  pub cut : lines ≡ before ++ behind
-  pub good : (version : ℕ) → read_records version first before ≡ Good version events
-  pub read : AreReadAs behind ahead
-
-pub nothing_yet : (first : ℕ) (lines : List (List ℕ)) (events : List Event) (ahead : List Batch) → events ≡ [] → AreReadAs lines ahead → IsPutTogether first lines events ahead
-unfolding read_records
-nothing_yet first lines events ahead none read = record {
-  before = [];
-  behind = lines;
-  cut = refl;
-  good = λ version. ap (Good version) (sym none);
-  read = read;
-}
+-- ---- the batches ahead
 
 -- the next batch is that of the next lines
 pub record IsNextBatch (behind : List (List ℕ)) (b : Batch) (ahead : List Batch) : Type 0 where
@@ -105,70 +85,7 @@ next_of behind (part ∷ parts) b ahead cut each = record {
   read = (parts, refl, each.1);
 }
 
-module _ (first : ℕ) (lines : List (List ℕ)) (events : List Event) (b : Batch) (ahead : List Batch) (together : IsPutTogether first lines events (b ∷ ahead)) where
-  next : IsNextBatch together.behind b ahead
-  next = next_of together.behind together.read.0 b ahead together.read.1 together.read.2
-
-  before_and_part : (version : ℕ)
-      → read_records version first (together.before ++ next.part) ≡ behind_events events (read_records version (first + length together.before) next.part)
-  before_and_part version =
-      lines_followed version first together.before next.part
-      ∙ ap (λ o. followed_by o (read_records version (first + length together.before) next.part)) (together.good version)
-
-  whole : lines ≡ (together.before ++ next.part) ++ next.later
-  whole = together.cut ∙ ap (λ l. together.before ++ l) next.cut ∙ sym (append_assoc together.before next.part next.later)
-
-  in_all : length together.before + length next.part ≤ length lines
-  in_all =
-      let all : length lines ≡ length together.before + length next.part + length next.later =
-      ap length whole ∙ length-append (together.before ++ next.part) next.later
-      ∙ ap (λ n. n + length next.later) (length-append together.before next.part) in
-      omega (arith, all)
-
--- the records of the next batch go behind those so far
-pub put_behind : (first : ℕ) (lines : List (List ℕ)) (events : List Event) (more : Vec Event Global) (after : List Event) (ahead : List Batch)
-    → first + length lines ≤ 2 + most_records → IsPutTogether first lines events (batch.Records more ∷ ahead) → after ≡ events ++ more.items
-    → IsPutTogether first lines after ahead
-put_behind first lines events more after ahead few together added =
-    let n = next first lines events (batch.Records more) ahead together in
-    let fits : first + length together.before + length n.part ≤ 2 + most_records = omega (arith, few, in_all first lines events (batch.Records more) ahead together) in
-    record {
-      before = together.before ++ n.part;
-      behind = n.later;
-      cut = whole first lines events (batch.Records more) ahead together;
-      good = λ version. before_and_part first lines events (batch.Records more) ahead together version
-          ∙ ap (behind_events events) (n.here.1 version (first + length together.before) fits) ∙ ap (Good version) (sym added);
-      read = n.read;
-    }
-
--- where the next batch has a bad line, no line before it is bad, and its number is that of the line
-pub bad_next : (first : ℕ) (lines : List (List ℕ)) (events : List Event) (place : ℕ) (fault : LineFault) (ahead : List Batch)
-    → first + length lines ≤ 2 + most_records → IsPutTogether first lines events (batch.Bad place fault ∷ ahead)
-    → (first + length events + place < first + length lines) × ((version : ℕ) → read_records version first lines ≡ Bad (first + length events + place) fault)
-bad_next first lines events place fault ahead few together =
-    let n = next first lines events (batch.Bad place fault) ahead together in
-    let all = in_all first lines events (batch.Bad place fault) ahead together in
-    let fits : first + length together.before + length n.part ≤ 2 + most_records = omega (arith, few, all) in
-    let same : length events ≡ length together.before = counted 0 first together.before 0 events (together.good 0) in
-    let number : first + length together.before + place ≡ first + length events + place = omega (arith, same) in (
-      omega (arith, same, all, n.here.0),
-      λ version.
-          ap (read_records version first) (whole first lines events (batch.Bad place fault) ahead together)
-          ∙ lines_followed version first (together.before ++ n.part) n.later
-          ∙ ap (λ o. followed_by o (read_records version (first + length (together.before ++ n.part)) n.later))
-          (before_and_part first lines events (batch.Bad place fault) ahead together version
-          ∙ ap (behind_events events) (n.here.1 version (first + length together.before) fits))
-          ∙ ap (λ line. Bad line fault) number,
-    )
-
--- with no batch ahead, all lines are read
+-- with no batch ahead, no line is left
 pub no_part : (parts : List (List (List ℕ))) → AllZip IsReadAs parts [] → flat_map (λ part. part) parts ≡ []
 no_part [] each = refl
 no_part (part ∷ parts) each = absurd each
-
-pub all_put : (first : ℕ) (lines : List (List ℕ)) (events : List Event) (ahead : List Batch) → IsPutTogether first lines events ahead → ahead ≡ []
-    → (version : ℕ) → read_records version first lines ≡ Good version events
-all_put first lines events ahead together none version =
-    let each : AllZip IsReadAs together.read.0 [] = subst (AllZip IsReadAs together.read.0) none together.read.2 in
-    let empty : together.behind ≡ [] = sym together.read.1 ∙ no_part together.read.0 each in
-    ap (read_records version first) (together.cut ∙ ap (λ l. together.before ++ l) empty ∙ append-nil together.before) ∙ together.good version

@@ -1,5 +1,5 @@
 -- A trace, a line at a time.
-use Rattle.std.proofs.Common.{◌≡◌, ℕ, ◌+◌, ◌<◌, ◌≤◌, ◌^◌, List, [], ◌∷◌, ◌++◌, length, None, Some, Result, Ok, Err, refl, sym, ap, ◌∙◌, append_assoc, append-nil, arith}
+use Rattle.std.proofs.Common.{◌≡◌, ℕ, ◌+◌, ◌<◌, ◌≤◌, ◌^◌, List, [], ◌∷◌, ◌++◌, length, None, Result, Ok, Err, refl, sym, ap, ◌∙◌, append_assoc, append-nil, arith}
 use Rattle.std.proofs.lemmas.Bool.{lt-ltb, le-ltb}
 use Rattle.kq_model.specs.declared.event.Event.{Event}
 use Rattle.kq_model.specs.declared.line_fault.LineFault.{LineFault}
@@ -34,10 +34,6 @@ long_header line h = rw (lt-ltb (2 ^ 20) (length line) h) refl
 pub wrong_header : (line : List ℕ) → length line ≤ 2 ^ 20 → None ≡ header_version (json_of line) → version_on line ≡ Err Header
 unfolding version_on header_of
 wrong_header line short wrong = rw (le-ltb (2 ^ 20) (length line) short, sym wrong) refl
-
-pub right_header : (line : List ℕ) (version : ℕ) → length line ≤ 2 ^ 20 → Some version ≡ header_version (json_of line) → version_on line ≡ Ok version
-unfolding version_on header_of
-right_header line version short right = rw (le-ltb (2 ^ 20) (length line) short, sym right) refl
 
 -- ---- the first line
 

@@ -1,9 +1,9 @@
-pub mod Again
 pub mod Batches
 pub mod Blocks
 pub mod Faults
 pub mod Parts
+pub mod ReadFaults
 pub mod Rest
-pub mod Texts
-pub mod Told
+pub mod Sink
+pub mod Source
 pub mod Unread

@@ -13,13 +13,12 @@ use crate::part::Part;
 use crate::pieces::records_in;
 use kq_model::limits::MOST_RECORDS;
 use std::alloc::Global;
-use std::sync::Wait;
 use std::thread::Threads;
 
 /// The records on the lines of a block, of which the first has this number, by at most so many threads, of which the
 /// calling one is the first. On `Bad` that line is the first that has a fault; a thread that does not start is no
 /// error.
-pub fn part_of<R: AllocGlobal + Threads + Wait + Sync>(
+pub fn part_of<R: AllocGlobal + Threads + Sync>(
     rt: &R,
     number: u64,
     block: &[u8],

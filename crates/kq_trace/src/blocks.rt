@@ -2,14 +2,14 @@
 
 ghost use Rattle.std.specs.Prelude.{◌≡◌, [], IfErr, IfOk, OnOk};
 ghost use Rattle.kq_trace.specs.Blocks.{ArePut, EndsWith, HasNothing, HasRead, IsDrained, IsNextBlock, IsNoLine};
-ghost use Rattle.kq_trace.specs.declared.input_error.InputError.TheVariants as error;
+ghost use Rattle.kq_trace.specs.ReadFaults.{IsReadFault};
 
 use crate::chunk::Chunk;
 use crate::input_error::InputError;
+use crate::source::Source;
 use kq_model::Memory;
 use memchr::memchr;
 use std::alloc::Global;
-use std::io::Read;
 
 /// A block has so many bytes at least, but for the last one: enough that it is worth threads.
 const LEAST_BLOCK_BYTES: usize = 262_144;
@@ -20,7 +20,7 @@ const ENOUGH_BLOCK_BYTES: usize = 4_194_304;
 /// A block has this part of the bytes that came before it, so that not much is left to be told of behind the last one.
 const BLOCK_PART: usize = 8;
 
-/// Blocks of a text whose bytes come from an input, in order: each is whole lines, but for the last.
+/// Blocks of a text whose bytes come from a source, in order: each is whole lines, but for the last.
 #[derive(Drop)]
 pub struct Blocks {
     pub(crate) chunk: Chunk,
@@ -28,37 +28,29 @@ pub struct Blocks {
     pub(crate) tail: Vec<u8>,
     /// How many bytes came.
     taken: usize,
-    /// How many more may come.
-    pub(crate) left: usize,
     /// Whether all came.
     pub(crate) ended: bool,
 }
 
 impl Blocks {
-    /// Of an input that gave nothing yet, and gives no more bytes than so many.
-    pub fn new(alloc: Global, limit: usize) -> Result<Self, Memory>
-        ensures { IfOk result (HasNothing limit) }
+    /// Of a source that gave nothing yet.
+    pub fn new(alloc: Global) -> Result<Self, Memory>
+        ensures { IfOk result HasNothing }
     {
         Ok(Blocks {
             chunk: Chunk::new(alloc)?,
             tail: Vec::new(alloc),
             taken: 0,
-            left: limit,
             ended: false,
         })
     }
 
-    /// Puts the bytes that come next into the chunk: how many they are, and none only at the end. A read that fails, an
-    /// interrupted one too, and one byte too many are [`InputError::Read`].
-    fn read_on<I: Read>(&mut self, input: &mut I) -> Result<usize, InputError>
-        ensures read { IfOk result (HasRead (I.remaining input.old) (I.remaining input.new) self.old self.new) }
-        ensures fault { IfErr result (λ e. e ≡ error.Read) }
+    /// Puts the bytes that come next into the chunk: how many they are, and none only at the end.
+    fn read_on<S: Source>(&mut self, source: &mut S) -> Result<usize, InputError>
+        ensures read { IfOk result (HasRead (S.ahead source.old) (S.ahead source.new) self.old self.new) }
+        ensures fault { IfErr result (IsReadFault S.may_fail) }
     {
-        let count = self.chunk.read(input)?;
-        if self.left < count {
-            return Err(InputError::Read);
-        }
-        self.left -= count;
+        let count = self.chunk.read(source)?;
         self.taken = self.taken.saturating_add(count);
         self.ended = count == 0;
         Ok(count)
@@ -70,18 +62,18 @@ impl Blocks {
     }
 
     /// The next block, in place of what stood there; behind the last one it is empty. After an error nothing is known.
-    pub fn next<I: Read>(&mut self, input: &mut I, block: &mut Vec<u8>) -> Result<(), InputError>
-        requires { EndsWith self.old (I.remaining input.old) }
+    pub fn next<S: Source>(&mut self, source: &mut S, block: &mut Vec<u8>) -> Result<(), InputError>
+        requires { EndsWith self.old (S.ahead source.old) }
         ensures block { OnOk result
-            (IsNextBlock (I.remaining input.old) (I.remaining input.new) self.old self.new block.new.items) }
-        ensures ends { OnOk result (EndsWith self.new (I.remaining input.new)) }
-        ensures fault { IfErr result IsNoLine }
+            (IsNextBlock (S.ahead source.old) (S.ahead source.new) self.old self.new block.new.items) }
+        ensures ends { OnOk result (EndsWith self.new (S.ahead source.new)) }
+        ensures fault { IfErr result (IsNoLine S.may_fail) }
     {
         block.clear();
         block.append(&mut self.tail).map_err(|_| Memory)?;
         let least = self.least();
         'chunks: while !self.ended {
-            let count = self.read_on(input)?;
+            let count = self.read_on(source)?;
             if put(self.chunk.first(count), least, block, &mut self.tail)? {
                 return Ok(());
             }
@@ -90,13 +82,13 @@ impl Blocks {
     }
 
     /// Reads what is left, of which no block is made.
-    pub fn drain<I: Read>(&mut self, input: &mut I) -> Result<(), InputError>
-        requires { EndsWith self.old (I.remaining input.old) }
-        ensures drained { OnOk result (IsDrained (I.remaining input.old) (I.remaining input.new) self.old self.new) }
-        ensures fault { IfErr result IsNoLine }
+    pub fn drain<S: Source>(&mut self, source: &mut S) -> Result<(), InputError>
+        requires { EndsWith self.old (S.ahead source.old) }
+        ensures drained { OnOk result (IsDrained (S.ahead source.old) (S.ahead source.new) self.old self.new) }
+        ensures fault { IfErr result (IsNoLine S.may_fail) }
     {
         'chunks: while !self.ended {
-            let _ = self.read_on(input)?;
+            let _ = self.read_on(source)?;
         }
         self.tail.clear();
         Ok(())

@@ -1,13 +1,14 @@
 //! Bytes that one read takes.
 
 ghost use Rattle.std.specs.Prelude.{◌≡◌, ◌≤◌, ◌<◌, IfErr, IfOk, length, take};
-ghost use Rattle.std.specs.Io.KnownBytes.{Consumes, IsAtEnd};
-ghost use Rattle.kq_trace.specs.declared.input_error.InputError.TheVariants as error;
+ghost use Rattle.std.specs.Io.KnownBytes.{IsAtEnd};
+ghost use Rattle.kq_trace.specs.ReadFaults.{IsReadFault};
+ghost use Rattle.kq_trace.specs.Source.{Gives};
 
 use crate::input_error::InputError;
+use crate::source::Source;
 use kq_model::Memory;
 use std::alloc::Global;
-use std::io::Read;
 
 /// How many a read asks for.
 const BYTES: usize = 65_536;
@@ -25,16 +26,15 @@ impl Chunk {
         Ok(Chunk { bytes })
     }
 
-    /// Puts the bytes that come next to the front: how many they are, and none only at the end. A read that fails, an
-    /// interrupted one too, is [`InputError::Read`].
-    pub fn read<I: Read>(&mut self, input: &mut I) -> Result<usize, InputError>
+    /// Puts the bytes that come next to the front: how many they are, and none only at the end.
+    pub fn read<S: Source>(&mut self, source: &mut S) -> Result<usize, InputError>
         ensures given { IfOk result (λ count.
-            Consumes (I.remaining input.old) (I.remaining input.new) (take count self.new.bytes.items)) }
+            Gives (S.ahead source.old) (S.ahead source.new) (take count self.new.bytes.items)) }
         ensures within { IfOk result (λ count. count ≤ length self.new.bytes.items) }
-        ensures end { IfOk result (λ count. count ≡ 0 → IsAtEnd (I.remaining input.new)) }
-        ensures fault { IfErr result (λ e. e ≡ error.Read) }
+        ensures end { IfOk result (λ count. count ≡ 0 → IsAtEnd (S.ahead source.new).known) }
+        ensures fault { IfErr result (IsReadFault S.may_fail) }
     {
-        input.read(&mut self.bytes).map_err(|_| InputError::Read)
+        source.read(&mut self.bytes).map_err(|_| InputError::Read)
     }
 
     /// The first bytes, of this number.

@@ -72,7 +72,7 @@ fn header_version(value: &Value) -> Option<u32>
 
 /// The version that a line names as the header of a trace.
 #[tactic(auto, unfolding(kq_model::specs::Reading::header_version))]
-fn version_on_line(alloc: Global, line: &[u8]) -> Result<Option<u32>, Memory>
+pub fn version_on_line(alloc: Global, line: &[u8]) -> Result<Option<u32>, Memory>
     ensures named { IfOk result (λ version. version ≡ header_version (json_of line.now)) }
     ensures known { IfOk result (λ version. IfSome version IsVersion) }
 {

@@ -1,4 +1,4 @@
-//! The text of a trace: reading it with exact faults, and writing its canonical form.
+//! The text of a trace, read with exact faults.
 #![tactic(auto)]
 
 mod batches;
@@ -13,27 +13,26 @@ mod fault;
 mod header;
 mod input_error;
 mod line;
+mod lone_line;
 mod member;
-mod members;
 mod names;
 mod part;
-mod part_reader;
 mod pieces;
 mod read;
+mod reading;
 mod record;
-mod record_line;
 mod shape;
-mod spell;
-mod stream;
-mod told;
+mod sink;
+mod source;
 mod trace_reader;
 mod values;
-mod write;
 
 pub use fault::TraceError;
 pub use input_error::InputError;
+pub use kq_spell::write_trace;
+pub use lone_line::{record_on, version_on};
 pub use read::{read_trace, read_trace_by_values, read_trace_with};
-pub use stream::read_input_told;
-pub use told::{Listener, read_trace_told};
+pub use reading::read_trace_into;
+pub use sink::{Kept, Sink};
+pub use source::{Input, Lent, ReadFault, Source};
 pub use trace_reader::TraceReader;
-pub use write::write_trace;

@@ -5,6 +5,7 @@ ghost use Rattle.std.specs.Prelude.{◌≡◌, [], ◌++◌, ◌+◌, ◌<◌, �
 use kq_model::{Event, Memory};
 use std::alloc::Global;
 use std::marker::Model;
+use std::mem::replace;
 
 /// Records that stand one behind the other, in the pieces in which they were read.
 #[derive(Drop)]
@@ -47,12 +48,6 @@ impl Part {
         self.count == 0
     }
 
-    pub fn pieces(&self) -> &[Vec<Event>]
-        ensures { flat_map (λ piece. piece.items) result.now ≡ self.now }
-    {
-        self.pieces.as_slice()
-    }
-
     /// Puts a piece behind the others.
     pub fn push(&mut self, piece: Vec<Event>) -> Result<(), Memory>
         requires { length self.old + length piece.items < 2 ^ 64 }
@@ -64,14 +59,12 @@ impl Part {
         Ok(())
     }
 
-    /// Moves its records behind others.
-    pub fn move_behind(self, events: &mut Vec<Event>) -> Result<(), Memory>
-        ensures { OnOk result (events.new.items ≡ events.old.items ++ self) }
+    /// Takes all pieces out.
+    pub fn take_pieces(&mut self, alloc: Global) -> Vec<Vec<Event>>
+        ensures all { flat_map (λ piece. piece.items) result.items ≡ self.old }
+        ensures none { self.new ≡ [] }
     {
-        let Part { pieces, .. } = self;
-        for mut piece in pieces {
-            events.append(&mut piece).map_err(|_| Memory)?;
-        }
-        Ok(())
+        self.count = 0;
+        replace(&mut self.pieces, Vec::new(alloc))
     }
 }

@@ -1,24 +1,20 @@
-//! Text cut at line ends into pieces, whose numbers several threads draw to decode them, where all its lines are
-//! records.
+//! Text cut at line ends into pieces, which several threads decode, where all its lines are records.
 
-ghost use Rattle.std.specs.Prelude.{◌≡◌, ◌≤◌, ℕ, IfOk, IfSome, List, flat_map, length};
+ghost use Rattle.std.specs.Prelude.{◌≡◌, ◌≤◌, ℕ, IfOk, IfSome, List, length};
 ghost use Rattle.kq_trace.specs.Batches.{AreReadAs, AreRecordsAnywhere, IsReadAs};
 ghost use Rattle.kq_trace.specs.Rest.{lines_behind, lines_in};
 
 use crate::batches::{Batch, batch_of};
 use crate::line::{cut_behind, lines_up_to};
 use crate::part::Part;
-use kq_gate::{Always, Open};
-use kq_jobs::{Jobs, MOST_WORKERS, RunFault, run_all};
 use kq_model::Memory;
-use std::alloc::Global;
+use rayon::prelude::*;
+use std::alloc::{AllocError, Global};
 use std::collections::VecDeque;
-use std::marker::Model;
-use std::sync::Wait;
 use std::thread::Threads;
 
-/// So many bytes are decoded together, and the line that they end in.
-const PIECE_BYTES: usize = 65_536;
+/// So few bytes are decoded together at least, and the line that they end in.
+const LEAST_PIECE_BYTES: usize = 65_536;
 
 /// Cuts a text into pieces of so many bytes or more, up to the end of a line.
 fn pieces_of<'a>(alloc: Global, text: &'a [u8], bytes: usize) -> Result<Vec<&'a [u8]>, Memory>
@@ -44,79 +40,31 @@ fn batch_in(alloc: Global, piece: &[u8]) -> Batch
     }
 }
 
-/// Pieces of text as jobs: the piece with a number is to be decoded.
-#[derive(Drop)]
-struct Pieces<'p, 'a> {
-    alloc: Global,
-    pieces: &'p [&'a [u8]],
-    /// How many they are.
-    count: u32,
+/// How many bytes are decoded together at least: an equal share of the text for each of so many threads, but enough to
+/// be worth one.
+fn piece_bytes(bytes: usize, threads: u32) -> usize {
+    bytes
+        .div_ceil(threads.max(1) as usize)
+        .max(LEAST_PIECE_BYTES)
 }
 
-impl<'p, 'a> Model for Pieces<'p, 'a> {
-    ghost use Rattle.std.specs.Prelude.{◌≡◌, ℕ, List, length, map};
-    ghost use Rattle.kq_trace.specs.Rest.{lines_behind};
-
-    // the lines of each piece
-    ghost Value = { List (List (List ℕ)) };
-
-    ghost view = { λ p. map (λ piece. lines_behind piece.now) p.pieces.now };
-
-    ghost invariant = { λ p. p.count ≡ length p.pieces.now };
-}
-
-impl<'p, 'a> Pieces<'p, 'a> {
-    /// None where a number does not tell them apart.
-    fn of(alloc: Global, pieces: &'p [&'a [u8]]) -> Option<Self>
-        ensures { IfSome result (λ jobs. flat_map (λ lines. lines) jobs ≡ lines_in pieces.now) }
-    {
-        let count = u32::try_from(pieces.len()).ok()?;
-        Some(Pieces {
-            alloc,
-            pieces,
-            count,
-        })
-    }
-}
-
-impl<'p, 'a> Jobs for Pieces<'p, 'a> {
-    ghost use Rattle.std.specs.Prelude.{IfSome, length, slice_get};
-    ghost use Rattle.kq_trace.specs.Batches.{IsReadAs};
-
-    type Outcome = Batch;
-
-    ghost count = { λ jobs. length jobs };
-
-    ghost gives = { λ jobs n batch. IfSome (slice_get jobs n) (λ lines. IsReadAs lines batch) };
-
-    fn len(&self) -> u32 {
-        self.count
-    }
-
-    fn run(&self, number: u32) -> Result<Batch, Memory> {
-        Ok(batch_in(self.alloc, self.pieces[number as usize]))
-    }
-}
-
-/// What the lines of each piece are, decoded by at most so many threads, of which the calling one is the first; none
-/// where a thread does not start.
-fn batches_in<R: Threads + Wait + Sync>(
+/// What the lines of each piece are, each decoded on a thread of its own, but by no more than suit the processors.
+/// Pieces whose thread does not start are decoded on the thread that would have started it.
+fn batches_in<R: Threads + Sync>(
     rt: &R,
     alloc: Global,
     pieces: &[&[u8]],
-    threads: u32,
-) -> Result<Option<Vec<Batch>>, Memory>
-    ensures { IfOk result (λ read. IfSome read (λ batches. AreReadAs (lines_in pieces.now) batches.items)) }
+) -> Result<Vec<Batch>, AllocError>
+    ensures { IfOk result (λ batches. AreReadAs (lines_in pieces.now) batches.items) }
 {
-    let Some(jobs) = Pieces::of(alloc, pieces) else {
-        return Ok(None);
-    };
-    let workers = threads.clamp(1, MOST_WORKERS);
-    match run_all(rt, alloc, &jobs, workers, &Open, &Always) {
-        Ok(batches) => Ok(Some(batches)),
-        Err(RunFault::Memory) => Err(Memory),
-        Err(RunFault::Workers | RunFault::Spawn) => Ok(None),
-    }
+    pieces
+        .par_iter()
+        .map(
+            |piece: &&[u8]| -> Batch
+                ensures { IsReadAs (lines_behind piece.now.now) result }
+            { batch_in(alloc, piece) },
+        )
+        .collect(rt, alloc)
 }
 
 /// The records of all batches, if all lines are records and no more than so many.
@@ -142,9 +90,9 @@ fn gathered(alloc: Global, batches: Vec<Batch>, most: u64) -> Result<Option<Part
     Ok(Some(part))
 }
 
-/// The records on the lines of a text, decoded by at most so many threads, of which the calling one is the first; none
-/// where a line is no record, where there are more than so many, or where a thread does not start.
-pub fn records_in<R: Threads + Wait + Sync>(
+/// The records on the lines of a text, decoded by at most so many threads, of which the calling one is the first; 0
+/// and 1 start none. None where a line is no record, or where there are more than so many.
+pub fn records_in<R: Threads + Sync>(
     rt: &R,
     alloc: Global,
     text: &[u8],
@@ -154,9 +102,7 @@ pub fn records_in<R: Threads + Wait + Sync>(
     ensures read { IfOk result (λ part. IfSome part (AreRecordsAnywhere (lines_behind text.now))) }
     ensures few { IfOk result (λ part. IfSome part (λ events. length events ≤ most)) }
 {
-    let pieces = pieces_of(alloc, text, PIECE_BYTES)?;
-    match batches_in(rt, alloc, pieces.as_slice(), threads)? {
-        Some(batches) => gathered(alloc, batches, most),
-        None => Ok(None),
-    }
+    let pieces = pieces_of(alloc, text, piece_bytes(text.len(), threads))?;
+    let batches = batches_in(rt, alloc, pieces.as_slice()).map_err(|_| Memory)?;
+    gathered(alloc, batches, most)
 }

@@ -5,12 +5,12 @@ ghost use Rattle.kq_model.specs.Reading.{Good, reading};
 ghost use Rattle.kq_trace.specs.Faults.{IsFault, IsLeastFault};
 
 use crate::TraceError;
-use crate::batches::events_on;
-use crate::decoding::{Readers, late_fault};
-use crate::header::{FIRST_RECORD_LINE, opened};
-use crate::line::{first_line, lines_up_to};
+use crate::decoding::Readers;
+use crate::input_error::InputError;
+use crate::reading::read_trace_into;
+use crate::sink::Kept;
+use crate::source::Lent;
 use crate::trace_reader::TraceReader;
-use kq_model::limits::MOST_RECORDS;
 use kq_model::{Memory, Series, Trace};
 use std::thread::Threads;
 
@@ -31,7 +31,8 @@ pub fn read_trace<R: AllocGlobal + Threads + Sync>(
     read_trace_with(rt, bytes, u32::MAX)
 }
 
-/// The same by at most so many threads, of which the calling one is the first; 0 and 1 start none.
+/// The same by at most so many threads, of which the calling one is the first, and one more where there are two or
+/// more; 0 and 1 start none.
 pub fn read_trace_with<R: AllocGlobal + Threads + Sync>(
     rt: &R,
     bytes: &[u8],
@@ -41,21 +42,15 @@ pub fn read_trace_with<R: AllocGlobal + Threads + Sync>(
     ensures bad { IfErr result (IsFault bytes.now) }
     ensures least { IfErr result (IsLeastFault bytes.now) }
 {
-    let alloc = rt.alloc();
-    let (version, rest) = opened(alloc, bytes)?;
-    let (lines, behind) = lines_up_to(alloc, rest, MOST_RECORDS)?;
-    let events = events_on(rt, alloc, FIRST_RECORD_LINE, lines.as_slice(), threads)?;
-    if !behind.is_empty() {
-        let (line, _) = first_line(behind);
-        return Err(TraceError::Bad {
-            line: MOST_RECORDS + 2,
-            fault: late_fault(line),
-        });
+    let mut kept = Kept::new(rt.alloc());
+    match read_trace_into(rt, &mut Lent::new(bytes), threads, &mut kept) {
+        Ok(version) => Ok(Trace {
+            version,
+            events: Series::from_vec(kept.into_events()),
+        }),
+        Err(InputError::Trace(error)) => Err(error),
+        Err(InputError::Read) => unreachable!(),
     }
-    Ok(Trace {
-        version,
-        events: Series::from_vec(events),
-    })
 }
 
 /// The same as [`read_trace`], each line by way of a JSON value, one after the other: slower, and what the typed

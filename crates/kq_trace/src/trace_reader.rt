@@ -17,7 +17,7 @@ use std::alloc::Global;
 use std::marker::Model;
 
 /// The record on a line that is not the first, or the fault of that line.
-fn event_on_line<'a>(
+pub(crate) fn event_on_line<'a>(
     alloc: Global,
     number: u64,
     line: &'a [u8],

@@ -3,11 +3,10 @@ use Rattle.std.proofs.Common.{Bor, ◌≡◌, ℕ, ◌+◌, ◌-◌, ◌<◌, �
 use Rattle.std.proofs.lemmas.List.{length-map}
 use Rattle.kq_trace.specs.Rest.{lines_behind, texts}
 use Rattle.kq_trace.specs.Unread.{IsFaultFrom}
-use Rattle.kq_trace.proofs.BlockRecords.{faulty_from, late_from, read_from}
+use Rattle.kq_trace.proofs.BlockRecords.{error_passed, faulty_from, late_from, read_from}
 use Rattle.kq_trace.proofs.LinesCut.{no_lines}
 use Rattle.kq_trace.proofs.PutTogether.{counted}
 use Rattle.kq_trace.proofs.TraceLines.{empty_list}
-use Rattle.kq_trace.proofs.WholeTrace.{error_passed}
 use Rattle.kq_trace.proofs.block_part.part_alone.Goals as goal
 
 pub returns-in_err-events-clause-bad : goal.returns-in_err-events-clause-bad

@@ -1,6 +1,7 @@
 -- The header is read, or bad.
 use Rattle.std.proofs.Common.{sym, ◌∙◌}
-use Rattle.kq_trace.proofs.TraceLines.{bad_then, first_bad, long_header, opened, opened_then, right_header, wrong_header}
+use Rattle.kq_spell.proofs.Lines.{right_header}
+use Rattle.kq_trace.proofs.TraceLines.{bad_then, first_bad, long_header, opened, opened_then, wrong_header}
 use Rattle.kq_trace.proofs.header.opened.Goals as goal
 
 pub returns-then-header-gt-MOST_LINE_BYTES-clause-bad : goal.returns-then-header-gt-MOST_LINE_BYTES-clause-bad

@@ -1,8 +1,18 @@
 -- The pieces, and what each was decoded to.
-use Rattle.kq_trace.specs.Rest.{lines_in}
+use denote.Ref.{Bor}
+use Rattle.std.proofs.Common.{ap, List, ℕ, ◌∙◌}
+use Rattle.rayon.proofs.ListFacts.{IfOk-then}
+use Rattle.rayon.proofs.ToStd.{slice-AllZip}
+use Rattle.kq_trace.specs.declared.batches.Batch.{Batch}
+use Rattle.kq_trace.specs.Batches.{IsReadAs}
+use Rattle.kq_trace.specs.Rest.{lines_behind}
 use Rattle.kq_trace.proofs.PieceLines.{pieces_read}
 use Rattle.kq_trace.proofs.pieces.batches_in.Goals as goal
 
-pub returns-in-Ok : goal.returns-in-Ok
-returns-in-Ok g c =
-    pieces_read (lines_in c.args.pieces.now) c.in-Some.jobs c.in-Ok.batches.items c.in-Some.ensures c.in-Ok.ensures.ok
+pub returns : goal.returns
+returns g c =
+    let slice = ap (λ it. it.slice.now) c.map.ensures.base ∙ c.par_iter.ensures in
+    IfOk-then c.collect.result _ _ c.collect.ensures (λ v h.
+    let chain = h.1 in
+    rw h.2 (pieces_read c.args.pieces.now h.0
+    (slice-AllZip chain.0 c.args.pieces.now (chain.1 ∙ slice) (λ (piece : Bor (List ℕ)) (b : Batch). IsReadAs (lines_behind piece.now) b) h.0 chain.2)))

@@ -5,9 +5,9 @@ use Rattle.kq_trace.proofs.blocks.Blocks.drain.Goals as goal
 
 pub chunks-preserved : goal.chunks-preserved
 chunks-preserved g c =
-    let before = g.I.Read.remaining c.args.input.now in
-    let mid = g.I.Read.remaining c.chunks.input in
-    let after = g.I.Read.remaining c.read_on.new.input in
+    let before = g.S.Source.ahead c.args.source.now in
+    let mid = g.S.Source.ahead c.chunks.source in
+    let after = g.S.Source.ahead c.read_on.new.source in
     let going_on : c.chunks.self.ended ≡ false = search (rules, tests) in
     let count = c.in_ok-read_on.field-0 in
     let read = c.in_ok-read_on.ensures.read in

@@ -1,7 +1,0 @@
--- The pieces so far stand behind the others.
-use Rattle.std.proofs.Common.{◌≡◌, ◌++◌}
-use Rattle.std.specs.Prelude.{flat_map}
-use Rattle.kq_trace.proofs.part.Part.move_behind.Given as goal
-
-abbrev pub invariant-loop-piece : goal.invariant-loop-piece
-invariant-loop-piece l = l.events.items ≡ l.initial.events.items ++ flat_map (λ piece. piece.items) l.yielded

@@ -1,0 +1,194 @@
+//! Reading a trace while its bytes come, and while a sink takes what was read.
+
+ghost use Rattle.std.specs.Prelude.{◌≡◌, ◌≤◌, ◌<◌, ◌+◌, ◌^◌, ◌++◌, IfErr, IfOk, List, OnOk, flat_map, length, []};
+ghost use Rattle.std.specs.Io.KnownBytes.{IsAtEnd};
+ghost use Rattle.std.specs.Thread.{IsSync};
+ghost use Rattle.kq_model.specs.declared.event.Event.{Event};
+ghost use Rattle.kq_trace.specs.Blocks.{EndsWith, HasNothing, IsFaultSoFar, IsInputFault, IsNextBlock, IsNoLine};
+ghost use Rattle.kq_trace.specs.Blocks.{IsReadWhole, IsTraceOf};
+ghost use Rattle.kq_trace.specs.Rest.{lines_behind};
+ghost use Rattle.kq_trace.specs.Sink.{HasTaken};
+ghost use Rattle.kq_trace.specs.Source.{Ahead};
+ghost use Rattle.kq_trace.specs.Unread.{AreRecordsFrom, IsFaultFrom};
+
+use crate::TraceError;
+use crate::block_part::part_of;
+use crate::blocks::Blocks;
+use crate::header::{FIRST_RECORD_LINE, opened};
+use crate::input_error::InputError;
+use crate::part::Part;
+use crate::sink::Sink;
+use crate::source::Source;
+use kq_join::join_three_mut;
+use kq_model::Memory;
+use std::alloc::Global;
+use std::mem::{replace, swap};
+use std::thread::Threads;
+
+/// Reads the trace that a source has, while it comes, and gives its records to the sink: the version that its header
+/// names. By two threads and more the calling one has the sink take a part of the records, while as many threads as
+/// are asked for but one decode what came behind it, and one more reads on; so no more of the text is held than two
+/// blocks of it. By 0 and 1 the calling one does all. A thread that does not start is no error.
+///
+/// [`InputError::Read`]: a read failed, whatever is wrong with what came before. `Bad`: the first line that has a
+/// fault, once all was read. `Memory` also comes where the sink answered it. After an error nothing is known of the
+/// sink, and part of the source is used up.
+pub fn read_trace_into<R: AllocGlobal + Threads + Sync, S: Source + Send, K: Sink>(
+    rt: &R,
+    source: &mut S,
+    threads: u32,
+    sink: &mut K,
+) -> Result<u32, InputError>
+    requires { K.took sink.old [] }
+    ensures good { IfOk result (λ version. (events : List Event)
+        × IsTraceOf (S.ahead source.old) version events × K.took sink.new events) }
+    ensures end { OnOk result (IsAtEnd (S.ahead source.new).known) }
+    ensures bad { IfErr result (IsInputFault S.may_fail (S.ahead source.old)) }
+{
+    let mut text = Text::new(rt.alloc())?;
+    match read_blocks(rt, source, &mut text, threads, sink) {
+        Ok(version) => Ok(version),
+        Err(error) => Err(once_all_came(&mut text.coming, source, error)),
+    }
+}
+
+/// An error, for which what is left is read where it is that of a line: then that may be the one that counts.
+fn once_all_came<S: Source>(blocks: &mut Blocks, source: &mut S, error: InputError) -> InputError
+    requires { (start : Ahead) × IsFaultSoFar S.may_fail start (S.ahead source.old) blocks.old error }
+    ensures { (start : Ahead) → IsFaultSoFar S.may_fail start (S.ahead source.old) blocks.old error
+        → IsInputFault S.may_fail start result }
+{
+    match error {
+        InputError::Read => InputError::Read,
+        InputError::Trace(TraceError::Memory) => InputError::Trace(TraceError::Memory),
+        InputError::Trace(TraceError::Bad { line, fault }) => match blocks.drain(source) {
+            Ok(()) => InputError::Trace(TraceError::Bad { line, fault }),
+            Err(error) => error,
+        },
+    }
+}
+
+/// A text that comes in blocks: one is decoded while the next one comes.
+#[derive(Drop)]
+struct Text {
+    coming: Blocks,
+    block: Vec<u8>,
+    next: Vec<u8>,
+}
+
+impl Text {
+    fn new(alloc: Global) -> Result<Self, Memory>
+        ensures { IfOk result (λ text. HasNothing text.coming) }
+    {
+        Ok(Text {
+            coming: Blocks::new(alloc)?,
+            block: Vec::new(alloc),
+            next: Vec::new(alloc),
+        })
+    }
+}
+
+/// Records that were decoded and that the sink has still to take.
+#[derive(Drop)]
+struct Decoded {
+    /// How many records it took before them.
+    before: u64,
+    part: Part,
+}
+
+/// Reads the trace block by block, up to the last one or a bad line.
+fn read_blocks<R: AllocGlobal + Threads + Sync, S: Source + Send, K: Sink>(
+    rt: &R,
+    source: &mut S,
+    text: &mut Text,
+    threads: u32,
+    sink: &mut K,
+) -> Result<u32, InputError>
+    requires nothing { HasNothing text.old.coming }
+    requires took { K.took sink.old [] }
+    ensures good { IfOk result (λ version. (events : List Event)
+        × IsReadWhole (S.ahead source.old) (S.ahead source.new) text.new.coming version events
+        × K.took sink.new events) }
+    ensures bad { IfErr result
+        (IsFaultSoFar S.may_fail (S.ahead source.old) (S.ahead source.new) text.new.coming) }
+{
+    let alloc = rt.alloc();
+    text.coming.next(source, &mut text.next)?;
+    let (version, first) = opened(alloc, &text.next)?;
+    let part = part_of(rt, FIRST_RECORD_LINE, first, threads)?;
+    text.coming.next(source, &mut text.block)?;
+    let mut decoded = Decoded { before: 0, part };
+    'rounds: while !decoded.part.is_empty() || !text.block.is_empty() {
+        let before = decoded.before + decoded.part.len();
+        let (read, next, taken) = round(rt, source, text, sink, &mut decoded, threads);
+        read?;
+        let part = next?;
+        taken?;
+        decoded = Decoded { before, part };
+        swap(&mut text.block, &mut text.next);
+    }
+    Ok(version)
+}
+
+/// Reads the next block, decodes the one that came, and has the sink take the records of the one before: by two threads
+/// and more at the same time, by 0 and 1 one after the other.
+fn round<R: AllocGlobal + Threads + Sync, S: Source + Send, K: Sink>(
+    rt: &R,
+    source: &mut S,
+    text: &mut Text,
+    sink: &mut K,
+    decoded: &mut Decoded,
+    threads: u32,
+) -> (
+    Result<(), InputError>,
+    Result<Part, TraceError>,
+    Result<(), Memory>,
+)
+    requires before { HasTaken K.took decoded.old.before sink.old }
+    requires few { decoded.old.before + length decoded.old.part ≤ 1000000 }
+    requires ends { EndsWith text.old.coming (S.ahead source.old) }
+    ensures block { OnOk result.0
+        (IsNextBlock (S.ahead source.old) (S.ahead source.new) text.old.coming text.new.coming text.new.next.items) }
+    ensures ends { OnOk result.0 (EndsWith text.new.coming (S.ahead source.new)) }
+    ensures fault { IfErr result.0 (IsNoLine S.may_fail) }
+    ensures part { IfOk result.1
+        (AreRecordsFrom (2 + decoded.old.before + length decoded.old.part) (lines_behind text.old.block.items)) }
+    ensures bad { IfErr result.1
+        (IsFaultFrom (2 + decoded.old.before + length decoded.old.part) (lines_behind text.old.block.items)) }
+    ensures taken { OnOk result.2 ((so_far : List Event) → length so_far ≡ decoded.old.before → K.took sink.old so_far
+        → K.took sink.new (so_far ++ decoded.old.part)) }
+{
+    let Decoded { before, part } = decoded;
+    let before = *before;
+    let number = FIRST_RECORD_LINE + before + part.len();
+    let alloc = rt.alloc();
+    let mut pieces = part.take_pieces(alloc);
+    let Text {
+        coming,
+        block,
+        next,
+    } = text;
+    let decoders = threads.saturating_sub(1);
+    let mut read = ||
+        requires { EndsWith coming.now (S.ahead source.now) }
+        ensures { OnOk result (IsNextBlock (S.ahead source.entry.now) (S.ahead source.exit.now)
+            coming.entry.now coming.exit.now next.exit.now.items)
+            × OnOk result (EndsWith coming.exit.now (S.ahead source.exit.now))
+            × IfErr result (IsNoLine S.may_fail) }
+    { coming.next(source, next) };
+    let mut decode = ||
+        requires { IsSync R.row × (number ≤ 1000002) }
+        ensures { IfOk result (AreRecordsFrom number (lines_behind block.entry.now.items))
+            × IfErr result (IsFaultFrom number (lines_behind block.entry.now.items)) }
+    { part_of(rt, number, block.as_slice(), decoders) };
+    let mut take = ||
+        requires { HasTaken K.took before sink.now
+            × (before + length (flat_map (λ piece. piece.items) pieces.items) < 2 ^ 31) }
+        ensures { OnOk result ((so_far : List Event) → length so_far ≡ before → K.took sink.entry.now so_far
+            → K.took sink.exit.now (so_far ++ flat_map (λ piece. piece.items) pieces.entry.items)) }
+    { sink.accept(before, replace(&mut pieces, Vec::new(alloc))) };
+    if threads < 2 {
+        return (read(), decode(), take());
+    }
+    join_three_mut(rt, &mut read, &mut decode, &mut take)
+}
