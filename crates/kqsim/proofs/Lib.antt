@@ -1,2 +1,1 @@
-pub mod ReplayedTraces
 pub mod LiveFaults

@@ -7,7 +7,7 @@ use Rattle.clap.specs.Words.{App, Row, Rule, Text, first_of, new_app, new_rule, 
 use Rattle.clap.specs.Simple.{on_top}
 use Rattle.clap.specs.declared.builder.ArgAction.TheVariants.{Set}
 use Rattle.clap.specs.declared.builder.value_parser.ValueParser.TheVariants as vp
-use Rattle.kqsim.specs.Workers.{IsThreadCount, IsWorkerCount}
+use Rattle.kq_run.specs.Workers.{IsThreadCount, IsWorkerCount}
 use Rattle.kqsim.specs.declared.order.Order.{Order}
 use Rattle.kqsim.specs.declared.order.Order.TheVariants.{Replay, Live, Book}
 

@@ -1,12 +1,12 @@
 -- What a run of the program leaves, by the bytes that its reader had and those that its writer got.
 use Rattle.std.specs.Prelude.{◌≡◌, ◌⊎◌, ℕ, List, ◌++◌, Option, string_bytes}
 use Rattle.std.specs.Io.KnownBytes.{Appends, Keeps}
-use Rattle.kqsim.specs.Fault.{status_of}
-use Rattle.kqsim.specs.Living.{IsBookText, IsLiveFault, IsLiveReport}
-use Rattle.kqsim.specs.Replay.{Had, IsFault, IsReport}
-use Rattle.kqsim.specs.Workers.{IsThreadCount, IsWorkerCount}
-use Rattle.kqsim.specs.declared.fault.Fault.{Fault}
-use Rattle.kqsim.specs.declared.fault.Fault.TheVariants.{Usage, Read, Trace, Memory, Spawn, Write}
+use Rattle.kq_run.specs.Fault.{status_of}
+use Rattle.kq_run.specs.Living.{IsBookText, IsLiveFault, IsLiveReport}
+use Rattle.kq_run.specs.Replay.{Had, IsFault, IsReport}
+use Rattle.kq_run.specs.Workers.{IsThreadCount, IsWorkerCount}
+use Rattle.kq_run.specs.declared.fault.Fault.{Fault}
+use Rattle.kq_run.specs.declared.fault.Fault.TheVariants.{Usage, Read, Trace, Memory, Spawn, Write}
 use Rattle.kqsim.specs.declared.order.Order.{Order}
 use Rattle.kqsim.specs.declared.order.Order.TheVariants as order
 

@@ -4,13 +4,12 @@ ghost use Rattle.clap.specs.Words.{app_of, first_of, found_of, one_of, rows_of, 
 ghost use Rattle.clap.specs.declared.builder.command.Command.TheViews.{out-Command as fields_of};
 ghost use Rattle.kqsim.specs.CommandLine.{IsOrderFrom, IsOrderOf, command_app, file_rule, number_in, program};
 ghost use Rattle.kqsim.specs.CommandLine.{threads_rule, workers_rule};
-ghost use Rattle.kqsim.specs.Workers.{IsThreadCount};
+ghost use Rattle.kq_run.specs.Workers.{IsThreadCount};
 
-use crate::fault::Fault;
 use crate::order::Order;
-use crate::workers::{is_thread_count, is_worker_count};
 use clap::error::ErrorKind;
 use clap::{Arg, ArgAction, ArgMatches, Command, Error, value_parser};
+use kq_run::{Fault, is_thread_count, is_worker_count};
 use std::alloc::{AllocError, Global};
 
 /// The order that the words after the program's name give: `replay [--workers N] FILE`, where N is 1 to 256, or

@@ -3,22 +3,13 @@
 #![tactic(auto)]
 
 mod command_line;
-mod fault;
-mod input;
-mod living;
 mod order;
-mod output;
-mod replayed;
-mod replaying;
 mod running;
-mod splitter;
 #[cfg(test)]
 mod tests;
-mod thirds;
-mod workers;
 
 use command_line::parse_words;
-use fault::Fault;
+use kq_run::Fault;
 use order::Order;
 use running::{run_order, tell};
 use std::env;

@@ -1,15 +1,13 @@
 ghost use Rattle.std.specs.Prelude.{◌≡◌, ◌↔◌, ℕ, IfErr, IfOk, IsErrOf, IsTrue, List, OnOk};
 ghost use Rattle.std.specs.Io.KnownBytes.{Keeps};
-ghost use Rattle.kqsim.specs.Replay.{Had};
+ghost use Rattle.kq_run.specs.Replay.{Had};
 ghost use Rattle.kqsim.specs.Run.{EndsBy, IsInRange, IsOutput, IsReaderFault, LeavesBy, WritesOutput, most_bytes};
 
-use crate::fault::Fault;
-use crate::input::read_in;
-use crate::living::{book_text, live_report};
 use crate::order::Order;
-use crate::output::write_out;
-use crate::replaying::replay_input;
-use crate::workers::{is_thread_count, is_worker_count};
+use kq_run::{
+    Fault, book_text, is_thread_count, is_worker_count, live_report, read_in, replay_input,
+    write_out,
+};
 use std::io::{Read, Write};
 use std::sync::Wait;
 use std::thread::Threads;

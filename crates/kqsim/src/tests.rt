@@ -1,5 +1,2 @@
-mod living;
-mod merging;
 mod program;
 mod streams;
-mod workers;

@@ -1,11 +1,7 @@
-//! What the calls of the program answer with ample memory.
+//! The words of the command line.
 use crate::command_line::parse_words;
-use crate::fault::Fault;
 use crate::order::Order;
-use crate::replaying::replay;
-use kq_model::{Event, Kevent, Reply};
-use kq_system::System;
-use kq_trace::read_trace;
+use kq_run::Fault;
 use std::test::Fail;
 
 pub const STORED: &str = concat!(
@@ -25,33 +21,6 @@ pub const REPORT: &str = concat!(
     "{\"at\":6,\"events\":[{\"data\":0,\"fflags\":5,\"filter\":\"USER\",\"flags\":[],\"ident\":7,\"udata\":0}]}\n",
     "{\"calls\":4,\"events\":2,\"records\":6}\n",
 );
-
-#[test]
-fn the_stored_run_is_reported(rt: HostRuntime) -> Result<(), Fail> {
-    assert_eq!(rt;
-        replay(&rt, STORED.as_bytes(), 1)?.as_slice(),
-        REPORT.as_bytes()
-    );
-    assert_eq!(rt;
-        replay(&rt, STORED.as_bytes(), 256)?.as_slice(),
-        REPORT.as_bytes()
-    );
-    Ok(())
-}
-
-#[test]
-fn workers_out_of_range_are_refused(rt: HostRuntime) {
-    assert!(rt; matches!(replay(&rt, STORED.as_bytes(), 0), Err(Fault::Usage)));
-    assert!(rt; matches!(replay(&rt, STORED.as_bytes(), 257), Err(Fault::Usage)));
-}
-
-#[test]
-fn the_empty_trace_has_no_header(rt: HostRuntime) {
-    let Err(fault) = replay(&rt, b"", 1) else {
-        panic!(rt; "a report of nothing");
-    };
-    assert_eq!(rt; fault.status(), 4);
-}
 
 pub fn words(rt: &HostRuntime, words: &[&str]) -> Result<Order, Fault> {
     parse_words(rt.alloc(), words)
@@ -92,48 +61,50 @@ fn other_words_are_refused(rt: HostRuntime) {
     assert!(rt; matches!(words(&rt, &["--help"]), Err(Fault::Usage)));
 }
 
-#[test]
-fn a_copied_event_is_equal(rt: HostRuntime) -> Result<(), Fail> {
-    let trace = read_trace(&rt, STORED.as_bytes())?;
-    let Some(event) = trace.events.as_slice().get(2) else {
-        panic!(rt; "no third event");
-    };
-    let Event::Kevent {
-        pid,
-        fd,
-        changes,
-        room,
-    } = event.copy().map_err(|_| "memory")?
-    else {
-        panic!(rt; "another event");
-    };
-    assert_eq!(rt; (pid, fd, room), (1, 9, 4));
-    let Event::Kevent { changes: given, .. } = event else {
-        panic!(rt; "no call");
-    };
-    assert_eq!(rt; changes.as_slice(), given.as_slice());
-    assert_eq!(rt; changes.len(), 1);
-    Ok(())
-}
-
-fn returned(reply: &Reply) -> Option<&[Kevent]> {
-    match reply {
-        Reply::Events(events) => Some(events.as_slice()),
-        _ => None,
-    }
+fn text(rt: &HostRuntime, file: &str) -> Result<String, Fail> {
+    Ok(String::from_str(rt.alloc(), file)?)
 }
 
 #[test]
-fn a_copied_row_is_equal(rt: HostRuntime) -> Result<(), Fail> {
-    let trace = read_trace(&rt, STORED.as_bytes())?;
-    let rows = System::run(rt.alloc(), &trace).map_err(|_| "memory")?;
-    let Some(row) = rows.get(2) else {
-        panic!(rt; "no third row");
-    };
-    let copied = row.copy().map_err(|_| "memory")?;
-    assert_eq!(rt; copied.at, 5);
-    let reply = copied.reply.copy().map_err(|_| "memory")?;
-    assert_eq!(rt; returned(&reply), returned(&row.reply));
-    assert_eq!(rt; returned(&reply).map(|events| events.len()), Some(1));
+fn words_give_live_orders(rt: HostRuntime) -> Result<(), Fail> {
+    let file = text(&rt, "f")?;
+    assert_eq!(rt;
+        words(&rt, &["live", "--threads", "64", "f"])?,
+        Order::Live { threads: 64, file }
+    );
+    let file = text(&rt, "-")?;
+    assert_eq!(rt;
+        words(&rt, &["live", "-"])?,
+        Order::Live { threads: 1, file }
+    );
+    let file = text(&rt, "f")?;
+    assert_eq!(rt;
+        words(&rt, &["book", "f", "--threads=2"])?,
+        Order::Book { threads: 2, file }
+    );
     Ok(())
+}
+
+#[test]
+fn other_live_words_are_refused(rt: HostRuntime) {
+    assert!(rt; matches!(words(&rt, &["live"]), Err(Fault::Usage)));
+    assert!(rt; matches!(words(&rt, &["book", "f", "g"]), Err(Fault::Usage)));
+    assert!(rt;
+        matches!(
+            words(&rt, &["live", "--threads", "0", "f"]),
+            Err(Fault::Usage)
+        )
+    );
+    assert!(rt;
+        matches!(
+            words(&rt, &["book", "--threads", "65", "f"]),
+            Err(Fault::Usage)
+        )
+    );
+    assert!(rt;
+        matches!(
+            words(&rt, &["live", "--workers", "1", "f"]),
+            Err(Fault::Usage)
+        )
+    );
 }

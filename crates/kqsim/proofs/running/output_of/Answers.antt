@@ -2,10 +2,10 @@
 use Rattle.std.proofs.Common.{rules, sym, subst, IfErr}
 use Rattle.std.proofs.lemmas.Result.{IfErr-weaker}
 use Rattle.kqsim.specs.declared.order.Order.TheVariants as order
-use Rattle.kqsim.specs.Living.{IsLiveFault}
-use Rattle.kqsim.specs.Replay.{Had}
+use Rattle.kq_run.specs.Living.{IsLiveFault}
+use Rattle.kq_run.specs.Replay.{Had}
 use Rattle.kqsim.specs.Run.{IsInRange, IsReaderFault, most_bytes}
-use Rattle.kqsim.specs.Workers.{IsThreadCount}
+use Rattle.kq_run.specs.Workers.{IsThreadCount}
 use Rattle.kqsim.proofs.LiveFaults.{live_fault_given}
 use Rattle.kqsim.proofs.running.output_of.Goals as goal
 

@@ -1,0 +1,2 @@
+pub mod LiveFaults
+pub mod ReplayedTraces

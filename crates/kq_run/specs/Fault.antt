@@ -1,0 +1,24 @@
+-- The exit statuses of the program (this project's choice), and the fault of a text that is no trace.
+use Rattle.std.specs.Prelude.{ℕ}
+use Rattle.kq_trace.specs.declared.fault.TraceError.{TraceError}
+use Rattle.kq_trace.specs.declared.fault.TraceError.TheVariants as error
+use Rattle.kq_trace.specs.declared.input_error.InputError.{InputError}
+use Rattle.kq_trace.specs.declared.input_error.InputError.TheVariants as input
+use Rattle.kq_run.specs.declared.fault.Fault.{Fault}
+use Rattle.kq_run.specs.declared.fault.Fault.TheVariants.{Usage, Read, Trace, Memory, Spawn, Write}
+
+abbrev pub status_of : Fault → ℕ
+status_of Usage = 2
+status_of Read = 3
+status_of (Trace line fault) = 4
+status_of Memory = 5
+status_of Spawn = 6
+status_of Write = 7
+
+abbrev pub fault_of : TraceError → Fault
+fault_of error.Memory = Memory
+fault_of (error.Bad line fault) = Trace line fault
+
+abbrev pub input_fault_of : InputError → Fault
+input_fault_of input.Read = Read
+input_fault_of (input.Trace error) = fault_of error

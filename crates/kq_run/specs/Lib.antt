@@ -1,0 +1,5 @@
+pub mod Fault
+pub mod Living
+pub mod Replay
+pub mod Splitter
+pub mod Workers

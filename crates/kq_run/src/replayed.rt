@@ -1,0 +1,76 @@
+//! The rows of a trace: it is split while it is read, and each of its kqueues is replayed alone.
+
+ghost use Rattle.std.specs.Prelude.{IfErr, IfOk};
+ghost use Rattle.kq_run.specs.Replay.{AreRowsOf, IsReplayedFrom, IsReplayFault, IsSourceFault};
+ghost use Rattle.kq_run.specs.Workers.{IsWorkerCount};
+
+use crate::fault::Fault;
+use crate::splitter::Splitter;
+use crate::workers::threads_of;
+use kq_gate::{Gate, Starts};
+use kq_history::{Spent, Split};
+use kq_merge::Merging;
+use kq_model::{Series, Trace};
+use kq_replay::{RunFault, replay_all_with};
+use kq_trace::{Source, read_trace_into};
+use std::sync::Wait;
+use std::thread::Threads;
+
+/// A trace, its rows, and what the split kept, which is used no more.
+#[derive(Drop)]
+pub struct Replayed {
+    pub trace: Trace,
+    pub rows: Merging,
+    pub spent: Spent,
+}
+
+impl Replayed {
+    /// The trace that a source has, replayed by so many workers, 1 to 256. By two and more it is read and split while
+    /// it comes. The gate is asked before each kqueue is replayed, and `starts` before each worker but the first is
+    /// started.
+    pub fn of<R: AllocGlobal + Threads + Wait + Sync, I: Source + Send, G: Gate + Sync, S: Starts>(
+        rt: &R,
+        source: &mut I,
+        workers: u32,
+        gate: &G,
+        starts: &S,
+    ) -> Result<Self, Fault>
+        requires { IsWorkerCount workers }
+        ensures replayed { IfOk result (IsReplayedFrom (I.ahead source.old)) }
+        ensures fault { IfErr result (IsSourceFault I.may_fail (I.ahead source.old) workers) }
+    {
+        let mut splitter = Splitter::new(rt.alloc())?;
+        let version = read_trace_into(rt, source, threads_of(workers), &mut splitter)?;
+        let Splitter { splitting, kept } = splitter;
+        let trace = Trace {
+            version,
+            events: Series::from_vec(kept.into_events()),
+        };
+        let split = splitting.end(&trace);
+        let rows = rows_of(rt, &split, workers, gate, starts)?;
+        let spent = split.spend();
+        Ok(Replayed { trace, rows, spent })
+    }
+}
+
+/// The rows of a trace that was split: each of its kqueues is replayed alone, and those of impossible records are put
+/// beside their rows.
+fn rows_of<R: AllocGlobal + Threads + Wait + Sync, G: Gate + Sync, S: Starts>(
+    rt: &R,
+    split: &Split<'_>,
+    workers: u32,
+    gate: &G,
+    starts: &S,
+) -> Result<Merging, Fault>
+    requires { IsWorkerCount workers }
+    ensures rows { IfOk result (AreRowsOf split.now.version split.now.events) }
+    ensures fault { IfErr result (IsReplayFault split.now.version split.now.events workers) }
+{
+    let kqueues = match replay_all_with(rt, split, workers, gate, starts) {
+        Ok(kqueues) => kqueues,
+        Err(RunFault::Workers) => return Err(Fault::Usage),
+        Err(RunFault::Memory) => return Err(Fault::Memory),
+        Err(RunFault::Spawn) => return Err(Fault::Spawn),
+    };
+    Ok(Merging::of(rt.alloc(), kqueues, split.plain_rows())?)
+}

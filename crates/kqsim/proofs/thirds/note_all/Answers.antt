@@ -1,5 +1,0 @@
-use Rattle.std.proofs.lemmas.Result.{on_ok_weaker}
-use Rattle.kqsim.proofs.thirds.note_all.Goals as goal
-
-pub returns : goal.returns
-returns c = on_ok_weaker c.take.result (λ taken. record { on = taken }) c.take.ensures

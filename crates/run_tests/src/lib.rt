@@ -1,0 +1,18 @@
+//! The calls of `kq_run`, each run where there is memory and its answer compared. The tests stand in a crate of their
+//! own, since a crate with tests is proved once more with them.
+#![tactic(auto)]
+
+#[cfg(test)]
+mod copies;
+#[cfg(test)]
+mod given;
+#[cfg(test)]
+mod living;
+#[cfg(test)]
+mod merging;
+#[cfg(test)]
+mod replaying;
+#[cfg(test)]
+mod streams;
+#[cfg(test)]
+mod workers;
