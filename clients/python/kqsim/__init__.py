@@ -1,0 +1,12 @@
+"""FreeBSD's kqueue, simulated: a client of the program kqstep.
+
+Sim is a virtual system: one method for each record of a trace. kqueue and kevent have the form of Python's select,
+over the real descriptors of this process, and install() gives them to the module select.
+"""
+from .constants import CONSTANTS
+from .kqueues import install, kevent, kqueue
+from .sim import Ended, Fault, Impossible, Sim
+
+globals().update(CONSTANTS)
+
+__all__ = ["Ended", "Fault", "Impossible", "Sim", "install", "kevent", "kqueue", *CONSTANTS]
