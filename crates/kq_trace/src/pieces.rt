@@ -59,6 +59,7 @@ fn batches_in<R: Threads + Sync>(
 {
     pieces
         .par_iter()
+        .with_min_len(1)
         .map(
             |piece: &&[u8]| -> Batch
                 ensures { IsReadAs (lines_behind piece.now.now) result }

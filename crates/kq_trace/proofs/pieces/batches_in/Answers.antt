@@ -1,6 +1,7 @@
 -- The pieces, and what each was decoded to.
 use denote.Ref.{Bor}
 use Rattle.std.proofs.Common.{ap, List, ℕ, ◌∙◌}
+use Rattle.rayon.specs.Lists.{min_len_base}
 use Rattle.rayon.proofs.ListFacts.{IfOk-then}
 use Rattle.rayon.proofs.ToStd.{slice-AllZip}
 use Rattle.kq_trace.specs.declared.batches.Batch.{Batch}
@@ -11,7 +12,8 @@ use Rattle.kq_trace.proofs.pieces.batches_in.Goals as goal
 
 pub returns : goal.returns
 returns g c =
-    let slice = ap (λ it. it.slice.now) c.map.ensures.base ∙ c.par_iter.ensures in
+    let base = ap min_len_base c.map.ensures.base ∙ c.with_min_len.ensures.base in
+    let slice = ap (λ it. it.slice.now) base ∙ c.par_iter.ensures in
     IfOk-then c.collect.result _ _ c.collect.ensures (λ v h.
     let chain = h.1 in
     rw h.2 (pieces_read c.args.pieces.now h.0
