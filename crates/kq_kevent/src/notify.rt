@@ -277,6 +277,8 @@ impl Kq {
         ensures version { self.new.version ≡ self.old.version }
         ensures room { OnOk result ((views : world.Views) → HasRoomToFollow views hints.now self.new) }
         ensures err { OnErr result (self.new.room ≡ self.old.room) }
+        // Memory comes only where children are followed, and where there was less room than hints.
+        ensures missing { OnErr result ((self.old.version ≡ 1 → ⊥) × (self.old.room < length hints.now)) }
     {
         if self.version == 1 {
             return Ok(());
