@@ -3,6 +3,8 @@
 #![tactic(auto)]
 
 #[cfg(test)]
+mod every_record;
+#[cfg(test)]
 mod following;
 #[cfg(test)]
 mod hints;
@@ -11,8 +13,6 @@ mod joins;
 #[cfg(test)]
 mod knotes;
 #[cfg(test)]
-mod objects;
-#[cfg(test)]
 mod system;
 #[cfg(test)]
 mod text;
@@ -20,5 +20,3 @@ mod text;
 mod timers;
 #[cfg(test)]
 mod traces;
-#[cfg(test)]
-mod world;

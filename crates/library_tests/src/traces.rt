@@ -1,4 +1,5 @@
 //! Whole traces of both versions of the format: what each reports, and how many of its records are applied.
+use crate::every_record;
 use kq_merge::report_text;
 use kq_model::{Memory, Trace};
 use kq_system::System;
@@ -199,6 +200,8 @@ fn traces_give_their_reports(rt: HostRuntime) -> Result<(), Fail> {
         (2, GRANDCHILD, GRANDCHILD_REPORT, 8),
         (1, WATCHED, WATCHED_REPORT, 17),
         (2, WATCHED, WATCHED_REPORT, 17),
+        (1, every_record::RECORDS, every_record::REPORT, 64),
+        (2, every_record::RECORDS, every_record::REPORT, 64),
     ];
     for (version, records, report, applied) in traces {
         let trace = trace_of(&rt, version, records)?;
