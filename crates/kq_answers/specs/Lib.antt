@@ -1,0 +1,3 @@
+pub mod AnswerText
+pub mod Answers
+pub mod Read
