@@ -1,5 +1,5 @@
 -- One line after the other.
-use Rattle.std.proofs.Common.{◌≡◌, ℕ, ◌+◌, ◌<◌, ◌≤◌, nat_lt, Bool, true, false, List, [], ◌∷◌, ◌++◌, length, Option, Some, None, Ok, Err, refl, sym, ap, ◌∙◌, append_assoc, append-nil, arith}
+use Rattle.std.proofs.Common.{◌≡◌, ℕ, ◌+◌, ◌≤◌, List, [], ◌∷◌, ◌++◌, length, Some, None, Ok, Err, refl, sym, ap, ◌∙◌, append_assoc, append-nil, arith}
 use Rattle.std.proofs.lemmas.Bool.{lt-ltb, le-ltb}
 use Rattle.kq_model.specs.declared.line_fault.LineFault.{LineFault}
 use Rattle.kq_model.specs.Lines.{pieces_of, without_empty_end}
@@ -10,7 +10,7 @@ use Rattle.kq_answers.specs.declared.fault.AnswerFault.TheVariants.{Line, Order}
 use Rattle.kq_answers.specs.declared.fault.AnswersError.{AnswersError}
 use Rattle.kq_answers.specs.declared.fault.AnswersError.TheVariants.{Memory, Bad as BadError}
 use Rattle.kq_answers.specs.AnswerText.{answer_on}
-use Rattle.kq_answers.specs.Answers.{Good, Bad, Outcome, answers_from, answers_in, joined, place_behind, with_answer}
+use Rattle.kq_answers.specs.Answers.{Good, Bad, Outcome, answers_from, joined, place_behind, with_answer}
 use Rattle.kq_answers.specs.Read.{IsBadLine, IsBadNext, IsTaken, Says, behind_answers}
 
 -- ---- a line

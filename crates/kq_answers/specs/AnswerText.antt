@@ -1,7 +1,7 @@
 -- A line of answers: an object with at and one of events, failed and impossible, or the three members of the line that
 -- ends a report. An event is spelled as a change is: fflags, data and udata are 0 where they are missing. An error has
 -- any number (this project's choice).
-use Rattle.std.specs.Prelude.{ℕ, ◌==◌, Bool, true, false, ◌&&◌, List, map, codes, Option, Some, None, option_map}
+use Rattle.std.specs.Prelude.{ℕ, ◌==◌, Bool, ◌&&◌, List, map, codes, Option, Some, None, option_map}
 use Rattle.std.specs.Prelude.{option_and_then, Result, Ok, Err, if◌then◌else◌}
 use Rattle.serde_json.specs.Data.{Data}
 use Rattle.serde_json.specs.Find.{get, as_str}
@@ -13,9 +13,8 @@ use Rattle.kq_model.specs.declared.why.Why.{Why}
 use Rattle.kq_model.specs.declared.why.Why.TheVariants as why
 use Rattle.kq_model.specs.ChangeText.{change_list, is_change_list}
 use Rattle.kq_model.specs.Members.{is_whole, required, shaped, u32_in, u64_in, width}
-use Rattle.kq_model.specs.Names.{is_text, why_name}
+use Rattle.kq_model.specs.Names.{is_text}
 use Rattle.kq_model.specs.Reading.{json_of}
-use Rattle.kq_answers.specs.declared.answer.Answer.{Answer}
 use Rattle.kq_answers.specs.declared.answer.AnswerLine.{AnswerLine}
 use Rattle.kq_answers.specs.declared.answer.AnswerLine.TheVariants as line
 use Rattle.kq_answers.specs.declared.answer.Given.{Given}

@@ -1,3 +1,4 @@
 pub mod AnswerText
+pub mod Again
 pub mod Answers
 pub mod Read

@@ -2,6 +2,7 @@
 
 ghost use Rattle.std.specs.Prelude.{◌≡◌, IfOk};
 ghost use Rattle.serde_json.specs.View.{view};
+ghost use Rattle.kq_answers.specs.Again.{RowsAreReadAgain};
 ghost use Rattle.kq_answers.specs.AnswerText.{answer_in, answer_on, answered_at, has_place, is_counts};
 
 use crate::answer::{Answer, AnswerLine, Given};
@@ -18,7 +19,10 @@ pub fn answer_on(
     number: u64,
     line: &[u8],
 ) -> Result<Result<AnswerLine, LineFault>, Memory>
-    ensures { IfOk result (λ answer. answer ≡ answer_on number line.now) }
+    ensures answer { IfOk result (λ answer. answer ≡ answer_on number line.now) }
+
+    // Of a row of a report it is what the row says.
+    ensures again { RowsAreReadAgain number line.now }
 {
     match line_value(alloc, line)? {
         Some(value) => answer_in(alloc, number, &value),

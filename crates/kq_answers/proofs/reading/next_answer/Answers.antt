@@ -1,5 +1,5 @@
 -- A line out of order, and one that is no row.
-use Rattle.std.proofs.Common.{◌∙◌, sym, ap, rules}
+use Rattle.std.proofs.Common.{rules}
 use Rattle.kq_answers.proofs.Lines.{no_row, out_of_order}
 use Rattle.kq_answers.proofs.reading.next_answer.Goals as goal
 

@@ -1,5 +1,5 @@
 -- A line further, a bad line, and the end.
-use Rattle.std.proofs.Common.{◌≡◌, ◌<◌, ◌∙◌, length, arith, rules, tests}
+use Rattle.std.proofs.Common.{◌≡◌, ◌<◌, length, arith, rules, tests}
 use Rattle.kq_answers.specs.Answers.{answers_in}
 use Rattle.kq_answers.proofs.Lines.{all_read, none_yet, one_further, stops}
 use Rattle.kq_answers.proofs.reading.read_answers.Goals as goal

@@ -1,5 +1,5 @@
 -- An answer more, or none.
-use Rattle.std.proofs.Common.{◌≡◌, ◌++◌, ◌∷◌, [], Some, None, rules}
+use Rattle.std.proofs.Common.{Some, None, rules}
 use Rattle.kq_answers.specs.Read.{Says}
 use Rattle.kq_answers.proofs.Lines.{none_taken, one_taken}
 use Rattle.kq_answers.proofs.reading.take_line.Goals as goal
