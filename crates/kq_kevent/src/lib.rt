@@ -16,4 +16,5 @@ mod register;
 mod retrieve;
 
 pub use kq::Kq;
+pub use look::{event_of, look_in};
 pub use named::target_of;

@@ -1,0 +1,4 @@
+pub mod OrderLaws
+pub mod PendingLaws
+pub mod FirstLaws
+pub mod AllowedLaws

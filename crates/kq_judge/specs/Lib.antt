@@ -1,0 +1,4 @@
+pub mod Same
+pub mod Allowed
+pub mod Pending
+pub mod Judged

@@ -1,0 +1,11 @@
+//! Judges a recorded answer of one kevent call: whether some order of the queue gives it, or what is wrong with it
+//! first.
+#![tactic(auto)]
+
+mod absence;
+mod judging;
+mod member;
+
+pub use absence::{Absence, pending_event};
+pub use judging::{Fault, Judgement};
+pub use member::{Ignored, Member};
