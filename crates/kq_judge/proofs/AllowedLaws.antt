@@ -262,7 +262,7 @@ allowed-right ignored views room kq own sound allowed =
     by key e p (inl there) keys = ap (has_key key) (sym keys) ∙ there
     by key e p (inr idle) keys = absurd (pending-not_idle views kq.knotes key e p idle)
 
-pub allowed-given : (ignored : List Ignored) (views : Views) (room : ℕ) (kq : Kqueue) (own : List Kevent) → IsSound kq
+pub allowed_given : (ignored : List Ignored) (views : Views) (room : ℕ) (kq : Kqueue) (own : List Kevent) → IsSound kq
     → IsAllowed ignored views room kq own → IsGivenInFront ignored views room kq own
-allowed-given ignored views room kq own sound allowed =
+allowed_given ignored views room kq own sound allowed =
     right-given ignored views room kq own sound (allowed-right ignored views room kq own sound allowed)

@@ -9,7 +9,7 @@ use Rattle.std.specs.Prelude.{option_and_then}
 use Rattle.kq_model.specs.declared.kevent.Kevent.{Kevent}
 use Rattle.kq_model.specs.declared.key.Key.{Key}
 use Rattle.kq_model.specs.Knote.{key_eq, has_key, find_knote}
-use Rattle.kq_model.specs.Kqueue.{AreOnce}
+use Rattle.kq_model.specs.Kqueue.{AreOnce, IsSound}
 use Rattle.kq_model.specs.Look.{Seen, look}
 use Rattle.kq_model.specs.Retrieval.{event_of, turned_at_look, turned_at, turned, delivered, after_turn, retrieve, retrieval}
 use Rattle.kq_model.specs.Tallied.{Knote, Kqueue, Retrieved}
@@ -92,3 +92,6 @@ pub returns-the_first : (views : Views) (room : ℕ) (kq : Kqueue) → AreOnce k
 unfolding retrieval
 returns-the_first views room kq once =
     firsts views kq.knotes kq.queue room (record kq { queue = [] }) once (λ _ _. refl)
+
+pub returns_first : (views : Views) (room : ℕ) (kq : Kqueue) → IsSound kq → ReturnsTheFirst views room kq
+returns_first views room kq sound = returns-the_first views room kq sound.once

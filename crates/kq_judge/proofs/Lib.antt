@@ -2,3 +2,4 @@ pub mod OrderLaws
 pub mod PendingLaws
 pub mod FirstLaws
 pub mod AllowedLaws
+pub mod JudgeLaws

@@ -62,14 +62,27 @@ pub record IsWrongAt {S : Type 0} {h : Hearing S} (ignored : List Ignored) (view
   pub within_before : at ≤ room
   pub fault_is : IsFault ignored views room knotes (take at own) event fault
 
--- all events are right and there was room left, and an event of this key was pending and is not there
+-- of these keys, those of which an event is pending are among those that were returned
+abbrev pub AreReturned : {S : Type 0} {h : Hearing S} → Views → List (Knote h) → List Key → List Key → Type 0
+AreReturned views knotes keys returned =
+    (key : Key) (e : Kevent) → has_key key keys ≡ true → IsPending views knotes key e → has_key key returned ≡ true
+
+-- an event of this key is pending, and it is not among those that were returned; it is the first such key of the queue
+pub record IsFirstHeldBack {S : Type 0} {h : Hearing S} (views : Views) (knotes : List (Knote h))
+    (queue returned : List Key) (key : Key) : Type 0 where
+  pub place : ℕ
+  pub there : slice_get queue place ≡ Some key
+  pub event : Kevent
+  pub pending : IsPending views knotes key event
+  pub absent : has_key key returned ≡ false
+  pub first : AreReturned views knotes (take place queue) returned
+
+-- all events are right and there was room left, and this key was held back
 pub record IsMissing {S : Type 0} {h : Hearing S} (ignored : List Ignored) (views : Views) (room : ℕ) (kq : Kqueue h)
     (own : List Kevent) (key : Key) : Type 0 where
   pub right : AreRight ignored views kq.knotes own
   pub less : length own < room
-  pub event : Kevent
-  pub pending : IsPending views kq.knotes key event
-  pub absent : has_key key (map key_of_event own) ≡ false
+  pub held_back : IsFirstHeldBack views kq.knotes kq.queue (map key_of_event own) key
 
 module _ {S : Type 0} {h : Hearing S} where
   -- allowed exactly where it is; else what is wrong with it first

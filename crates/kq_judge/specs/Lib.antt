@@ -2,3 +2,4 @@ pub mod Same
 pub mod Allowed
 pub mod Pending
 pub mod Judged
+pub mod Verdicts

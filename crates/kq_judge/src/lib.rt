@@ -5,7 +5,9 @@
 mod absence;
 mod judging;
 mod member;
+mod verdict;
 
 pub use absence::{Absence, pending_event};
-pub use judging::{Fault, Judgement};
+pub use judging::{Fault, Judgement, judge};
 pub use member::{Ignored, Member};
+pub use verdict::{Outcome, Verdict, verdict_of};

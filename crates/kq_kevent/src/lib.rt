@@ -1,6 +1,7 @@
 //! One kqueue: registering changes, and kevent calls (kqueue(2)).
 #![tactic(auto)]
 
+mod arrange;
 mod call;
 mod clock;
 mod close;
