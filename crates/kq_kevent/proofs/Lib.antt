@@ -20,3 +20,4 @@ pub mod ClockLaws
 pub mod RingWalk
 pub mod ClockedLaws
 pub mod RingDue
+pub mod ArrangeLaws

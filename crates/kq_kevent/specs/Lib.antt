@@ -3,3 +3,4 @@ pub mod Owned
 pub mod Decided
 pub mod Telling
 pub mod Ringing
+pub mod Arranged

@@ -1,6 +1,7 @@
 //! One kqueue: registering changes, and kevent calls (kqueue(2)).
 #![tactic(auto)]
 
+mod arrange;
 mod call;
 mod clock;
 mod close;
@@ -16,4 +17,5 @@ mod register;
 mod retrieve;
 
 pub use kq::Kq;
+pub use look::{event_of, look_in};
 pub use named::target_of;

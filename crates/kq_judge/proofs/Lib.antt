@@ -1,0 +1,5 @@
+pub mod OrderLaws
+pub mod PendingLaws
+pub mod FirstLaws
+pub mod AllowedLaws
+pub mod JudgeLaws
