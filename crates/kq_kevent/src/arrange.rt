@@ -59,6 +59,8 @@ fn put_waiting_in(knotes: &Knotes, queue: &mut Queue, keys: &[Key])
     requires fits { length knotes.now.knotes ≤ queue.old.capacity }
     ensures keys { queue.new.keys
         ≡ all_queued (filter (λ key. is_waiting (find_knote key knotes.now.knotes)) keys.now) queue.old.keys }
+    ensures once { AreOnce queue.new.keys }
+    ensures fits { length queue.new.keys ≤ length knotes.now.knotes }
     ensures capacity { queue.new.capacity ≡ queue.old.capacity }
 {
     for key in keys {

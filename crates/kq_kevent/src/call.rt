@@ -21,7 +21,7 @@ pub fn answer(mut events: Vec<Kevent>) -> Reply
 }
 
 /// Whether a call goes on to read pending events: where no entry was placed.
-fn reads_pending(placed: &[Kevent]) -> bool
+pub fn reads_pending(placed: &[Kevent]) -> bool
     ensures { IsTrue result ↔ (placed.now ≡ []) }
 {
     placed.is_empty()

@@ -5,26 +5,36 @@ ghost use Rattle.kq_model.specs.Hearing.{listed};
 ghost use Rattle.kq_model.specs.Kqueue.{Kqueue};
 ghost use Rattle.kq_model.specs.Recast.{tallied, IsTallied};
 ghost use Rattle.kq_model.specs.WatchedNumbers.{WatchTheirNumbers};
-ghost use Rattle.kq_kevent.specs.Beginning.{begun, read, answer_after, IsCallInSteps, IsTalliedBeginning};
+ghost use Rattle.kq_kevent.specs.Beginning.{begun, read, answer_after, answer_of_entries, IsCallInSteps, IsTalliedBeginning};
 ghost use Rattle.kq_kevent.specs.Ending.{answer_of};
 ghost use Rattle.kq_kevent.specs.Owned.{caller, limit};
 
 use crate::Kq;
-use crate::call::{answer, shared_in, timers_in};
+use crate::call::{answer, reads_pending, shared_in, timers_in};
 use crate::process::Ending;
 use kq_filters::Views;
 use kq_model::{Change, Kevent, Memory, Reply};
 
+/// The answer that has the entries that were placed; none where there are none.
+#[tactic(auto, unfolding(crate::specs::Beginning::answer_of_entries))]
+fn entries(placed: Vec<Kevent>) -> Option<Reply>
+    ensures { result ≡ answer_of_entries placed.items }
+{
+    if reads_pending(&placed) {
+        return None;
+    }
+    Some(answer(placed))
+}
+
 /// The answer of a call whose changes came to this end; none where it goes on to read events.
-#[tactic(auto, unfolding(kq_kevent::specs::Beginning::answer_after, kq_kevent::specs::Beginning::answer_of_entries, kq_model::specs::Call::ended))]
+#[tactic(auto, unfolding(crate::specs::Beginning::answer_after, kq_model::specs::Call::ended))]
 fn answer_at(ending: Ending, placed: Vec<Kevent>) -> Option<Reply>
     ensures { result ≡ answer_after placed.items (answer_of ending placed.items) }
 {
     match ending {
         Ending::Ended(Some(error)) => Some(Reply::Failed(error)),
         Ending::Ended(None) => Some(answer(placed)),
-        Ending::Through if placed.is_empty() => None,
-        Ending::Through => Some(answer(placed)),
+        Ending::Through => entries(placed),
     }
 }
 
