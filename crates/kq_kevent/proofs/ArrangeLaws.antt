@@ -1,19 +1,23 @@
 -- Another order of a queue: it has the same keys, those that are named first come first, and putting them in one after
 -- the other gives it.
-use Rattle.std.proofs.Common.{◌≡◌, ℕ, zero, suc, ◌+◌, Bool, true, false, cond, not, ◌&&◌, ◌||◌, List, [], ◌∷◌, ◌++◌, filter, length, slice_get, Option, Some, None, append-nil, append_assoc, refl, sym, ap, ◌∙◌, subst}
-use Rattle.std.proofs.lemmas.Bool.{or_left, or_right, true≢false}
+use Rattle.std.proofs.Common.{◌≡◌, ℕ, zero, suc, ◌+◌, ◌<◌, ◌≤◌, Bool, true, false, cond, not, ◌&&◌, ◌||◌, List, [], ◌∷◌, ◌++◌, filter, length, take, drop, get_or, slice_get, Option, Some, append-nil, append_assoc, refl, sym, ap, ◌∙◌, subst}
+use Rattle.std.proofs.lemmas.Bool.{and_parts, or_left, or_right, true≢false}
+use Rattle.std.proofs.lemmas.List.{drop_at, drop_more, take_at, take_more}
 use Rattle.std.proofs.lemmas.List.Sorted.{IsPermutation-refl, IsPermutation-cons, IsPermutation-to_front, IsPermutation-append_left, IsPermutation-trans}
 use Rattle.std.proofs.lemmas.Option.{none-some, same_Some}
 use Rattle.std.specs.Prelude.{IsPermutation}
 use Rattle.kq_model.specs.declared.key.Key.{Key}
-use Rattle.kq_model.specs.Knote.{key_eq, has_key, without_key, queued}
-use Rattle.kq_model.specs.Kqueue.{AreOnce}
+use Rattle.kq_model.specs.Knote.{key_eq, has_key, without_key, find_knote}
+use Rattle.kq_model.specs.Kqueue.{AreOnce, IsSound, is_waiting}
+use Rattle.kq_model.specs.Tallied.{Knote, Kqueue}
 use Rattle.kq_model.proofs.KeyLaws.{same_key, key_eq-refl, key_eq-sym, has_key-without_same, has_key-without_other}
-use Rattle.kq_model.proofs.KeyLists.{filter_true, filter_both, filter_agree_among, without_key-absent}
+use Rattle.kq_model.proofs.KeyLists.{filter_true, filter_both, filter_agree_among, has_key-filter, and_false, without_key-absent, AreOnce-filter}
 use Rattle.kq_model.proofs.KnoteLaws.{by_test}
 use Rattle.kq_table.specs.Rows.{row_after}
 use Rattle.kq_kevent.specs.Arranged.{key_after, named_in, without_keys, arranged, AreAllIn, all_queued}
+use Rattle.kq_knote.proofs.CountLaws.{length-keys}
 use Rattle.kq_kevent.proofs.QueueLaws.{AreOnce-without, has_key-push_same, has_key-push_other}
+use Rattle.kq_kevent.proofs.SoundLaws.{waiting-none}
 
 -- ---- one key more
 
@@ -67,15 +71,15 @@ taken_first k (x ∷ q) once there =
     by_test (λ b. key_eq k x ≡ b → b || has_key k q ≡ true
     → IsPermutation (x ∷ q) (k ∷ cond (not b) (x ∷ without_key k q) (without_key k q))) (key_eq k x)
     (λ _ same _.
-        let here : k ≡ x = same_key k x same in
-        let rest : without_key k q ≡ q =
-            without_key-absent k q (ap (λ (o : Key). has_key o q) here ∙ once.0) in
-        subst (λ (l : List Key). IsPermutation (x ∷ q) (k ∷ l)) (sym rest)
-        (subst (λ (o : Key). IsPermutation (x ∷ q) (o ∷ q)) (sym here) (IsPermutation-refl (x ∷ q))))
+    let here : k ≡ x = same_key k x same in
+    let rest : without_key k q ≡ q =
+    without_key-absent k q (ap (λ (o : Key). has_key o q) here ∙ once.0) in
+    subst (λ (l : List Key). IsPermutation (x ∷ q) (k ∷ l)) (sym rest)
+    (subst (λ (o : Key). IsPermutation (x ∷ q) (o ∷ q)) (sym here) (IsPermutation-refl (x ∷ q))))
     (λ _ apart later.
-        IsPermutation-trans (x ∷ q) (x ∷ k ∷ without_key k q) (k ∷ x ∷ without_key k q)
-        (IsPermutation-cons x q (k ∷ without_key k q) (taken_first k q once.1 later))
-        (IsPermutation-append_left (without_key k q) (x ∷ k ∷ []) (k ∷ x ∷ []) (IsPermutation-to_front (x ∷ []) k)))
+    IsPermutation-trans (x ∷ q) (x ∷ k ∷ without_key k q) (k ∷ x ∷ without_key k q)
+    (IsPermutation-cons x q (k ∷ without_key k q) (taken_first k q once.1 later))
+    (IsPermutation-append_left (without_key k q) (x ∷ k ∷ []) (k ∷ x ∷ []) (IsPermutation-to_front (x ∷ []) k)))
     refl there
 
 pub arranged-same : (ks q : List Key) → AreOnce q → IsPermutation q (arranged ks q)
@@ -193,24 +197,24 @@ module _ (waits : Key → Bool) where
   queued-named (k ∷ ks) q left is =
       let here = is k (key_here k ks) in
       let later : (key : Key) → has_key key ks ≡ true → has_key key left ≡ waits key && not (has_key key q) =
-          λ key there. is key (key_later key k ks there) in
+      λ key there. is key (key_later key k ks there) in
       by_test (λ w. waits k ≡ w → all_queued (filter waits (k ∷ ks)) q ≡ q ++ named_in (k ∷ ks) left) (waits k)
       (λ _ waiting. by_test (λ b. has_key k q ≡ b
       → all_queued (filter waits (k ∷ ks)) q ≡ q ++ named_in (k ∷ ks) left) (has_key k q)
       (λ _ there.
-          let gone : has_key k left ≡ false = here ∙ ap (λ w. w && not (has_key k q)) waiting ∙ ap not there in
-          queue-has k ks q there ∙ queued-named ks q left later
-          ∙ ap (λ (l : List Key). q ++ l) (sym (named_in-absent k ks left gone)))
+      let gone : has_key k left ≡ false = here ∙ ap (λ w. w && not (has_key k q)) waiting ∙ ap not there in
+      queue-has k ks q there ∙ queued-named ks q left later
+      ∙ ap (λ (l : List Key). q ++ l) (sym (named_in-absent k ks left gone)))
       (λ _ absent.
-          let comes : has_key k left ≡ true = here ∙ ap (λ w. w && not (has_key k q)) waiting ∙ ap not absent in
-          queue-places k ks q waiting absent
-          ∙ queued-named ks (q ++ k ∷ []) (without_key k left) (λ key there. left_after k key q left (later key there))
-          ∙ append_assoc q (k ∷ []) (named_in ks (without_key k left))
-          ∙ ap (λ (l : List Key). q ++ l) (sym (named_in-there k ks left comes))) refl)
+      let comes : has_key k left ≡ true = here ∙ ap (λ w. w && not (has_key k q)) waiting ∙ ap not absent in
+      queue-places k ks q waiting absent
+      ∙ queued-named ks (q ++ k ∷ []) (without_key k left) (λ key there. left_after k key q left (later key there))
+      ∙ append_assoc q (k ∷ []) (named_in ks (without_key k left))
+      ∙ ap (λ (l : List Key). q ++ l) (sym (named_in-there k ks left comes))) refl)
       (λ _ idle.
-          let gone : has_key k left ≡ false = here ∙ ap (λ w. w && not (has_key k q)) idle in
-          queue-passes k ks q idle ∙ queued-named ks q left later
-          ∙ ap (λ (l : List Key). q ++ l) (sym (named_in-absent k ks left gone))) refl
+      let gone : has_key k left ≡ false = here ∙ ap (λ w. w && not (has_key k q)) idle in
+      queue-passes k ks q idle ∙ queued-named ks q left later
+      ∙ ap (λ (l : List Key). q ++ l) (sym (named_in-absent k ks left gone))) refl
 
 -- ---- a walk over the queue
 
@@ -240,3 +244,73 @@ key_after-next (x ∷ q) (suc i) key once is =
     ap (λ b. cond b (slice_get q 0) (key_after key q))
     (key_eq-sym key x ∙ differs key x q (has_key-at q i key is) once.0)
     ∙ key_after-next q i key once.1 is
+
+-- ---- keys of knotes that wait
+
+-- the keys of knotes that wait, of which one comes to the others
+module _ (ks : List Knote) (k : Key) (q : List Key)
+    (waits : is_waiting (find_knote k ks) ≡ true)
+    (waiting : (key : Key) → has_key key q ≡ true → is_waiting (find_knote key ks) ≡ true) where
+  pub waiting-more : (key : Key) → has_key key (q ++ k ∷ []) ≡ true → is_waiting (find_knote key ks) ≡ true
+  waiting-more key there =
+      by_test (λ b. key_eq k key ≡ b → is_waiting (find_knote key ks) ≡ true) (key_eq k key)
+      (λ _ same. subst (λ (o : Key). is_waiting (find_knote o ks) ≡ true) (same_key k key same) waits)
+      (λ _ apart. waiting key (sym (has_key-push_other key k q apart) ∙ there)) refl
+
+-- no more of them than there are knotes
+pub waiting-fits : (ks : List Knote) (q : List Key) → AreOnce q
+    → ((key : Key) → has_key key q ≡ true → is_waiting (find_knote key ks) ≡ true) → length q ≤ length ks
+waiting-fits ks q once waiting =
+    length-keys q ks once (λ key there none.
+    true≢false (sym (waiting key there) ∙ ap is_waiting none ∙ waiting-none))
+
+-- The keys that were taken out come back behind the others.
+pub placed-behind : (kq : Kqueue) → IsSound kq → (keys : List Key)
+    → all_queued (filter (λ key. is_waiting (find_knote key kq.knotes)) keys) (without_keys keys kq.queue)
+    ≡ without_keys keys kq.queue ++ named_in keys kq.queue
+placed-behind kq sound keys =
+    let waits : Key → Bool = λ key. is_waiting (find_knote key kq.knotes) in
+    queued-named waits keys (without_keys keys kq.queue) kq.queue (λ key there.
+    sound.waiting key
+    ∙ sym (ap (λ b. waits key && not b)
+    (has_key-filter (λ o. not (has_key o keys)) key kq.queue
+    ∙ ap (λ b. has_key key kq.queue && not b) there ∙ and_false (has_key key kq.queue))
+    ∙ and_true (waits key)))
+  where
+    and_true : (b : Bool) → b && true ≡ b
+    and_true true = refl
+    and_true false = refl
+
+-- those that were not taken out wait
+pub left-waiting : (kq : Kqueue) → IsSound kq → (keys : List Key) (key : Key)
+    → has_key key (without_keys keys kq.queue) ≡ true → is_waiting (find_knote key kq.knotes) ≡ true
+left-waiting kq sound keys key there =
+    let both = and_parts (has_key key kq.queue) (not (has_key key keys))
+    (sym (has_key-filter (λ o. not (has_key o keys)) key kq.queue) ∙ there) in
+    sym (sound.waiting key) ∙ both.0
+
+pub once-left : (keys q : List Key) → AreOnce q → AreOnce (without_keys keys q)
+once-left keys q once = AreOnce-filter (λ key. not (has_key key keys)) q once
+
+-- the others are turned round behind those that are named
+pub turned-arranged : (keys q : List Key) (n : ℕ) → n ≡ length (without_keys keys q)
+    → drop n (without_keys keys q ++ named_in keys q) ++ take n (without_keys keys q ++ named_in keys q)
+    ≡ arranged keys q
+unfolding arranged
+turned-arranged keys q n is =
+    ap (λ (l : List Key). l ++ take n (without_keys keys q ++ named_in keys q))
+    (drop_at (without_keys keys q) (named_in keys q) n (sym is))
+    ∙ ap (λ (l : List Key). named_in keys q ++ l) (take_at (without_keys keys q) (named_in keys q) n (sym is))
+
+-- one more is turned round
+pub turned-more : (q now rest : List Key) (i : ℕ) (key : Key) → i < length q → now ≡ drop i q ++ take i q
+    → now ≡ key ∷ rest → rest ++ key ∷ [] ≡ drop (i + 1) q ++ take (i + 1) q
+turned-more q now rest i key within is front =
+    let split : key ∷ rest ≡ get_or q i key ∷ (drop (i + 1) q ++ take i q) =
+    sym front ∙ is ∙ ap (λ (l : List Key). l ++ take i q) (drop_more q i key within) in
+    let first : key ≡ get_or q i key = cc in
+    let behind : rest ≡ drop (i + 1) q ++ take i q = cc in
+    ap (λ (l : List Key). l ++ key ∷ []) behind
+    ∙ append_assoc (drop (i + 1) q) (take i q) (key ∷ [])
+    ∙ ap (λ (o : Key). drop (i + 1) q ++ (take i q ++ o ∷ [])) first
+    ∙ ap (λ (l : List Key). drop (i + 1) q ++ l) (sym (take_more q i key within))

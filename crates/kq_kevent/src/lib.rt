@@ -15,6 +15,7 @@ mod queue;
 mod refusals;
 mod register;
 mod retrieve;
+mod steps;
 
 pub use kq::Kq;
 pub use look::{event_of, look_in};

@@ -13,6 +13,8 @@ mod knotes;
 #[cfg(test)]
 mod objects;
 #[cfg(test)]
+mod steps;
+#[cfg(test)]
 mod system;
 #[cfg(test)]
 mod text;
