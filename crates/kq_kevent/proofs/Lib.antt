@@ -22,4 +22,3 @@ pub mod ClockLaws
 pub mod RingWalk
 pub mod ClockedLaws
 pub mod RingDue
-pub mod ArrangeLaws
