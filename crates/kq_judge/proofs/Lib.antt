@@ -3,3 +3,5 @@ pub mod PendingLaws
 pub mod FirstLaws
 pub mod AllowedLaws
 pub mod JudgeLaws
+pub mod VerdictLaws
+pub mod LookedLaws

@@ -20,7 +20,7 @@ use Rattle.kq_judge.specs.declared.absence.Absence.TheVariants.{NotRegistered, D
 use Rattle.kq_judge.specs.Allowed.{event_seen, event_due}
 use Rattle.kq_judge.specs.Pending.{IsPending, IsAbsence}
 
-event_of-key : (k : Knote) (seen : Seen) → key_of_event (event_of k seen) ≡ k.key
+pub event_of-key : (k : Knote) (seen : Seen) → key_of_event (event_of k seen) ≡ k.key
 unfolding event_of
 event_of-key k seen = refl
 

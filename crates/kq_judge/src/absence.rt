@@ -1,4 +1,5 @@
 ghost use Rattle.std.specs.Prelude.{MatchResult};
+ghost use Rattle.kq_model.specs.Kqueue.{IsSound};
 ghost use Rattle.kq_judge.specs.Pending.{IsPending, IsAbsence};
 
 use kq_filters::Views;
@@ -23,9 +24,11 @@ pub enum Absence {
 
 /// The event that a kevent gives as the kqueue and the world stand, where its turn comes; else why it gives none.
 pub fn pending_event<V: Views>(kq: &Kq, key: Key, views: &V) -> Result<Kevent, Absence>
-    ensures { MatchResult result
+    ensures event { MatchResult result
         (λ event. IsPending (V.sees views.now) kq.now.kq.knotes key event)
         (λ absence. IsAbsence (V.sees views.now) kq.now.kq.knotes key absence) }
+    // Of every kqueue.
+    ensures sound { IsSound kq.now.kq }
 {
     let Some(knote) = kq.knotes().get(key) else {
         return Err(Absence::NotRegistered);

@@ -11,8 +11,7 @@ ghost use Rattle.kq_judge.specs.Judged.{AreRight, AreReturned, IsFirstHeldBack, 
 use crate::absence::{Absence, pending_event};
 use crate::member::{Ignored, Member, differing};
 use kq_filters::Views;
-use kq_kevent::{Kq, look_in};
-use kq_knote::Knote;
+use kq_kevent::Kq;
 use kq_model::{Kevent, Key, Memory};
 use kq_table::Table;
 use std::alloc::Global;
@@ -130,6 +129,7 @@ fn is_held_back<V: Views>(kq: &Kq, key: Key, returned: &Table<Key>, views: &V) -
 /// How many keys wait at most: no more than knotes are registered.
 pub(crate) fn most_waiting(kq: &Kq) -> usize
     ensures most { length kq.now.kq.queue ≤ result }
+    ensures is { result ≡ length kq.now.kq.knotes }
     // Of every kqueue.
     ensures sound { IsSound kq.now.kq }
 {

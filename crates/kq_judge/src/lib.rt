@@ -9,5 +9,5 @@ mod verdict;
 
 pub use absence::{Absence, pending_event};
 pub use judging::{Fault, Judgement, judge};
-pub use member::{Ignored, Member};
-pub use verdict::{Outcome, Verdict, verdict_of};
+pub use member::{Ignored, Member, differing};
+pub use verdict::{Outcome, Verdict, keys_looked_at, verdict_of};

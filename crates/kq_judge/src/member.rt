@@ -59,7 +59,7 @@ fn is_wrong(member: Member, expected: &Kevent, own: &Kevent, ignored: &[Ignored]
 }
 
 /// The first member that is compared and in which two events of one kevent differ.
-pub(crate) fn differing(expected: &Kevent, own: &Kevent, ignored: &[Ignored]) -> Option<Member>
+pub fn differing(expected: &Kevent, own: &Kevent, ignored: &[Ignored]) -> Option<Member>
     requires { key_of_event expected.now ≡ key_of_event own.now }
     ensures { MatchOption result (IsSame ignored.now expected.now own.now)
         (λ member. (is_ignored ignored.now own.now.filter member ≡ false)
