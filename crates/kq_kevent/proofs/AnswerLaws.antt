@@ -214,7 +214,7 @@ process-nil : (caller : Caller) (room : ℕ) (kq : Kqueue) → process caller ro
 unfolding process
 process-nil caller room kq = refl
 
-by_entries-nil : (views : Views) (kq : Kqueue) → (by_entries views 0 [] kq).kq ≡ kq
+pub by_entries-nil : (views : Views) (kq : Kqueue) → (by_entries views 0 [] kq).kq ≡ kq
 unfolding by_entries returned
 by_entries-nil views kq =
     ap (λ (r : Retrieved). r.kq) (retrieval-going views 0 kq ∙ going-full views (length kq.queue) kq)

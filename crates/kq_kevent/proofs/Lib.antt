@@ -10,6 +10,8 @@ pub mod TurnLaws
 pub mod CallLaws
 pub mod TakenLaws
 pub mod AnswerLaws
+pub mod ArrangeLaws
+pub mod BeginLaws
 pub mod KeepLaws
 pub mod CloseLaws
 pub mod TellLaws

@@ -133,7 +133,7 @@ unfolding with_notice_told
 told-other key k kq None apart = find_knote-with_other key (record k { active = false }) kq.knotes apart
 told-other key k kq (Some seen) apart = find_knote-with_other key k kq.knotes apart
 
-settled-other : (views : Views) (key : Key) (k : Knote) (kq : Kqueue) (notice : Option ℕ) → key_eq k.key key ≡ false
+pub settled-other : (views : Views) (key : Key) (k : Knote) (kq : Kqueue) (notice : Option ℕ) → key_eq k.key key ≡ false
     → find_knote key (settled views k kq notice).knotes ≡ find_knote key kq.knotes
 unfolding settled
 settled-other views key k kq None apart = knotes_after-other key k kq.knotes apart
@@ -194,7 +194,7 @@ retrieve-none views key (x ∷ keys) (suc room) kq none =
 -- ---- what a retrieval has done with the keys in front of it
 
 -- the knotes of these keys are as they were
-abbrev Agree : List Key → List Knote → List Knote → Type 0
+abbrev pub Agree : List Key → List Knote → List Knote → Type 0
 Agree keys ks first = (key : Key) → has_key key keys ≡ true → find_knote key ks ≡ find_knote key first
 
 record IsRun (views : Views) (first : List Knote) (keys : List Key) (room : ℕ) (r : Retrieved) : Type 0 where
@@ -269,7 +269,7 @@ run_delivers views first key keys room r k seen at here holds gone run =
 
 -- ---- the whole walk
 
-agree_still : (key : Key) (keys : List Key) (ks after first : List Knote) → has_key key keys ≡ false
+pub agree_still : (key : Key) (keys : List Key) (ks after first : List Knote) → has_key key keys ≡ false
     → Agree (key ∷ keys) ks first
     → ((other : Key) → key_eq key other ≡ false → find_knote other after ≡ find_knote other ks)
     → Agree keys after first

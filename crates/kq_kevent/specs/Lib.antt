@@ -3,3 +3,5 @@ pub mod Owned
 pub mod Decided
 pub mod Telling
 pub mod Ringing
+pub mod Beginning
+pub mod Arranged

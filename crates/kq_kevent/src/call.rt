@@ -13,7 +13,7 @@ use kq_filters::Views;
 use kq_model::{Change, Filter, Kevent, Memory, Reply, Series};
 
 /// The answer that has these events, and keeps no memory besides.
-fn answer(mut events: Vec<Kevent>) -> Reply
+pub fn answer(mut events: Vec<Kevent>) -> Reply
     ensures { result ≡ Reply.Events events.items }
 {
     events.shrink_to_fit();
@@ -21,7 +21,7 @@ fn answer(mut events: Vec<Kevent>) -> Reply
 }
 
 /// Whether a call goes on to read pending events: where no entry was placed.
-fn reads_pending(placed: &[Kevent]) -> bool
+pub fn reads_pending(placed: &[Kevent]) -> bool
     ensures { IsTrue result ↔ (placed.now ≡ []) }
 {
     placed.is_empty()
@@ -29,7 +29,7 @@ fn reads_pending(placed: &[Kevent]) -> bool
 
 /// How many changes may make a knote that watches what others may watch too: a timer and a user
 /// event are their own.
-fn shared_in(changes: &[Change]) -> usize
+pub fn shared_in(changes: &[Change]) -> usize
     ensures { result ≤ length changes.now }
 {
     let mut shared = 0;
@@ -42,7 +42,7 @@ fn shared_in(changes: &[Change]) -> usize
 }
 
 /// How many changes may make a timer.
-fn timers_in(changes: &[Change]) -> usize
+pub fn timers_in(changes: &[Change]) -> usize
     ensures { result ≤ length changes.now }
 {
     let mut timers = 0;

@@ -1,5 +1,5 @@
 ghost use Rattle.std.specs.Prelude.{◌≡◌, ◌<◌, OnOk, OnErr, max};
-ghost use Rattle.kq_model.specs.Kqueue.{HaveOwnKeys, empty_kqueue};
+ghost use Rattle.kq_model.specs.Kqueue.{HaveOwnKeys, IsSound, empty_kqueue};
 
 use crate::queue::Queue;
 use kq_knote::Knotes;
@@ -70,6 +70,8 @@ impl Kq {
     pub fn knotes(&self) -> &Knotes
         ensures knotes { result.now.knotes ≡ self.now.kq.knotes }
         ensures own_keys { HaveOwnKeys self.now.kq.knotes }
+        // Of every kqueue.
+        ensures sound { IsSound self.now.kq }
     {
         &self.knotes
     }

@@ -1,6 +1,7 @@
 //! One kqueue: registering changes, and kevent calls (kqueue(2)).
 #![tactic(auto)]
 
+mod arrange;
 mod call;
 mod clock;
 mod close;
@@ -14,6 +15,8 @@ mod queue;
 mod refusals;
 mod register;
 mod retrieve;
+mod steps;
 
 pub use kq::Kq;
+pub use look::{event_of, look_in};
 pub use named::target_of;

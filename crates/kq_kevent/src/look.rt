@@ -17,7 +17,8 @@ fn look_at_target<V: Views>(views: &V, knote: &Knote) -> Option<Seen>
     look(knote, view)
 }
 
-/// The look of a knote's filter in a world, which a user event does not ask.
+/// What the filter of a knote sees in a world, by its target as it is now; none where the condition does not
+/// hold. A knote with a notice of a parent sees that alone. A user event does not ask the world.
 pub fn look_in<V: Views>(views: &V, knote: &Knote) -> Option<Seen>
     ensures { result ≡ look (V.sees views.now) knote.now }
 {
@@ -59,7 +60,8 @@ fn flag_if(holds: bool, flag: EvFlags, flags: EvFlags) -> EvFlags
     if holds { flags.union(flag) } else { flags }
 }
 
-/// The event that a knote delivers.
+/// The event that a knote delivers where this is seen: ident, filter and udata are the knote's, fflags and data
+/// are as seen. The flags are the knote's actions, of ONESHOT, CLEAR and DISPATCH, and EOF where it is seen.
 #[tactic(auto, unfolding(kq_model::specs::Retrieval::event_of))]
 pub fn event_of(knote: &Knote, seen: Seen) -> Kevent
     ensures { result ≡ event_of knote.now seen }

@@ -1,5 +1,6 @@
-ghost use Rattle.std.specs.Prelude.{◌≡◌, ◌<◌, ◌≤◌, ◌+◌, ◌++◌, ◌∷◌, [], false, length, OnOk, OnErr, MatchOption};
+ghost use Rattle.std.specs.Prelude.{◌≡◌, ◌<◌, ◌≤◌, ◌+◌, ◌++◌, ◌∷◌, [], false, length, slice_get, OnOk, OnErr, MatchOption};
 ghost use Rattle.kq_model.specs.Knote.{has_key, without_key};
+ghost use Rattle.kq_kevent.specs.Arranged.{key_after};
 
 use kq_model::{Key, Memory};
 use kq_table::Table;
@@ -49,6 +50,20 @@ impl Queue {
         ensures { result ≡ has_key key self.now.keys }
     {
         self.keys.contains(key)
+    }
+
+    /// The key at the front.
+    pub fn first(&self) -> Option<Key>
+        ensures { result ≡ slice_get self.now.keys 0 }
+    {
+        self.keys.first()
+    }
+
+    /// The key behind this one; None where this is the last, or not there.
+    pub fn next_after(&self, key: Key) -> Option<Key>
+        ensures { result ≡ key_after key self.now.keys }
+    {
+        self.keys.next_after(key)
     }
 
     /// Makes room for so many keys behind those that it has.

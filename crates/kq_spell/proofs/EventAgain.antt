@@ -26,7 +26,7 @@ use Rattle.kq_spell.proofs.FlagBits.{flags_again}
 
 -- ---- numbers and names
 
-whole_natural : (n : ℕ) → is_whole (natural n) ≡ true
+pub whole_natural : (n : ℕ) → is_whole (natural n) ≡ true
 unfolding is_whole natural
 whole_natural n = refl
 
@@ -39,7 +39,7 @@ u64_again : (n : ℕ) → u64_in (natural n) ≡ Some n
 unfolding u64_in natural
 u64_again n = refl
 
-u32_again : (n : ℕ) → n < 2 ^ 32 → u32_in (natural n) ≡ Some n
+pub u32_again : (n : ℕ) → n < 2 ^ 32 → u32_in (natural n) ≡ Some n
 unfolding u32_in natural
 u32_again n fits = rw (lt-ltb n (2 ^ 32) fits) refl
 
@@ -76,12 +76,12 @@ unfolding change_of change_data or_else change_with
 change_again c fits named =
     rw (u64_again c.ident, filter_again c.filter, flags_again c.flags named, u32_again c.fflags fits.fflags, i64_again c.datum fits.datum, u64_again c.udata) refl
 
-are_changes_again : (cs : List Change) → HaveNamedFlags cs → are_changes (items_of (map change_data cs)) ≡ true
+pub are_changes_again : (cs : List Change) → HaveNamedFlags cs → are_changes (items_of (map change_data cs)) ≡ true
 unfolding are_changes
 are_changes_again [] named = refl
 are_changes_again (c ∷ cs) named = rw (is_change_again c named.0, are_changes_again cs named.1) refl
 
-changes_again : (cs : List Change) → FitsChanges cs → HaveNamedFlags cs → changes_of (items_of (map change_data cs)) ≡ Some cs
+pub changes_again : (cs : List Change) → FitsChanges cs → HaveNamedFlags cs → changes_of (items_of (map change_data cs)) ≡ Some cs
 unfolding changes_of prepended
 changes_again [] fits named = refl
 changes_again (c ∷ cs) fits named = rw (change_again c fits.0 named.0, changes_again cs fits.1 named.1) refl

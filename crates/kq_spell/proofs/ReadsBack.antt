@@ -30,11 +30,11 @@ ReadsBack d = json_of (compact_text d) ≡ Some d
 
 -- ---- a value that its tokens give back
 
-json_of_read : (line : List ℕ) (d : Data) → IsUtf8 line → read line ≡ Some d → json_of line ≡ Some d
+pub json_of_read : (line : List ℕ) (d : Data) → IsUtf8 line → read line ≡ Some d → json_of line ≡ Some d
 unfolding json_of
 json_of_read line d text reads = rw (is_utf8-from_IsUtf8 line text) reads
 
-value_read : (d : Data) → HasNumbers (outline d) → depth (outline d) ≤ 127 → of_json (outline d) ≡ Some d → read (compact_text d) ≡ Some d
+pub value_read : (d : Data) → HasNumbers (outline d) → depth (outline d) ≤ 127 → of_json (outline d) ≡ Some d → read (compact_text d) ≡ Some d
 value_read d numbers shallow means =
     let lexed : tokens (compact_text d) ≡ json_tokens (outline d) =
     ap tokens (sym (print-outline d)) ∙ tokens-print (json_tokens (outline d)) (ArePrintable-json_tokens (outline d) numbers) in
@@ -43,14 +43,14 @@ value_read d numbers shallow means =
 
 -- ---- numbers
 
-natural_is : (n : ℕ) → n < 2 ^ 64 → IsNumber (number_text (unsigned n))
+pub natural_is : (n : ℕ) → n < 2 ^ 64 → IsNumber (number_text (unsigned n))
 natural_is n fits = IsNumber-decimal n fits
 
 integer_is : (z : ℤ) → FitsInteger z → IsNumber (number_text (of_integer z))
 integer_is (pos n) fits = IsNumber-decimal n (omega arith)
 integer_is (negsuc n) fits = IsNumber-signed_decimal (negsuc n) fits
 
-natural_read : (n : ℕ) → n < 2 ^ 64 → of_json (outline (natural n)) ≡ Some (natural n)
+pub natural_read : (n : ℕ) → n < 2 ^ 64 → of_json (outline (natural n)) ≡ Some (natural n)
 unfolding natural
 natural_read n fits = rw (number_of-decimal n fits) refl
 
@@ -59,7 +59,7 @@ unfolding integer
 integer_read (pos n) fits = let small : n < 2 ^ 64 = omega arith in rw (number_of-decimal n small) refl
 integer_read (negsuc n) fits = rw (number_of-negative n fits) refl
 
-small : (n : ℕ) → n < 2 ^ 32 → n < 2 ^ 64
+pub small : (n : ℕ) → n < 2 ^ 32 → n < 2 ^ 64
 small n fits = omega arith
 
 -- ---- names
@@ -94,15 +94,15 @@ change_depth : (c : Change) → depth (outline (change_data c)) ≡ 2
 unfolding change_data flags_data natural integer
 change_depth c = rw (names_depth (names_of c.flags)) refl
 
-changes_read : (cs : List Change) → FitsChanges cs → of_items (items_outline (items_of (map change_data cs))) ≡ Some (items_of (map change_data cs))
+pub changes_read : (cs : List Change) → FitsChanges cs → of_items (items_outline (items_of (map change_data cs))) ≡ Some (items_of (map change_data cs))
 changes_read [] fits = refl
 changes_read (c ∷ cs) fits = rw (change_read c fits.0, changes_read cs fits.1) refl
 
-changes_numbers : (cs : List Change) → FitsChanges cs → ItemsHaveNumbers (items_outline (items_of (map change_data cs)))
+pub changes_numbers : (cs : List Change) → FitsChanges cs → ItemsHaveNumbers (items_outline (items_of (map change_data cs)))
 changes_numbers [] fits = tt
 changes_numbers (c ∷ cs) fits = (change_numbers c fits.0, changes_numbers cs fits.1)
 
-changes_depth : (cs : List Change) → items_depth (items_outline (items_of (map change_data cs))) ≤ 2
+pub changes_depth : (cs : List Change) → items_depth (items_outline (items_of (map change_data cs))) ≤ 2
 changes_depth [] = omega arith
 changes_depth (c ∷ cs) = omega (arith, change_depth c, changes_depth cs)
 

@@ -65,7 +65,7 @@ small n fits = omega arith
 
 -- ---- names
 
-abbrev name_seen : List ℕ → Type 0
+abbrev pub name_seen : List ℕ → Type 0
 name_seen name = are_visible (compact_text (string name)) ≡ true
 
 filter_seen : (f : Filter) → name_seen (filter_name f)
@@ -110,7 +110,7 @@ member_seen later k d ms name first more =
 
 abbrev mutual
   -- each text in the value is visible
-  DataSeen : Data → Type 0
+  pub DataSeen : Data → Type 0
   DataSeen null = Unit {0}
   DataSeen (boolean b) = Unit {0}
   DataSeen (number n) = are_visible (number_text n) ≡ true
@@ -118,16 +118,16 @@ abbrev mutual
   DataSeen (array ds) = ItemsSeen ds
   DataSeen (object ms) = MembersSeen ms
 
-  ItemsSeen : Items → Type 0
+  pub ItemsSeen : Items → Type 0
   ItemsSeen no_items = Unit {0}
   ItemsSeen (item d ds) = DataSeen d × ItemsSeen ds
 
-  MembersSeen : Members → Type 0
+  pub MembersSeen : Members → Type 0
   MembersSeen no_members = Unit {0}
   MembersSeen (member k d ms) = name_seen k × DataSeen d × MembersSeen ms
 
 mutual
-  data_seen : (d : Data) → DataSeen d → are_visible (compact_text d) ≡ true
+  pub data_seen : (d : Data) → DataSeen d → are_visible (compact_text d) ≡ true
   data_seen null h = refl
   data_seen (boolean true) h = refl
   data_seen (boolean false) h = refl
@@ -204,7 +204,7 @@ value_seen (Truth b) fits = tt
 value_seen (Name name) fits = word_seen name fits
 value_seen (Changes changes) fits = changes_seen changes fits
 
-members_data_seen : (ms : List (List ℕ × Value)) → FitMembers ms → MembersSeen (members_data ms)
+pub members_data_seen : (ms : List (List ℕ × Value)) → FitMembers ms → MembersSeen (members_data ms)
 members_data_seen [] fits = tt
 members_data_seen (m ∷ ms) fits = (word_seen m.0 fits.0, value_seen m.1 fits.1, members_data_seen ms fits.2)
 

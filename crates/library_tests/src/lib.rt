@@ -13,6 +13,8 @@ mod joins;
 #[cfg(test)]
 mod knotes;
 #[cfg(test)]
+mod steps;
+#[cfg(test)]
 mod system;
 #[cfg(test)]
 mod text;

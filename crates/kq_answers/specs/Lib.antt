@@ -1,0 +1,4 @@
+pub mod AnswerText
+pub mod Again
+pub mod Answers
+pub mod Read

@@ -1,0 +1,5 @@
+pub mod Same
+pub mod Allowed
+pub mod Pending
+pub mod Judged
+pub mod Verdicts

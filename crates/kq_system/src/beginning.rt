@@ -1,0 +1,56 @@
+// What is done with one live kqueue: a call of it begins, and its queue gets another order.
+ghost use Rattle.std.specs.Prelude.{◌≡◌, Some, IfOk, OnErr, map, option_and_then};
+ghost use Rattle.kq_kevent.specs.Arranged.{arranged};
+ghost use Rattle.kq_model.specs.Moment.{Moment};
+ghost use Rattle.kq_system.specs.Beginning.{begun_kqueue, live_at, with_live_at};
+ghost use Rattle.kq_system.specs.SystemState.{live_of, AreOfVersion, HaveStayed, IsLive};
+
+use crate::all_live::owner_of;
+use crate::kqueues::Kqueues;
+use crate::renewing::renew;
+use crate::watching::watch_all;
+use kq_filters::Views;
+use kq_model::{Change, Key, Memory, Reply};
+
+/// A call on the live kqueue that was made at a place begins.
+pub fn begin_on<V: Views>(
+    live: &mut Kqueues,
+    kqueue: u64,
+    changes: &[Change],
+    room: u32,
+    views: &V,
+) -> Result<Option<Reply>, Memory>
+    requires { IsLive kqueue (map live_of live.old.entries) }
+    ensures begun { IfOk result (λ answer. (m : Moment) → m.views ≡ V.sees views.now
+        → AreOfVersion m.version live.old.entries
+        → let c = record { kqueue = kqueue; changes = changes.now; room = room } in
+        (map live_of live.new.entries
+        ≡ with_live_at kqueue (λ l. (begun_kqueue m c l).kq) (map live_of live.old.entries))
+        × (answer ≡ option_and_then (λ l. (begun_kqueue m c l).answer) (live_at kqueue (map live_of live.old.entries)))) }
+    ensures stayed { HaveStayed live.old.entries live.new.entries }
+    ensures memory { OnErr result (map live_of live.new.entries ≡ map live_of live.old.entries) }
+{
+    renew(live)?;
+    live.ready = None;
+    let owner = owner_of(&live.live, kqueue);
+    watch_all(&mut live.watching, kqueue, owner, changes, views)?;
+    let Some(one) = live.live.get_mut(&kqueue) else {
+        unreachable!();
+    };
+    one.kq.begin(changes, room, views)
+}
+
+/// These keys come first in the queue of the kqueue that was made at a place.
+pub fn put_first_in(live: &mut Kqueues, kqueue: u64, keys: &[Key])
+    requires { IsLive kqueue (map live_of live.old.entries) }
+    ensures arranged { map live_of live.new.entries
+        ≡ with_live_at kqueue (λ l. record l.kq { queue = arranged keys.now l.kq.queue })
+        (map live_of live.old.entries) }
+    ensures stayed { HaveStayed live.old.entries live.new.entries }
+{
+    live.ready = None;
+    let Some(one) = live.live.get_mut(&kqueue) else {
+        unreachable!();
+    };
+    one.kq.put_first(keys);
+}

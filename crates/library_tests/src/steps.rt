@@ -1,0 +1,113 @@
+//! A kevent call of a system in two steps, and another order of the queue between them.
+use kq_kevent::Kq;
+use kq_model::{Change, EvFlags, Event, Filter, Key, Memory, Reply, Why};
+use kq_system::System;
+use std::alloc::Global;
+use std::test::Fail;
+
+/// NOTE_TRIGGER.
+const TRIGGER: u32 = 0x0100_0000;
+
+/// User events of these idents, added and triggered.
+fn triggered(idents: [u64; 3]) -> [Change; 3] {
+    idents.map(|ident| Change {
+        ident,
+        filter: Filter::User,
+        flags: EvFlags::ADD,
+        fflags: TRIGGER,
+        datum: 0,
+        udata: 0,
+    })
+}
+
+fn key(ident: u64) -> Key {
+    Key {
+        ident,
+        filter: Filter::User,
+    }
+}
+
+/// A process 7 with a kqueue under the number 3.
+fn with_kqueue(alloc: Global) -> Result<System, Memory> {
+    let mut system = System::new(alloc, 1)?;
+    system.apply(&Event::Proc { pid: 7 })?;
+    system.apply(&Event::Kqueue { pid: 7, fd: 3 })?;
+    Ok(system)
+}
+
+/// The idents of the events of a reply.
+fn idents(alloc: Global, reply: &Reply) -> Result<Vec<u64>, Memory> {
+    let mut idents = Vec::new(alloc);
+    if let Reply::Events(events) = reply {
+        for event in events.as_slice() {
+            idents.push(event.ident).map_err(|_| Memory)?;
+        }
+    }
+    Ok(idents)
+}
+
+/// The idents in the queue of a kqueue, by a walk over it.
+fn walked(alloc: Global, kq: &Kq) -> Result<Vec<u64>, Memory> {
+    let mut idents = Vec::new(alloc);
+    let mut next = kq.first_waiting();
+    for _turn in 0..9 {
+        let Some(key) = next else {
+            return Ok(idents);
+        };
+        idents.push(key.ident).map_err(|_| Memory)?;
+        next = kq.waiting_after(key);
+    }
+    Ok(idents)
+}
+
+/// The idents in the queue of the kqueue, and how many keys a list of it has.
+fn queued(alloc: Global, system: &System) -> Result<(Vec<u64>, usize), Memory> {
+    match system.kqueue(7, 3) {
+        Some(kq) => Ok((walked(alloc, kq)?, kq.waiting()?.len())),
+        None => Ok((Vec::new(alloc), 0)),
+    }
+}
+
+#[test]
+fn a_call_goes_on_from_another_order(rt: HostRuntime) -> Result<(), Fail> {
+    let mut system = with_kqueue(rt.alloc())?;
+    let answer = system.begin_call(7, 3, &triggered([1, 2, 3]), 2)?;
+    assert!(rt; answer.is_none());
+    assert_eq!(rt; system.applied(), 3);
+    system.put_first(7, 3, &[key(3), key(9), key(2), key(3)]);
+    let (found, waiting) = queued(rt.alloc(), &system)?;
+    assert_eq!(rt; found.as_slice(), [3, 2, 1].as_slice());
+    assert_eq!(rt; waiting, 3);
+    let reply = system.read_events(7, 3, 2)?;
+    assert_eq!(rt; idents(rt.alloc(), &reply)?.as_slice(), [3, 2].as_slice());
+    assert_eq!(rt; system.applied(), 3);
+    Ok(())
+}
+
+#[test]
+fn a_call_with_entries_ends_with_its_changes(rt: HostRuntime) -> Result<(), Fail> {
+    let mut system = with_kqueue(rt.alloc())?;
+    let mut changes = triggered([1, 2, 3]);
+    changes[1].flags = EvFlags::DELETE;
+    let answer = system.begin_call(7, 3, &changes, 2)?;
+    assert!(rt; answer.is_some());
+    let reply = answer.unwrap_or(Reply::Done);
+    assert_eq!(rt; idents(rt.alloc(), &reply)?.as_slice(), [2].as_slice());
+    Ok(())
+}
+
+#[test]
+fn a_call_of_no_kqueue_is_impossible(rt: HostRuntime) -> Result<(), Fail> {
+    let mut system = with_kqueue(rt.alloc())?;
+    let answer = system.begin_call(7, 4, &[], 2)?;
+    assert!(rt; matches!(&answer, Some(Reply::Impossible(Why::NoDescriptor))));
+    assert!(rt;
+        matches!(
+            &system.read_events(7, 4, 2)?,
+            Reply::Impossible(Why::NoDescriptor)
+        )
+    );
+    assert!(rt; system.kqueue(7, 4).is_none());
+    assert!(rt; system.world().is_live(7));
+    Ok(())
+}
