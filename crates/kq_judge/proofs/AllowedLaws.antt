@@ -22,16 +22,18 @@ use Rattle.kq_model.specs.Views.{Views}
 use Rattle.kq_model.proofs.KeyLaws.{same_key, key_eq-refl}
 use Rattle.kq_model.proofs.KeyLists.{has_key-filter}
 use Rattle.kq_model.proofs.KnoteLaws.{by_test}
+use Rattle.kq_kevent.specs.Arranged.{arranged, without_keys, AreAllIn}
+use Rattle.kq_kevent.proofs.ArrangeLaws.{arranged-first, arranged-same, AreOnce-arranged}
 use Rattle.kq_kevent.proofs.TakenLaws.{AreTaken-retrieval}
 use Rattle.kq_judge.specs.declared.member.Ignored.{Ignored}
 use Rattle.kq_judge.specs.declared.member.Member.{Member}
 use Rattle.kq_judge.specs.declared.member.Member.TheVariants.{Flags, Fflags, Datum, Udata}
-use Rattle.kq_judge.specs.Allowed.{IsAllowed, keys_first, event_seen, event_due, with_answer_first, IsGivenInFront}
+use Rattle.kq_judge.specs.Allowed.{IsAllowed, event_seen, event_due, with_answer_first, IsGivenInFront}
 use Rattle.kq_judge.specs.Judged.{IsRightEvent, AreRight}
 use Rattle.kq_judge.specs.Pending.{IsPending}
 use Rattle.kq_judge.specs.Same.{IsSame, AreSame, AgreeOn}
 use Rattle.kq_judge.proofs.FirstLaws.{returns-the_first}
-use Rattle.kq_judge.proofs.OrderLaws.{AreOnce-IsPermutation, AreOnce-keys_first, IsPermutation-keys_first, has_key-keys_first}
+use Rattle.kq_judge.proofs.OrderLaws.{AreOnce-IsPermutation}
 use Rattle.kq_judge.proofs.PendingLaws.{pending-key, pending-due, pending-queued, due-pending}
 
 -- with room left over, each kevent that is pending is in the answer
@@ -53,7 +55,7 @@ agree_on_itself Fflags e = refl
 agree_on_itself Datum e = refl
 agree_on_itself Udata e = refl
 
-same_as_itself : (ignored : List Ignored) (events : List Kevent) → AreSame ignored events events
+pub same_as_itself : (ignored : List Ignored) (events : List Kevent) → AreSame ignored events events
 same_as_itself ignored [] = tt
 same_as_itself ignored (e ∷ events) =
     (record { key = refl; members = λ member compared. agree_on_itself member e }, same_as_itself ignored events)
@@ -102,7 +104,7 @@ none-given views ks (key ∷ keys) none =
 -- the keys of right events are in the queue
 right-within : (ignored : List Ignored) (views : Views) (kq : Kqueue) (own : List Kevent) → IsSound kq
     → Each (IsRightEvent ignored views kq.knotes) own
-    → (key : Key) → has_key key (map key_of_event own) ≡ true → has_key key kq.queue ≡ true
+    → AreAllIn (map key_of_event own) kq.queue
 right-within ignored views kq [] sound each key there = absurd (true≢false (sym there))
 right-within ignored views kq (e ∷ own) sound each key there =
     by_test (λ b. key_eq key (key_of_event e) ≡ b → b || has_key key (map key_of_event own) ≡ true
@@ -114,7 +116,7 @@ right-within ignored views kq (e ∷ own) sound each key there =
 -- the others give nothing where there is room
 others-idle : (ignored : List Ignored) (views : Views) (room : ℕ) (kq : Kqueue) (own : List Kevent) → IsSound kq
     → IsComplete views room kq own → length own < room → (key : Key)
-    → has_key key (filter (λ o. not (has_key o (map key_of_event own))) kq.queue) ≡ true
+    → has_key key (without_keys (map key_of_event own) kq.queue) ≡ true
     → event_due views kq.knotes key ≡ None
 others-idle ignored views room kq own sound complete less key there = by (event_due views kq.knotes key) refl
   where
@@ -130,16 +132,18 @@ others-idle ignored views room kq own sound complete less key there = by (event_
 -- so the first of all, in this order, are the answer
 first-in_front : (ignored : List Ignored) (views : Views) (room : ℕ) (kq : Kqueue) (own : List Kevent) → IsSound kq
     → IsRight ignored views room kq own
-    → take room (filter_map (event_due views kq.knotes) (keys_first (map key_of_event own) kq.queue))
+    → take room (filter_map (event_due views kq.knotes) (arranged (map key_of_event own) kq.queue))
     ≡ filter_map (event_due views kq.knotes) (map key_of_event own)
 first-in_front ignored views room kq own sound right =
-    ap (take room) (filter_map-append due (map key_of_event own) others) ∙ by (cases_lt (length own) room)
+    ap (λ keys. take room (filter_map due keys)) (arranged-first (map key_of_event own) kq.queue right.right.once
+    (right-within ignored views kq own sound right.right.each))
+    ∙ ap (take room) (filter_map-append due (map key_of_event own) others) ∙ by (cases_lt (length own) room)
   where
     due : Key → Option Kevent
     due = event_due views kq.knotes
 
     others : List Key
-    others = filter (λ o. not (has_key o (map key_of_event own))) kq.queue
+    others = without_keys (map key_of_event own) kq.queue
 
     given : List Kevent
     given = filter_map due (map key_of_event own)
@@ -161,16 +165,15 @@ pub right-given : (ignored : List Ignored) (views : Views) (room : ℕ) (kq : Kq
 right-given ignored views room kq own sound right =
     subst (λ (events : List Kevent). AreSame ignored events own)
     (sym (returns-the_first views room (with_answer_first own kq)
-    (AreOnce-keys_first (map key_of_event own) kq.queue right.right.once sound.once)
+    (AreOnce-arranged (map key_of_event own) kq.queue sound.once)
     ∙ first-in_front ignored views room kq own sound right))
     (right-gives ignored views kq.knotes own right.right.each)
 
 pub right-allowed : (ignored : List Ignored) (views : Views) (room : ℕ) (kq : Kqueue) (own : List Kevent) → IsSound kq
     → IsRight ignored views room kq own → IsAllowed ignored views room kq own
 right-allowed ignored views room kq own sound right = record {
-  order = keys_first (map key_of_event own) kq.queue;
-  permutes = IsPermutation-keys_first (map key_of_event own) kq.queue right.right.once sound.once
-      (right-within ignored views kq own sound right.right.each);
+  order = arranged (map key_of_event own) kq.queue;
+  permutes = arranged-same (map key_of_event own) kq.queue sound.once;
   same = right-given ignored views room kq own sound right;
 }
 

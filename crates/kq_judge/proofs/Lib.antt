@@ -5,3 +5,4 @@ pub mod AllowedLaws
 pub mod JudgeLaws
 pub mod VerdictLaws
 pub mod LookedLaws
+pub mod WorkedAnswers

@@ -1,6 +1,6 @@
 -- Which answers of a kevent call are right, where the order of the queue is left open (kqueue(2) does not say in
 -- which order events are returned).
-use Rattle.std.specs.Prelude.{◌≡◌, ℕ, Bool, not, List, [], ◌∷◌, ◌++◌, map, filter, take, Option}
+use Rattle.std.specs.Prelude.{◌≡◌, ℕ, List, map, take, Option}
 use Rattle.std.specs.Prelude.{option_and_then}
 use Rattle.std.specs.List.{filter_map}
 use Rattle.std.specs.List.Sorted.{IsPermutation}
@@ -9,11 +9,12 @@ use Rattle.kq_model.specs.declared.kevent.Kevent.{Kevent}
 use Rattle.kq_model.specs.declared.key.Key.{Key}
 use Rattle.kq_model.specs.CallLaws.{key_of_event}
 use Rattle.kq_model.specs.Hearing.{Hearing}
-use Rattle.kq_model.specs.Knote.{Knote, find_knote, has_key}
+use Rattle.kq_model.specs.Knote.{Knote, find_knote}
 use Rattle.kq_model.specs.Kqueue.{Kqueue}
 use Rattle.kq_model.specs.Look.{look}
 use Rattle.kq_model.specs.Retrieval.{event_of, retrieval}
 use Rattle.kq_model.specs.Views.{Views}
+use Rattle.kq_kevent.specs.Arranged.{arranged}
 use Rattle.kq_judge.specs.declared.member.Ignored.{Ignored}
 use Rattle.kq_judge.specs.Same.{AreSame}
 
@@ -24,10 +25,6 @@ pub record IsAllowed {S : Type 0} {h : Hearing S} (ignored : List Ignored) (view
   pub order : List Key
   pub permutes : IsPermutation kq.queue order
   pub same : AreSame ignored (retrieval views room (record kq { queue = order })).events answer
-
--- these keys first, and then the others of the queue as they stood
-abbrev pub keys_first : List Key → List Key → List Key
-keys_first keys queue = keys ++ filter (λ key. not (has_key key keys)) queue
 
 module _ {S : Type 0} {h : Hearing S} where
   -- the event that a knote gives, where its condition holds
@@ -43,11 +40,11 @@ module _ {S : Type 0} {h : Hearing S} where
   ReturnsTheFirst views room kq =
       (retrieval views room kq).events ≡ take room (filter_map (event_due views kq.knotes) kq.queue)
 
-  -- the kqueue with the answer's kevents in front
+  -- the kqueue with the answer's kevents in front, and the others behind them as they stood
   abbrev pub with_answer_first : List Kevent → Kqueue h → Kqueue h
-  with_answer_first answer kq = record kq { queue = keys_first (map key_of_event answer) kq.queue }
+  with_answer_first answer kq = record kq { queue = arranged (map key_of_event answer) kq.queue }
 
-  -- the retrieval over the queue with the answer's kevents in front gives the answer
+  -- then the retrieval gives the answer
   abbrev pub IsGivenInFront : List Ignored → Views → ℕ → Kqueue h → List Kevent → Type 0
   IsGivenInFront ignored views room kq answer =
       AreSame ignored (retrieval views room (with_answer_first answer kq)).events answer

@@ -183,7 +183,7 @@ pub fn judge<V: Views>(
     ensures model { IsAllowed ignored.now (V.sees views.now) room kq.now.kq
         (retrieval (V.sees views.now) room kq.now.kq).events }
 
-    // Once the answer's kevents stand first in the queue, the retrieval gives the answer: so the kqueue that this
+    // Once `Kq::put_first` has put the answer's kevents first, a retrieval gives the answer: so the kqueue that this
     // leaves is the one to go on from.
     ensures in_front { IsAllowed ignored.now (V.sees views.now) room kq.now.kq own.now
         → IsGivenInFront ignored.now (V.sees views.now) room kq.now.kq own.now }
