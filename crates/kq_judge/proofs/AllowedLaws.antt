@@ -1,21 +1,20 @@
 -- Which answers some order of the queue gives: those whose events are pending, each once, no more than there is room
 -- for, and none held back.
-use Rattle.std.proofs.Common.{◌≡◌, ℕ, ◌<◌, ◌≤◌, Bool, true, false, not, ◌&&◌, ◌||◌, ◌⊎◌, inl, inr, List, [], ◌∷◌, ◌++◌, map, filter, take, length, Option, Some, None, slice_get, refl, sym, ap, ◌∙◌, subst, arith}
+use Rattle.std.proofs.Common.{◌≡◌, ℕ, ◌<◌, ◌≤◌, true, not, ◌||◌, ◌⊎◌, inl, inr, List, [], ◌∷◌, ◌++◌, map, take, length, Option, Some, None, refl, sym, ap, ◌∙◌, subst, arith}
 use Rattle.std.proofs.Math.Seq.{take-append_seam}
 use Rattle.std.proofs.lemmas.Bool.{true≢false, or_left, or_right, and_parts, cases_lt}
-use Rattle.std.proofs.lemmas.List.{take_all, append-nil, length-map}
+use Rattle.std.proofs.lemmas.List.{take_all, append-nil}
 use Rattle.std.proofs.lemmas.List.Elements.{filter_map-append, length_all_zip}
 use Rattle.std.proofs.lemmas.List.Sorted.{IsPermutation-refl, list_any-IsPermutation}
-use Rattle.std.proofs.lemmas.Option.{none-some, same_Some}
+use Rattle.std.proofs.lemmas.Option.{none-some}
 use Rattle.std.specs.List.{filter_map, cons_option}
 use Rattle.std.specs.Option.{option_map}
 use Rattle.std.specs.Prelude.{option_and_then}
 use Rattle.kq_model.specs.declared.kevent.Kevent.{Kevent}
 use Rattle.kq_model.specs.declared.key.Key.{Key}
-use Rattle.kq_model.specs.CallLaws.{Each, key_of_event, AreInOrder, IsDue, IsIdle, AreTaken}
-use Rattle.kq_model.specs.Knote.{key_eq, has_key, find_knote}
+use Rattle.kq_model.specs.CallLaws.{Each, key_of_event, AreInOrder, IsDue, IsIdle}
+use Rattle.kq_model.specs.Knote.{key_eq, has_key}
 use Rattle.kq_model.specs.Kqueue.{AreOnce, IsSound}
-use Rattle.kq_model.specs.Look.{Seen, look}
 use Rattle.kq_model.specs.Retrieval.{event_of, retrieval}
 use Rattle.kq_model.specs.Tallied.{Knote, Kqueue}
 use Rattle.kq_model.specs.Views.{Views}
@@ -34,7 +33,7 @@ use Rattle.kq_judge.specs.Pending.{IsPending}
 use Rattle.kq_judge.specs.Same.{IsSame, AreSame, AgreeOn}
 use Rattle.kq_judge.proofs.FirstLaws.{returns-the_first}
 use Rattle.kq_judge.proofs.OrderLaws.{AreOnce-IsPermutation}
-use Rattle.kq_judge.proofs.PendingLaws.{pending-key, pending-due, pending-queued, due-pending}
+use Rattle.kq_judge.proofs.PendingLaws.{pending-due, pending-queued, due-pending}
 
 -- with room left over, each kevent that is pending is in the answer
 abbrev pub IsComplete : Views → ℕ → Kqueue → List Kevent → Type 0

@@ -1,6 +1,6 @@
 -- What a retrieval returns: the first of those in the queue whose conditions hold. The turn of one knote changes no
 -- other.
-use Rattle.std.proofs.Common.{◌≡◌, ℕ, zero, suc, Bool, true, false, ◌||◌, List, [], ◌∷◌, take, Option, Some, None, refl, sym, ap, ◌∙◌}
+use Rattle.std.proofs.Common.{◌≡◌, ℕ, zero, suc, true, false, List, [], ◌∷◌, take, Option, Some, None, refl, sym, ap, ◌∙◌}
 use Rattle.std.proofs.Math.Seq.{take-nil}
 use Rattle.std.proofs.lemmas.Bool.{or_left}
 use Rattle.std.specs.List.{filter_map, cons_option}
@@ -12,7 +12,7 @@ use Rattle.kq_model.specs.Knote.{key_eq, has_key, find_knote}
 use Rattle.kq_model.specs.Kqueue.{AreOnce, IsSound}
 use Rattle.kq_model.specs.Look.{Seen, look}
 use Rattle.kq_model.specs.Retrieval.{event_of, turned_at_look, turned_at, turned, delivered, after_turn, retrieve, retrieval}
-use Rattle.kq_model.specs.Tallied.{Knote, Kqueue, Retrieved}
+use Rattle.kq_model.specs.Tallied.{Knote, Kqueue}
 use Rattle.kq_model.specs.Views.{Views}
 use Rattle.kq_model.proofs.KeyLaws.{key_eq-refl}
 use Rattle.kq_model.proofs.KnoteLaws.{find_knote-key, find_knote-with_other}
@@ -85,7 +85,8 @@ firsts views first (key ∷ keys) (suc room) kq once agree =
     turn-event views key kq ∙ ap (option_and_then (event_seen views)) (agree key there) in
     after-event views first keys room next (turned views key kq).event
     (λ left. firsts views first keys left next once.1
-    (agree_still key keys kq.knotes next.knotes first once.0 agree (λ other apart. turn-other views key other kq apart)))
+    (agree_still key keys kq.knotes next.knotes first once.0 agree
+    (λ other apart. turn-other views key other kq apart)))
     ∙ ap (λ (o : Option Kevent). take (suc room) (cons_option o (filter_map (event_due views first) keys))) event
 
 pub returns-the_first : (views : Views) (room : ℕ) (kq : Kqueue) → AreOnce kq.queue → ReturnsTheFirst views room kq

@@ -1,6 +1,6 @@
 -- What is wrong with an answer keeps it from being allowed, and where nothing is, it is allowed.
-use Rattle.std.proofs.Common.{◌≡◌, ℕ, zero, suc, ◌+◌, ◌<◌, ◌≤◌, ◌⊎◌, inl, inr, Bool, true, false, ◌||◌, List, [], ◌∷◌, ◌++◌, map, take, length, get_or, slice_get, Option, Some, None, pos, refl, sym, ap, ◌∙◌, subst, arith}
-use Rattle.std.proofs.lemmas.Bool.{true≢false, or_left, or_right, or_parts}
+use Rattle.std.proofs.Common.{◌≡◌, ℕ, zero, suc, ◌+◌, ◌<◌, ◌≤◌, ◌⊎◌, inl, inr, true, false, ◌||◌, List, [], ◌∷◌, ◌++◌, map, take, length, get_or, slice_get, Some, None, pos, refl, sym, ap, ◌∙◌, subst, arith}
+use Rattle.std.proofs.lemmas.Bool.{true≢false, or_left, or_right}
 use Rattle.std.proofs.lemmas.List.{take_more, take_all, map-append, length-take}
 use Rattle.std.proofs.lemmas.Option.{none-some, same_Some, slice_get-get_or}
 use Rattle.kq_model.specs.declared.filter.Filter.TheVariants.{User}
@@ -11,13 +11,12 @@ use Rattle.kq_model.specs.Knote.{key_eq, has_key}
 use Rattle.kq_model.specs.Kqueue.{AreOnce, IsSound}
 use Rattle.kq_model.specs.Tallied.{Knote, Kqueue}
 use Rattle.kq_model.specs.Views.{Views}
-use Rattle.kq_model.proofs.KeyLaws.{same_key, key_eq-refl, key_eq-sym, has_key-append}
+use Rattle.kq_model.proofs.KeyLaws.{same_key, key_eq-refl}
 use Rattle.kq_model.proofs.KnoteLaws.{by_test}
 use Rattle.kq_kevent.proofs.QueueLaws.{AreOnce-push}
 use Rattle.kq_judge.specs.declared.judging.Fault.{Fault}
 use Rattle.kq_judge.specs.declared.judging.Fault.TheVariants.{PastRoom, Twice, NotPending, Differs}
 use Rattle.kq_judge.specs.declared.member.Ignored.{Ignored}
-use Rattle.kq_judge.specs.declared.member.Member.{Member}
 use Rattle.kq_judge.specs.Allowed.{IsAllowed}
 use Rattle.kq_judge.specs.Judged.{IsRightEvent, AreRight, IsOwnFault, IsRightBehind, IsFault, IsWrongAt, AreReturned, IsFirstHeldBack, IsMissing}
 use Rattle.kq_judge.specs.Pending.{IsPending}

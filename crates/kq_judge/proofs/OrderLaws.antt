@@ -1,14 +1,13 @@
 -- In another order of a queue, too, no key stands twice.
-use Rattle.std.proofs.Common.{◌≡◌, ℕ, ◌+◌, ◌≤◌, Bool, true, false, cond, not, ◌||◌, ◌&&◌, List, [], ◌∷◌, ◌++◌, filter, sum_by, refl, sym, ap, ◌∙◌, subst, arith}
-use Rattle.std.proofs.lemmas.Bool.{true≢false, or_parts, or_left, or_right}
-use Rattle.std.proofs.lemmas.List.Sorted.{IsPermutation-refl, IsPermutation-cons, IsPermutation-trans, IsPermutation-middle, sum_by-IsPermutation}
+use Rattle.std.proofs.Common.{◌≡◌, ℕ, ◌+◌, ◌≤◌, Bool, false, cond, ◌||◌, List, [], ◌∷◌, sum_by, refl, sym, ap, ◌∙◌, subst, arith}
+use Rattle.std.proofs.lemmas.Bool.{or_parts}
+use Rattle.std.proofs.lemmas.List.Sorted.{sum_by-IsPermutation}
 use Rattle.std.proofs.lemmas.List.Sums.{sum_by-cons}
 use Rattle.std.specs.List.Sorted.{IsPermutation}
 use Rattle.kq_model.specs.declared.key.Key.{Key}
-use Rattle.kq_model.specs.Knote.{key_eq, has_key, without_key}
+use Rattle.kq_model.specs.Knote.{key_eq, has_key}
 use Rattle.kq_model.specs.Kqueue.{AreOnce}
-use Rattle.kq_model.proofs.KeyLaws.{same_key, key_eq-refl, key_eq-sym, has_key-append, has_key-without_same, has_key-without_other}
-use Rattle.kq_model.proofs.KeyLists.{has_key-filter, without_key-absent, AreOnce-filter, AreOnce-append}
+use Rattle.kq_model.proofs.KeyLaws.{same_key, key_eq-refl}
 use Rattle.kq_model.proofs.KnoteLaws.{by_test}
 
 -- ---- how often a key stands in a list
@@ -53,9 +52,10 @@ once-times : (keys : List Key) → ((key : Key) → times key keys ≤ 1) → Ar
 unfolding times
 once-times [] most = tt
 once-times (x ∷ keys) most =
-    let front = subst (λ b. one_if b + times x keys ≤ 1) (key_eq-refl x) (most x) in
-    (absent-times x keys (omega arith),
-    once-times keys (λ key. let whole = most key in omega arith))
+    let front = subst (λ b. one_if b + times x keys ≤ 1) (key_eq-refl x) (most x) in (
+      absent-times x keys (omega arith),
+      once-times keys (λ key. let whole = most key in omega arith),
+    )
 
 pub AreOnce-IsPermutation : (keys order : List Key) → IsPermutation keys order → AreOnce keys → AreOnce order
 AreOnce-IsPermutation keys order permutes once =

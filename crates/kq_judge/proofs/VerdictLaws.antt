@@ -1,7 +1,7 @@
 -- Where a retrieval looks, and what becomes of each kevent: one thing, and no other.
-use Rattle.std.proofs.Common.{◌≡◌, ℕ, zero, suc, Bool, true, false, cond, not, ◌&&◌, ◌||◌, List, [], ◌∷◌, map, take, length, Option, Some, None, refl, sym, ap, ◌∙◌, subst}
+use Rattle.std.proofs.Common.{◌≡◌, ℕ, zero, suc, Bool, true, false, cond, not, ◌&&◌, ◌||◌, List, [], ◌∷◌, map, take, length, Option, Some, None, refl, sym, ap, ◌∙◌}
 use Rattle.std.proofs.Math.Seq.{take-nil}
-use Rattle.std.proofs.lemmas.Bool.{true≢false, or_left, or_right, or_parts, and_parts}
+use Rattle.std.proofs.lemmas.Bool.{true≢false, or_parts, and_parts}
 use Rattle.std.proofs.lemmas.Option.{none-some, same_Some}
 use Rattle.std.specs.List.{filter_map, cons_option}
 use Rattle.std.specs.Option.{is_some, option_map}
@@ -207,7 +207,8 @@ the-waiting : (end : Outcome) (views : Views) (kq : Kqueue) (key : Key) (looked 
 unfolding the_verdict
 the-waiting end views kq key looked w =
     ap (the_verdict end views looked) w.found
-    ∙ ap (λ b. cond (not b) (Absent Disabled) (cond (not w.knote.active) (Absent (NotActive (is_some (look views w.knote))))
+    ∙ ap (λ b. cond (not b) (Absent Disabled)
+    (cond (not w.knote.active) (Absent (NotActive (is_some (look views w.knote))))
     (verdict_in_queue end looked (found_by (look views w.knote))))) w.enabled
     ∙ ap (λ b. cond (not b) (Absent (NotActive (is_some (look views w.knote))))
     (verdict_in_queue end looked (found_by (look views w.knote)))) w.active

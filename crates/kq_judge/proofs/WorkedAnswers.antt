@@ -1,5 +1,5 @@
 -- Three user events are triggered and stand in the queue as 1, 2, 3: which answers of a call are allowed.
-use Rattle.std.proofs.Common.{◌≡◌, ℕ, pos, true, false, cond, ◌||◌, List, [], ◌∷◌, None, Some, refl, sym, subst, ◌∙◌, lit<}
+use Rattle.std.proofs.Common.{◌≡◌, ℕ, pos, true, false, cond, ◌||◌, List, [], ◌∷◌, None, Some, refl, sym, lit<}
 use Rattle.std.proofs.lemmas.Bool.{true≢false}
 use Rattle.kq_model.specs.declared.filter.Filter.TheVariants.{User}
 use Rattle.kq_model.specs.declared.kevent.Kevent.{Kevent}
@@ -8,7 +8,6 @@ use Rattle.kq_model.specs.Bits.{clear}
 use Rattle.kq_model.specs.Hearing.{tallying}
 use Rattle.kq_model.specs.Knote.{key_eq, has_key, find_knote}
 use Rattle.kq_model.specs.Kqueue.{is_waiting, IsSound}
-use Rattle.kq_model.specs.Retrieval.{retrieval}
 use Rattle.kq_model.specs.Tallied.{Knote, Kqueue}
 use Rattle.kq_model.proofs.Builders.{event}
 use Rattle.kq_model.proofs.KnoteLaws.{by_test}
@@ -98,5 +97,5 @@ third_pending = record {
 
 pub event_missing : IsAllowed [] nothing_there 3 three (returned 1 ∷ returned 2 ∷ []) → ⊥
 event_missing allowed =
-    true≢false (sym ((allowed-right [] nothing_there 3 three (returned 1 ∷ returned 2 ∷ []) three_sound allowed).complete
-    (lit< tt) (key 3) (returned 3) third_pending))
+    let right = allowed-right [] nothing_there 3 three (returned 1 ∷ returned 2 ∷ []) three_sound allowed in
+    true≢false (sym (right.complete (lit< tt) (key 3) (returned 3) third_pending))

@@ -30,7 +30,8 @@ pub record AreRight {S : Type 0} {h : Hearing S} (ignored : List Ignored) (views
   pub once : AreOnce (map key_of_event events)
 
 -- what is wrong with an event behind those of these keys, were there room
-abbrev pub IsOwnFault : {S : Type 0} {h : Hearing S} → List Ignored → Views → List (Knote h) → List Key → Kevent → Fault → Type 0
+abbrev pub IsOwnFault : {S : Type 0} {h : Hearing S} → List Ignored → Views → List (Knote h) → List Key → Kevent
+    → Fault → Type 0
 IsOwnFault ignored views knotes before e PastRoom = ⊥
 IsOwnFault ignored views knotes before e Twice = has_key (key_of_event e) before ≡ true
 IsOwnFault ignored views knotes before e (NotPending absence) = IsAbsence views knotes (key_of_event e) absence
@@ -45,7 +46,8 @@ pub record IsRightBehind {S : Type 0} {h : Hearing S} (ignored : List Ignored) (
   pub new : has_key (key_of_event e) before ≡ false
 
 -- what is wrong with an event behind these
-abbrev pub IsFault : {S : Type 0} {h : Hearing S} → List Ignored → Views → ℕ → List (Knote h) → List Kevent → Kevent → Fault → Type 0
+abbrev pub IsFault : {S : Type 0} {h : Hearing S} → List Ignored → Views → ℕ → List (Knote h) → List Kevent → Kevent
+    → Fault → Type 0
 IsFault ignored views room knotes before e PastRoom = room ≤ length before
 IsFault ignored views room knotes before e Twice = IsOwnFault ignored views knotes (map key_of_event before) e Twice
 IsFault ignored views room knotes before e (NotPending absence) =

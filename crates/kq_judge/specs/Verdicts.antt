@@ -14,7 +14,8 @@ use Rattle.kq_judge.specs.declared.absence.Absence.TheVariants.{NotRegistered, D
 use Rattle.kq_judge.specs.declared.verdict.Outcome.{Outcome}
 use Rattle.kq_judge.specs.declared.verdict.Outcome.TheVariants as outcome
 use Rattle.kq_judge.specs.declared.verdict.Verdict.{Verdict}
-use Rattle.kq_judge.specs.declared.verdict.Verdict.TheVariants.{Returned, Absent, RoomWasFull, EntriesPlaced, CallFailed}
+use Rattle.kq_judge.specs.declared.verdict.Verdict.TheVariants.{Returned, Absent, RoomWasFull, EntriesPlaced}
+use Rattle.kq_judge.specs.declared.verdict.Verdict.TheVariants.{CallFailed}
 use Rattle.kq_judge.specs.Allowed.{event_due}
 use Rattle.kq_judge.specs.Pending.{IsAbsence}
 

@@ -1,4 +1,5 @@
-ghost use Rattle.std.specs.Prelude.{◌≡◌, ◌≤◌, ◌<◌, true, false, length, map, min, IsOk, IfOk, MatchOption, MatchBool, IfNone, []};
+ghost use Rattle.std.specs.Prelude.{◌≡◌, ◌≤◌, true, false, [], length, map, min};
+ghost use Rattle.std.specs.Prelude.{IsOk, IfOk, IfNone, MatchOption, MatchBool};
 ghost use Rattle.kq_model.specs.CallLaws.{key_of_event};
 ghost use Rattle.kq_model.specs.declared.kevent.Kevent.{Kevent};
 ghost use Rattle.kq_judge.specs.Pending.{IsPending};
@@ -6,7 +7,8 @@ ghost use Rattle.kq_model.specs.Knote.{has_key};
 ghost use Rattle.kq_model.specs.Kqueue.{AreOnce, IsSound};
 ghost use Rattle.kq_model.specs.Retrieval.{retrieval};
 ghost use Rattle.kq_judge.specs.Allowed.{IsAllowed, IsGivenInFront, ReturnsTheFirst};
-ghost use Rattle.kq_judge.specs.Judged.{AreRight, AreReturned, IsFirstHeldBack, IsJudged, IsOwnFault, IsRightBehind, IsWrongAt};
+ghost use Rattle.kq_judge.specs.Judged.{AreRight, AreReturned, IsFirstHeldBack, IsJudged};
+ghost use Rattle.kq_judge.specs.Judged.{IsOwnFault, IsRightBehind, IsWrongAt};
 
 use crate::absence::{Absence, pending_event};
 use crate::member::{Ignored, Member, differing};
@@ -138,12 +140,7 @@ pub(crate) fn most_waiting(kq: &Kq) -> usize
 
 /// The first key of the queue, which has no more than so many, of which an event is pending that is not among those
 /// returned.
-fn first_held_back<V: Views>(
-    kq: &Kq,
-    most: usize,
-    returned: &Table<Key>,
-    views: &V,
-) -> Option<Key>
+fn first_held_back<V: Views>(kq: &Kq, most: usize, returned: &Table<Key>, views: &V) -> Option<Key>
     requires most { length kq.now.kq.queue ≤ most }
     requires once { AreOnce kq.now.kq.queue }
     ensures { MatchOption result

@@ -3,7 +3,8 @@ ghost use Rattle.kq_model.specs.Kqueue.{IsSound};
 ghost use Rattle.kq_judge.specs.Allowed.{event_due};
 ghost use Rattle.kq_model.specs.declared.kevent.Kevent.{Kevent};
 ghost use Rattle.kq_judge.specs.Pending.{IsPending};
-ghost use Rattle.kq_judge.specs.Verdicts.{IsVerdict, ReturnsOfThoseLookedAt, keys_looked_at, looked_at, verdict_in_queue};
+ghost use Rattle.kq_judge.specs.Verdicts.{IsVerdict, ReturnsOfThoseLookedAt};
+ghost use Rattle.kq_judge.specs.Verdicts.{keys_looked_at, looked_at, verdict_in_queue};
 
 use crate::absence::{Absence, pending_event};
 use crate::judging::{most_waiting, was_returned};
@@ -138,9 +139,7 @@ pub fn verdict_of<V: Views>(
     let looked = was_returned(looked_at, key);
     match pending_event(kq, key, views) {
         Ok(_) => verdict_in_queue(outcome, looked, Verdict::Returned),
-        Err(Absence::Idle) => {
-            verdict_in_queue(outcome, looked, Verdict::Absent(Absence::Idle))
-        }
+        Err(Absence::Idle) => { verdict_in_queue(outcome, looked, Verdict::Absent(Absence::Idle)) }
         Err(Absence::NotRegistered) => Verdict::Absent(Absence::NotRegistered),
         Err(Absence::Disabled) => Verdict::Absent(Absence::Disabled),
         Err(Absence::NotActive { holds }) => Verdict::Absent(Absence::NotActive { holds }),

@@ -1,5 +1,4 @@
-use Rattle.std.proofs.Common.{◌≡◌, ◌+◌, Option, Some, None, take, slice_get, suc, refl, sym, ap, ◌∙◌, subst, arith}
-use Rattle.kq_model.specs.declared.key.Key.{Key}
+use Rattle.std.proofs.Common.{◌≡◌, ◌+◌, Some, slice_get, suc, sym, ap, ◌∙◌, arith}
 use Rattle.kq_kevent.proofs.ArrangeLaws.{key_after-next}
 use Rattle.kq_judge.proofs.JudgeLaws.{returned-more, returned-whole, returned-past}
 use Rattle.kq_judge.proofs.judging.first_held_back.Goals as goal

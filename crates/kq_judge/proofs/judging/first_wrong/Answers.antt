@@ -1,5 +1,4 @@
-use Rattle.std.proofs.Common.{sym, ap, ◌∙◌, arith, rules}
-use Rattle.kq_model.specs.CallLaws.{key_of_event}
+use Rattle.std.proofs.Common.{ap, ◌∙◌, arith, rules}
 use Rattle.kq_model.specs.Knote.{has_key}
 use Rattle.kq_model.specs.declared.key.Key.{Key}
 use Rattle.kq_kevent.proofs.TableLaws.{find_row-none}

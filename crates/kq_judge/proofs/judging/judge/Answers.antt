@@ -1,7 +1,6 @@
-use Rattle.std.proofs.Common.{List, map, subst}
+use Rattle.std.proofs.Common.{List, subst}
 use Rattle.kq_model.specs.declared.key.Key.{Key}
-use Rattle.kq_model.specs.CallLaws.{key_of_event}
-use Rattle.kq_judge.specs.Judged.{AreReturned, IsFirstHeldBack, IsMissing}
+use Rattle.kq_judge.specs.Judged.{AreReturned, IsFirstHeldBack}
 use Rattle.kq_judge.proofs.JudgeLaws.{wrong-refused, missing-refused, missing-at, full-allowed, whole-allowed}
 use Rattle.kq_judge.proofs.judging.judge.Goals as goal
 
@@ -33,6 +32,8 @@ returns-clause-judged g c =
     let missing = missing-at c.args.ignored.now views c.args.room kq c.args.own.now c.in-Some-first_held_back.key
     c.in_default.ensures.wrong.0 c.in_default.ensures.wrong.1 c.if-own-room.false
     (subst (λ (rows : List Key). IsFirstHeldBack views kq.knotes kq.queue rows c.in-Some-first_held_back.key)
-    c.in_default.ensures.returned c.in-Some-first_held_back.ensures) in
-    (missing-refused c.args.ignored.now views c.args.room kq c.args.own.now c.in-Some-first_held_back.key
-    c.most_waiting-most.ensures.sound missing, missing)
+    c.in_default.ensures.returned c.in-Some-first_held_back.ensures) in (
+      missing-refused c.args.ignored.now views c.args.room kq c.args.own.now c.in-Some-first_held_back.key
+          c.most_waiting-most.ensures.sound missing,
+      missing,
+    )

@@ -1,6 +1,4 @@
-use Rattle.std.proofs.Common.{◌≡◌, ◌+◌, ◌<◌, ◌++◌, Option, Some, suc, take, drop, slice_get, refl, sym, ap, ◌∙◌, arith, rules}
-use Rattle.kq_model.specs.declared.key.Key.{Key}
-use Rattle.kq_model.specs.Knote.{has_key}
+use Rattle.std.proofs.Common.{◌≡◌, ◌+◌, ◌<◌, Some, suc, slice_get, sym, ap, ◌∙◌, arith, rules}
 use Rattle.kq_kevent.proofs.ArrangeLaws.{key_after-next}
 use Rattle.kq_kevent.proofs.TableLaws.{find_row-none}
 use Rattle.kq_judge.specs.Allowed.{event_due}

@@ -1,5 +1,4 @@
-use Rattle.std.proofs.Common.{◌≡◌, Bool, List, true, false, sym, ap, ◌∙◌, subst}
-use Rattle.kq_model.specs.declared.key.Key.{Key}
+use Rattle.std.proofs.Common.{◌≡◌, Bool, sym, ap, ◌∙◌, subst}
 use Rattle.kq_model.specs.Knote.{has_key}
 use Rattle.kq_judge.specs.declared.absence.Absence.{Absence}
 use Rattle.kq_judge.specs.Pending.{IsAbsence}
@@ -35,8 +34,10 @@ returns-in-Err-Idle-clause-is g c =
     let is = c.verdict_in_queue-in-Err-Idle.ensures
     ∙ ap (λ (b : Bool). verdict_in_queue c.args.outcome b (Absent Idle)) looked in
     subst (λ (v : Verdict). IsVerdict c.args.outcome views kq c.args.key v) (sym is)
-    (verdict-idle c.args.outcome views kq c.args.key c.pending_event.ensures.sound 
-    (subst (λ (a : Absence). IsAbsence (g.V.Views.sees c.args.views.now) c.args.kq.now.kq.knotes c.args.key a) c.in-Err-Idle.field-0-is
+    (verdict-idle c.args.outcome views kq c.args.key c.pending_event.ensures.sound
+    (subst
+    (λ (a : Absence). IsAbsence (g.V.Views.sees c.args.views.now) c.args.kq.now.kq.knotes c.args.key a)
+    c.in-Err-Idle.field-0-is
     c.in-Err-Idle.ensures.event))
 
 pub returns-in-Err-Idle-clause-alone : goal.returns-in-Err-Idle-clause-alone
@@ -47,20 +48,26 @@ returns-in-Err-Idle-clause-alone g c = λ other is.
 pub returns-in-Err-NotRegistered-clause-alone : goal.returns-in-Err-NotRegistered-clause-alone
 returns-in-Err-NotRegistered-clause-alone g c = λ other is.
     verdict-alone c.args.outcome (g.V.Views.sees c.args.views.now) c.args.kq.now.kq c.args.key (Absent NotRegistered)
-    other c.pending_event.ensures.sound 
-    (subst (λ (a : Absence). IsAbsence (g.V.Views.sees c.args.views.now) c.args.kq.now.kq.knotes c.args.key a) c.in-Err-NotRegistered.field-0-is
+    other c.pending_event.ensures.sound
+    (subst
+    (λ (a : Absence). IsAbsence (g.V.Views.sees c.args.views.now) c.args.kq.now.kq.knotes c.args.key a)
+    c.in-Err-NotRegistered.field-0-is
     c.in-Err-NotRegistered.ensures.event) is
 
 pub returns-in-Err-Disabled-clause-alone : goal.returns-in-Err-Disabled-clause-alone
 returns-in-Err-Disabled-clause-alone g c = λ other is.
     verdict-alone c.args.outcome (g.V.Views.sees c.args.views.now) c.args.kq.now.kq c.args.key (Absent Disabled)
-    other c.pending_event.ensures.sound 
-    (subst (λ (a : Absence). IsAbsence (g.V.Views.sees c.args.views.now) c.args.kq.now.kq.knotes c.args.key a) c.in-Err-Disabled.field-0-is
+    other c.pending_event.ensures.sound
+    (subst
+    (λ (a : Absence). IsAbsence (g.V.Views.sees c.args.views.now) c.args.kq.now.kq.knotes c.args.key a)
+    c.in-Err-Disabled.field-0-is
     c.in-Err-Disabled.ensures.event) is
 
 pub returns-in-Err-NotActive-clause-alone : goal.returns-in-Err-NotActive-clause-alone
 returns-in-Err-NotActive-clause-alone g c = λ other is.
     verdict-alone c.args.outcome (g.V.Views.sees c.args.views.now) c.args.kq.now.kq c.args.key
-    (Absent (NotActive c.in-Err-NotActive.holds)) other c.pending_event.ensures.sound 
-    (subst (λ (a : Absence). IsAbsence (g.V.Views.sees c.args.views.now) c.args.kq.now.kq.knotes c.args.key a) c.in-Err-NotActive.field-0-is
+    (Absent (NotActive c.in-Err-NotActive.holds)) other c.pending_event.ensures.sound
+    (subst
+    (λ (a : Absence). IsAbsence (g.V.Views.sees c.args.views.now) c.args.kq.now.kq.knotes c.args.key a)
+    c.in-Err-NotActive.field-0-is
     c.in-Err-NotActive.ensures.event) is
