@@ -21,3 +21,5 @@ pub mod PrepareLemmas
 pub mod FollowLemmas
 pub mod BeginLemmas
 pub mod BeginSteps
+pub mod BeginTallied
+pub mod NamedLemmas

@@ -1,7 +1,7 @@
 -- The live kqueue that a number names; and a kevent call of the system in two steps, as kq_kevent/specs/Beginning.antt
 -- has them of one kqueue: its changes, and then, where these gave no answer, the retrieval. Between the two, the queue
 -- may be put into another order.
-use Rattle.std.specs.Prelude.{◌≡◌, ◌==◌, ℕ, List, [], ◌∷◌, map, nat_eq, Option, Some, None, option_and_then, if◌then◌else◌}
+use Rattle.std.specs.Prelude.{◌≡◌, ◌==◌, ◌⊎◌, ℕ, List, [], ◌∷◌, map, nat_eq, Option, Some, None, option_and_then, if◌then◌else◌}
 use Rattle.std.specs.Map.{lookup}
 use Rattle.kq_kevent.specs.Arranged.{arranged}
 use Rattle.kq_kevent.specs.Beginning as kevent
@@ -14,6 +14,8 @@ use Rattle.kq_model.specs.declared.object.Named.{Named}
 use Rattle.kq_model.specs.declared.object.Named.TheVariants as named
 use Rattle.kq_model.specs.declared.reply.Reply.{Reply}
 use Rattle.kq_model.specs.declared.reply.Reply.TheVariants as reply
+use Rattle.kq_model.specs.declared.why.Why.{Why}
+use Rattle.kq_model.specs.Caller.{Caller}
 use Rattle.kq_model.specs.Hearing.{Hearing, listed}
 use Rattle.kq_model.specs.Kqueue.{Kqueue}
 use Rattle.kq_model.specs.Moment.{Moment, moment_of, caller_at}
@@ -23,7 +25,8 @@ use Rattle.kq_model.specs.Plans.{plan}
 use Rattle.kq_model.specs.Recast.{tallied_system}
 use Rattle.kq_model.specs.System as model
 use Rattle.kq_model.specs.Tallied.{Live, System}
-use Rattle.kq_model.specs.World.{Call, Planned, Impossible, Possible, named_by, seen_world}
+use Rattle.kq_model.specs.Views.{Views}
+use Rattle.kq_model.specs.World.{Call, Planned, Impossible, Possible, named_by, seen_world, views_of}
 use Rattle.kq_system.specs.SystemState.{IsCalled, IsStep, NumberedKqueue}
 
 -- ---- the kqueue that a number names
@@ -99,7 +102,8 @@ IsBegunAt m c old new answer =
 abbrev pub IsCallSoFar : Moment → Moment → Call → List Live → List Live → Option Reply → Type 0
 IsCallSoFar m n c old new (Some reply) = IsCalled m c old new reply
 IsCallSoFar m n c old new None =
-    (last : List Live) × (reply : Reply) × IsCalled m c old last reply × IsCalled n (record c { changes = [] }) new last reply
+    (last : List Live) × (reply : Reply) × IsCalled m c old last reply
+    × IsCalled n (record c { changes = [] }) new last reply
 
 -- a call that began takes the old system to the new one, with this answer
 abbrev pub IsBeginning : ℕ → Event → System → System → Option Reply → Type 0
@@ -126,6 +130,30 @@ arranged_at None keys live = live
 arranged_at (Some place) keys live = with_live_at place (λ l. record l.kq { queue = arranged keys l.kq.queue }) live
 
 -- of that which a number names
-abbrev pub arranged_in : {S A B C D : Type 0} {h : Hearing S} {k : Keeping A B C D} → ℕ → ℕ → List Key → model.System h k
-    → model.System h k
+abbrev pub arranged_in : {S A B C D : Type 0} {h : Hearing S} {k : Keeping A B C D} → ℕ → ℕ → List Key
+    → model.System h k → model.System h k
 arranged_in pid number keys s = record s { live = arranged_at (place_named pid number s) keys s.live }
+
+-- ---- what that is for the kqueue that the number names
+
+-- the changes of a call of this one, unless the call is impossible
+abbrev pub IsBegunOf : Caller → ℕ → List Change → Live → Option Live → Option Reply → Type 0
+IsBegunOf by room changes l new answer =
+    ((why : Why) × (answer ≡ Some (reply.Impossible why)))
+    ⊎ ((answer ≡ (kevent.begun by room changes l.kq).answer)
+    × (new ≡ Some (record l { kq = (kevent.begun by room changes l.kq).kq })))
+
+-- the retrieval
+abbrev pub IsReadOf : Views → ℕ → Live → Option Live → Reply → Type 0
+IsReadOf views room l new answer =
+    ((why : Why) × (answer ≡ reply.Impossible why))
+    ⊎ ((answer ≡ (kevent.read views room l.kq).reply)
+    × (new ≡ Some (record l { kq = (kevent.read views room l.kq).kq })))
+
+-- the owner of a live kqueue of a system as it calls
+abbrev pub owner_of : System → Live → Caller
+owner_of s l = record { views = views_of (seen_world s.world); owner = l.owner; version = s.version }
+
+-- with these keys of its queue first
+abbrev pub arranged_live : List Key → Live → Live
+arranged_live keys l = record l { kq = record l.kq { queue = arranged keys l.kq.queue } }

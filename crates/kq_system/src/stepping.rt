@@ -1,5 +1,6 @@
 // A kevent call of the system in two steps, with a look at its kqueue between them.
-ghost use Rattle.std.specs.Prelude.{◌≡◌, ◌+◌, ◌-◌, ◌^◌, ◌<◌, [], None, IfOk, IsOk, OnErr, MatchOption};
+ghost use Rattle.std.specs.Prelude.{◌≡◌, ◌+◌, ◌-◌, ◌^◌, ◌<◌, [], None, Some, IfOk, IsOk, OnErr, MatchOption};
+ghost use Rattle.std.specs.Option.{option_map};
 ghost use Rattle.kq_model.specs.declared.event.Event.TheVariants as event_of;
 ghost use Rattle.kq_model.specs.Hearing.{listed};
 ghost use Rattle.kq_model.specs.Objects as objects;
@@ -7,10 +8,11 @@ ghost use Rattle.kq_model.specs.Plans.{plan};
 ghost use Rattle.kq_model.specs.Recast.{IsTalliedStep, tallied_system};
 ghost use Rattle.kq_model.specs.System as model;
 ghost use Rattle.kq_model.specs.System.{step};
+ghost use Rattle.kq_model.specs.Tallied.{Live};
 ghost use Rattle.kq_model.specs.WatchedNumbers.{AllWatchTheirNumbers};
 ghost use Rattle.kq_process.specs.Effects.{IsPossible};
 ghost use Rattle.kq_process.specs.World.{world_of};
-ghost use Rattle.kq_system.specs.Beginning.{arranged_in, live_named, IsBeginning, IsLiveOne, IsStepSoFar};
+ghost use Rattle.kq_system.specs.Beginning.{arranged_in, arranged_live, begun, live_named, owner_of, IsBeginning, IsBegunOf, IsLiveOne, IsReadOf, IsStepSoFar, IsTalliedBeginning};
 ghost use Rattle.kq_system.specs.SystemState.{IsImpossible, IsStep, IsUnchanged, system_of};
 
 use crate::System;
@@ -56,9 +58,20 @@ impl System {
         ensures begun { IfOk result (IsBeginning (self.old.applied + 1)
             (event_of.Kevent pid fd changes.now room) (system_of self.old) (system_of self.new)) }
 
+        // That is for the kqueue which the number names.
+        ensures kqueue { IfOk result (λ answer. (l : Live) → live_named pid fd (system_of self.old) ≡ Some l
+            → IsBegunOf (owner_of (system_of self.old) l) room changes.now l
+            (live_named pid fd (system_of self.new)) answer) }
+
         // With `read_events` behind it, where there is no answer yet, this is what `apply` does.
         ensures steps { IfOk result (IsStepSoFar (self.old.applied + 1) pid fd changes.now room
             (system_of self.old) (system_of self.new)) }
+
+        // The same in the words of the definitions, which keep all that was recorded and heard.
+        ensures model { IfOk result (λ answer. (m : model.System listed objects.listed)
+            → system_of self.old ≡ tallied_system m
+            → IsTalliedBeginning (system_of self.new) answer
+            (begun (self.old.applied + 1) (event_of.Kevent pid fd changes.now room) m)) }
 
         ensures watched { AllWatchTheirNumbers (system_of self.new) }
         ensures applied { IfOk result (λ _. self.new.applied ≡ self.old.applied + 1) }
@@ -111,8 +124,14 @@ impl System {
         ensures reply { IfOk result (IsStep self.old.applied
             (event_of.Kevent pid fd [] room) (system_of self.old) (system_of self.new)) }
 
+        // That is for the kqueue which the number names.
+        ensures kqueue { IfOk result (λ reply. (l : Live) → live_named pid fd (system_of self.old) ≡ Some l
+            → IsReadOf (owner_of (system_of self.old) l).views room l
+            (live_named pid fd (system_of self.new)) reply) }
+
         // The same in the words of the definitions, which keep all that was recorded and heard.
-        ensures model { IfOk result (λ reply. (m : model.System listed objects.listed) → system_of self.old ≡ tallied_system m
+        ensures model { IfOk result (λ reply. (m : model.System listed objects.listed)
+            → system_of self.old ≡ tallied_system m
             → IsTalliedStep (system_of self.new) reply (step self.old.applied (event_of.Kevent pid fd [] room) m)) }
 
         ensures watched { AllWatchTheirNumbers (system_of self.new) }
@@ -130,6 +149,10 @@ impl System {
     /// and the others behind them as they stood, by `Kq::put_first`; nothing where it names no kqueue.
     pub fn put_first(&mut self, pid: u32, fd: u32, keys: &[Key])
         ensures system { system_of self.new ≡ arranged_in pid fd keys.now (system_of self.old) }
+
+        // That is for the kqueue which the number names.
+        ensures kqueue { live_named pid fd (system_of self.new)
+            ≡ option_map (arranged_live keys.now) (live_named pid fd (system_of self.old)) }
 
         // The same in the words of the definitions, which keep all that was recorded and heard.
         ensures model { (m : model.System listed objects.listed) → system_of self.old ≡ tallied_system m
