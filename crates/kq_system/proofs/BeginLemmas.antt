@@ -210,7 +210,8 @@ module _ (k : ℕ) (does : Live → Kqueue) where
   watched-with views (l ∷ ls) still all =
       let P : Live → Type 0 = λ (l : Live). WatchTheirNumbers views l.owner l.kq in
       All-cons P (one_with l (nat_eq k l.place)) (with_live_at k does ls)
-      (by_test (λ b. P (one_with l b)) (nat_eq k l.place) (λ _. still l (All-head P l ls all)) (λ _. All-head P l ls all))
+      (by_test (λ b. P (one_with l b)) (nat_eq k l.place) (λ _. still l (All-head P l ls all))
+      (λ _. All-head P l ls all))
       (watched-with views ls still (All-tail P l ls all))
 
 -- ---- a call begins
@@ -249,7 +250,8 @@ module _ (m : Moment) (c : Call) (views : Views) (es : Entries) (v w : NumberedK
         set_with c.kqueue (λ l. (begun_kqueue m c l).kq) es v w distinct found number owner
             (ap (λ (b : kevent.Begun tallying). b.kq) (does ∙ same)),
         ap (λ (b : kevent.Begun tallying). b.answer) (does ∙ same)
-            ∙ sym (ap (option_and_then (λ (l : Live). (begun_kqueue m c l).answer)) (live_at-found c.kqueue es v found)),
+            ∙ sym (ap (option_and_then (λ (l : Live). (begun_kqueue m c l).answer))
+            (live_at-found c.kqueue es v found)),
       )
 
 so_far-ended : (m n : Moment) (c : Call) (views : Views) (es : Entries) (v w : NumberedKqueue) (reply : Reply)
@@ -297,7 +299,8 @@ pub so_far : (m n : Moment) (c : Call) (views : Views) (es : Entries) (v w : Num
     → ◌≡◌ {A = kevent.Begun tallying} (record { kq = w.kq.kq; answer = answer })
     (kevent.begun (caller views v.kq) c.room c.changes v.kq.kq)
     → IsCallSoFar m n c (map live_of es) (map live_of (set_value (nat_eq c.kqueue) es w)) answer
-so_far m n c views es v w (Some reply) quiet sees versions calls still seen version then distinct found number owner goes does =
+so_far m n c views es v w
+    (Some reply) quiet sees versions calls still seen version then distinct found number owner goes does =
     so_far-ended m n c views es v w reply quiet sees versions calls distinct found number owner does
 so_far m n c views es v w None quiet sees versions calls still seen version then distinct found number owner goes does =
     so_far-goes m n c views es v w quiet sees versions calls still seen version then distinct found number owner goes

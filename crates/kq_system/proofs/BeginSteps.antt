@@ -58,7 +58,8 @@ begins-possible place e c old live answer is does =
 
 -- ---- the call without changes
 
-few_step : (many wide : Bool) (c d : Call) → cond (many || wide) (Impossible TooMany) (Possible (call_plan c)) ≡ Possible (call_plan c)
+few_step : (many wide : Bool) (c d : Call) → cond (many || wide) (Impossible TooMany) (Possible (call_plan c))
+    ≡ Possible (call_plan c)
     → cond wide (Impossible TooMany) (Possible (call_plan d)) ≡ Possible (call_plan d)
 few_step true wide c d is = absurd (cc)
 few_step false true c d is = absurd (cc)
@@ -74,7 +75,8 @@ module _ (pid fd room kqueue : ℕ) (changes : List Change) (w : World) where
   few_named : (found : Option Named) → found ≡ Some (named.Kqueue kqueue)
       → on_named (plan_call changes room) found
       ≡ Possible (call_plan (record { kqueue = kqueue; changes = changes; room = room }))
-      → on_named (plan_call [] room) found ≡ Possible (call_plan (record { kqueue = kqueue; changes = []; room = room }))
+      → on_named (plan_call [] room) found ≡ Possible (call_plan
+      (record { kqueue = kqueue; changes = []; room = room }))
   unfolding on_named plan_call
   few_named found there =
       subst (λ (o : Option Named). on_named (plan_call changes room) o
@@ -82,7 +84,8 @@ module _ (pid fd room kqueue : ℕ) (changes : List Change) (w : World) where
       → on_named (plan_call [] room) o ≡ Possible (call_plan (record { kqueue = kqueue; changes = []; room = room })))
       (sym there)
       (few_step (nat_lt most_changes (length changes)) (nat_lt most_room room)
-      (record { kqueue = kqueue; changes = changes; room = room }) (record { kqueue = kqueue; changes = []; room = room }))
+      (record { kqueue = kqueue; changes = changes; room = room })
+      (record { kqueue = kqueue; changes = []; room = room }))
 
   -- where the call is possible, so is that without changes
   pub few-planned : (place : ℕ) → named_by pid fd w ≡ Some (named.Kqueue kqueue)
@@ -111,15 +114,18 @@ pub step-possible : (place pid fd room kqueue : ℕ) (changes : List Change) (ol
     ≡ Possible (call_plan (record { kqueue = kqueue; changes = changes; room = room }))
     → plan place (Kevent pid fd [] room) old.world
     ≡ Possible (call_plan (record { kqueue = kqueue; changes = []; room = room }))
-    → IsCallSoFar (moment_of old.version place (call_plan (record { kqueue = kqueue; changes = changes; room = room })) old.world)
+    → IsCallSoFar (moment_of old.version place (call_plan
+    (record { kqueue = kqueue; changes = changes; room = room })) old.world)
     (moment_of old.version place (call_plan (record { kqueue = kqueue; changes = []; room = room })) old.world)
     (record { kqueue = kqueue; changes = changes; room = room }) old.live live answer
     → IsStepSoFar place pid fd changes room old (record old { live = live }) answer
 step-possible place pid fd room kqueue changes old live (Some reply) is then does =
-    called place (Kevent pid fd changes room) (record { kqueue = kqueue; changes = changes; room = room }) old live reply
+    called place (Kevent pid fd changes room)
+    (record { kqueue = kqueue; changes = changes; room = room }) old live reply
     is does
 step-possible place pid fd room kqueue changes old live None is then does = λ last answer steps.
-    let whole = called place (Kevent pid fd changes room) (record { kqueue = kqueue; changes = changes; room = room }) old
+    let whole = called place (Kevent pid fd changes room)
+    (record { kqueue = kqueue; changes = changes; room = room }) old
     does.0 does.1 is does.2 in
     let rest = called place (Kevent pid fd [] room) (record { kqueue = kqueue; changes = []; room = room })
     (record old { live = live }) does.0 does.1 then does.3 in

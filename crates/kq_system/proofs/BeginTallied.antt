@@ -27,7 +27,8 @@ tallied_begun b = record { system = tallied_system b.system; answer = b.answer }
 
 -- one kqueue
 one-tallied : (m : Moment) (c : Call) (l : model.Live listed)
-    → kevent.IsTalliedBeginning (begun_kqueue m c (recast l)).kq (begun_kqueue m c (recast l)).answer (begun_kqueue m c l)
+    → kevent.IsTalliedBeginning (begun_kqueue m c (recast l)).kq (begun_kqueue m c (recast l)).answer
+    (begun_kqueue m c l)
 one-tallied m c l =
     laws.begun-tallied (caller_at l.owner m) c.room c.changes (tallied l.kq) (begun_kqueue m c (recast l)).kq l.kq
     (begun_kqueue m c (recast l)).answer refl refl

@@ -50,7 +50,8 @@ returns-clause-begun g c =
     let found : lookup (nat_eq c.args.kqueue) es ≡ Some v = sym c.in-Some.ensures.value
     ∙ ap Some (sym c.one.view_is) in
     IfOk-weaker c.begin.result _ _ (λ r begun m sees versions.
-    subst (λ (es : Entries). IsBegunAt m call (map live_of es) (map live_of (c.get_mut.follows.lender w).entries) r) same
+    subst (λ (es : Entries). IsBegunAt m call (map live_of es) (map live_of
+    (c.get_mut.follows.lender w).entries) r) same
     (subst (λ es'. IsBegunAt m call (map live_of es) (map live_of es') r) (sym writes.0)
     (begun_at m call (g.V.Views.sees c.args.views.now) es v w r sees
     (subst (AreOfVersion m.version) (sym same) versions) c.get_mut.ensures.unique found
@@ -78,7 +79,8 @@ returns-clause-steps g c =
     let found : lookup (nat_eq c.args.kqueue) es ≡ Some v = sym c.in-Some.ensures.value
     ∙ ap Some (sym c.one.view_is) in
     IfOk-weaker c.begin.result _ _ (λ r begun m n versions quiet sees calls still seen version then.
-    subst (λ (es : Entries). IsCallSoFar m n call (map live_of es) (map live_of (c.get_mut.follows.lender w).entries) r) same
+    subst (λ (es : Entries). IsCallSoFar m n call (map live_of es) (map live_of
+    (c.get_mut.follows.lender w).entries) r) same
     (subst (λ es'. IsCallSoFar m n call (map live_of es) (map live_of es') r) (sym writes.0)
     (so_far m n call (g.V.Views.sees c.args.views.now) es v w r quiet sees
     (subst (AreOfVersion m.version) (sym same) versions) calls still seen version then c.get_mut.ensures.unique found

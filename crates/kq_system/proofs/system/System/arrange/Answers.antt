@@ -45,7 +45,8 @@ returns-in-Some-clause-system c =
     (named-seen c.args.pid c.args.fd w ∙ sym c.descriptor.ensures ∙ c.in-Some.ensures.found) in
     ap (λ (ls : List Live). record (system_of s) { live = ls })
     (c.put_first_in.ensures.arranged
-    ∙ sym (arranged-some c.args.keys.now live c.in-Some.kqueue (kqueue_in (named_by c.args.pid c.args.fd (seen_world w))) place))
+    ∙ sym (arranged-some c.args.keys.now live c.in-Some.kqueue (kqueue_in (named_by c.args.pid c.args.fd
+    (seen_world w))) place))
     ∙ ap (λ (v : SystemState). arranged_in c.args.pid c.args.fd c.args.keys.now (system_of v)) c.self.view_is
 
 pub returns-in_default-clause-system : goal.returns-in_default-clause-system
@@ -57,6 +58,7 @@ returns-in_default-clause-system c =
     let none = names-none (named_by c.args.pid c.args.fd (seen_world w))
     (λ kqueue is. c.kqueue_named.ensures.none c.in_default.is kqueue
     (c.descriptor.ensures ∙ sym (named-seen c.args.pid c.args.fd w) ∙ is)) in
-    subst (λ (v : SystemState). system_of v ≡ arranged_in c.args.pid c.args.fd c.args.keys.now (system_of v)) c.self.view_is
+    subst (λ (v : SystemState). system_of v ≡ arranged_in c.args.pid c.args.fd c.args.keys.now
+    (system_of v)) c.self.view_is
     (ap (λ (ls : List Live). record (system_of s) { live = ls })
     (sym (arranged-none c.args.keys.now live (kqueue_in (named_by c.args.pid c.args.fd (seen_world w))) none)))

@@ -101,7 +101,8 @@ invariant_of-self-2 c =
     c.self.invariant.of_version) in
     lawful_after old.version old.applied old.world old.world es c.begin_on.new.live.entries
     c.self.invariant c.in_ok-answer.ensures.stayed
-    (all_live-with old.version old.world c.in-Some.kqueue (λ l. (begun_kqueue m call l).kq) (map live_of es) next begun.0
+    (all_live-with old.version old.world c.in-Some.kqueue (λ l. (begun_kqueue m call l).kq)
+    (map live_of es) next begun.0
     c.self.invariant.all_live)
     (watched-begun m call (views_of (seen_world w)) (map live_of es) next (sees ∙ sym (ap views_of (seen-counted w)))
     begun.0 c.self.invariant.watched)

@@ -74,7 +74,8 @@ invariant_of-self c =
     c.self.invariant c.call_on.ensures.stayed
     (stays_live place e (system_of s) _ r steps c.self.invariant.all_live)
     (stays_watched place (place + 1) e (system_of s) _ r steps
-    (counted-later (last_of old.world + 1) (place + 1) w (omega (arith, c.self.invariant.places)) (counted-now old.world)) c.self.invariant.watched))
+    (counted-later (last_of old.world + 1) (place + 1) w (omega (arith, c.self.invariant.places))
+    (counted-now old.world)) c.self.invariant.watched))
     (λ same. lawful_same old.version old.applied old.world old.live.entries c.call_on.new.live.entries c.self.invariant
     c.call_on.ensures.stayed same)
 

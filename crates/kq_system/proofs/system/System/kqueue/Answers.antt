@@ -40,7 +40,8 @@ returns c =
     (λ none. subst (λ (v : SystemState). live_named c.args.pid c.args.fd (system_of v) ≡ None) c.self.view_is
     (there ∙ live_at-none c.in-Some.kqueue old.live.entries none))
     (λ kq entry.
-    subst (λ (n : SystemState). IsLiveOne (live_named c.args.pid c.args.fd (system_of n)) n.version kq.now) c.self.view_is
+    subst (λ (n : SystemState). IsLiveOne (live_named c.args.pid c.args.fd
+    (system_of n)) n.version kq.now) c.self.view_is
     (record {
       live = live_of (c.in-Some.kqueue, entry.0);
       is = there ∙ live_at-found c.in-Some.kqueue old.live.entries entry.0 entry.1;
