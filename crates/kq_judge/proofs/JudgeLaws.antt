@@ -58,24 +58,25 @@ right-more ignored views ks own at d rows less right are more =
 
 -- a fault of the event itself, behind those of the keys
 pub wrong-own : (ignored : List Ignored) (views : Views) (room : ℕ) (ks : List Knote) (own : List Kevent) (at : ℕ)
-    (d : Kevent) (rows : List Key) (fault : Fault) → at < length own → at ≤ room
+    (d : Kevent) (rows : List Key) (fault : Fault) → at < length own → at < room
     → AreRight ignored views ks (take at own) → rows ≡ map key_of_event (take at own)
     → IsOwnFault ignored views ks rows (get_or own at d) fault → IsWrongAt ignored views room ks own at fault
-wrong-own ignored views room ks own at d rows fault less within right are wrong = record {
+wrong-own ignored views room ks own at d rows fault less room_left right are wrong = record {
   event = get_or own at d;
   there = slice_get-get_or own at d less;
   right_before = right;
-  within_before = within;
+  within_before = omega (arith, room_left);
   fault_is = by fault
+      (omega (arith, length-take at own, less, room_left))
       (subst (λ (keys : List Key). IsOwnFault ignored views ks keys (get_or own at d) fault) are wrong);
 }
   where
-    by : (f : Fault) → IsOwnFault ignored views ks (map key_of_event (take at own)) (get_or own at d) f
+    by : (f : Fault) → length (take at own) < room → IsOwnFault ignored views ks (map key_of_event (take at own)) (get_or own at d) f
         → IsFault ignored views room ks (take at own) (get_or own at d) f
-    by PastRoom is = absurd is
-    by Twice is = is
-    by (NotPending absence) is = is
-    by (Differs member expected) is = is
+    by PastRoom left is = absurd is
+    by Twice left is = (left, is)
+    by (NotPending absence) left is = (left, is)
+    by (Differs member expected) left is = (left, is)
 
 -- an event that stands for one past the end
 nothing : Kevent
@@ -152,13 +153,13 @@ wrong-refused ignored views room kq own at fault sound wrong allowed = by fault 
     by : (f : Fault) → IsFault ignored views room kq.knotes (take at own) wrong.event f → ⊥
     by PastRoom full =
         absurd (omega (arith, full, length-take at own, there-length own at wrong.event wrong.there, right.within))
-    by Twice there = true≢false (sym there ∙ once-at own at wrong.event right.right.once wrong.there)
+    by Twice there = true≢false (sym there.1 ∙ once-at own at wrong.event right.right.once wrong.there)
     by (NotPending absence) absent =
-        absence-pending views kq.knotes (key_of_event wrong.event) here.expected absence absent here.pending
+        absence-pending views kq.knotes (key_of_event wrong.event) here.expected absence absent.1 here.pending
     by (Differs member expected) differs =
-        differs.2 (subst (λ (e : Kevent). AgreeOn member e wrong.event)
-        (pending-one views kq.knotes (key_of_event wrong.event) here.expected expected here.pending differs.0)
-        (here.same.members member differs.1))
+        differs.1.2.differ (subst (λ (e : Kevent). AgreeOn member e wrong.event)
+        (pending-one views kq.knotes (key_of_event wrong.event) here.expected expected here.pending differs.1.0)
+        (here.same.members member differs.1.2.compared))
 
 pub missing-refused : (ignored : List Ignored) (views : Views) (room : ℕ) (kq : Kqueue) (own : List Kevent) (key : Key)
     → IsSound kq → IsMissing ignored views room kq own key → IsAllowed ignored views room kq own → ⊥

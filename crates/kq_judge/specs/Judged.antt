@@ -14,7 +14,7 @@ use Rattle.kq_judge.specs.declared.judging.Judgement.TheVariants.{Allowed, Wrong
 use Rattle.kq_judge.specs.declared.member.Ignored.{Ignored}
 use Rattle.kq_judge.specs.Allowed.{IsAllowed}
 use Rattle.kq_judge.specs.Pending.{IsPending, IsAbsence}
-use Rattle.kq_judge.specs.Same.{is_ignored, AgreeOn, IsSame}
+use Rattle.kq_judge.specs.Same.{IsSame, IsFirstDifference}
 
 -- the event is the one that is pending, but for what is not compared
 pub record IsRightEvent {S : Type 0} {h : Hearing S} (ignored : List Ignored) (views : Views) (knotes : List (Knote h))
@@ -29,33 +29,30 @@ pub record AreRight {S : Type 0} {h : Hearing S} (ignored : List Ignored) (views
   pub each : Each (IsRightEvent ignored views knotes) events
   pub once : AreOnce (map key_of_event events)
 
--- what is wrong with an event behind those of these keys, were there room
+-- what is wrong first with an event behind those of these keys, where there is room
 abbrev pub IsOwnFault : {S : Type 0} {h : Hearing S} → List Ignored → Views → List (Knote h) → List Key → Kevent
     → Fault → Type 0
 IsOwnFault ignored views knotes before e PastRoom = ⊥
 IsOwnFault ignored views knotes before e Twice = has_key (key_of_event e) before ≡ true
 IsOwnFault ignored views knotes before e (NotPending absence) = IsAbsence views knotes (key_of_event e) absence
 IsOwnFault ignored views knotes before e (Differs member expected) =
-    IsPending views knotes (key_of_event e) expected × (is_ignored ignored e.filter member ≡ false)
-    × (AgreeOn member expected e → ⊥)
+    IsPending views knotes (key_of_event e) expected × (has_key (key_of_event e) before ≡ false)
+    × IsFirstDifference ignored expected e member
 
--- nothing is wrong with it, were there room
+-- nothing is wrong with it, where there is room
 pub record IsRightBehind {S : Type 0} {h : Hearing S} (ignored : List Ignored) (views : Views) (knotes : List (Knote h))
     (before : List Key) (e : Kevent) : Type 0 where
   pub right : IsRightEvent ignored views knotes e
   pub new : has_key (key_of_event e) before ≡ false
 
--- what is wrong with an event behind these
+-- what is wrong first with an event behind these
 abbrev pub IsFault : {S : Type 0} {h : Hearing S} → List Ignored → Views → ℕ → List (Knote h) → List Kevent → Kevent
     → Fault → Type 0
 IsFault ignored views room knotes before e PastRoom = room ≤ length before
-IsFault ignored views room knotes before e Twice = IsOwnFault ignored views knotes (map key_of_event before) e Twice
-IsFault ignored views room knotes before e (NotPending absence) =
-    IsOwnFault ignored views knotes (map key_of_event before) e (NotPending absence)
-IsFault ignored views room knotes before e (Differs member expected) =
-    IsOwnFault ignored views knotes (map key_of_event before) e (Differs member expected)
+IsFault ignored views room knotes before e fault =
+    (length before < room) × IsOwnFault ignored views knotes (map key_of_event before) e fault
 
--- the event at this place is the first that is wrong, and this is what is wrong with it
+-- the event at this place is the first that is wrong, and this is what is wrong with it first
 pub record IsWrongAt {S : Type 0} {h : Hearing S} (ignored : List Ignored) (views : Views) (room : ℕ)
     (knotes : List (Knote h)) (own : List Kevent) (at : ℕ) (fault : Fault) : Type 0 where
   pub event : Kevent

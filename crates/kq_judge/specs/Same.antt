@@ -1,5 +1,5 @@
 -- Kevents that are the same, but for members that are not compared. What names a kevent is always compared.
-use Rattle.std.specs.Prelude.{◌≡◌, ℕ, Bool, false, ◌&&◌, ◌==◌, List}
+use Rattle.std.specs.Prelude.{◌≡◌, ◌<◌, ℕ, Bool, false, ◌&&◌, ◌==◌, List}
 use Rattle.std.specs.List.{list_any, AllZip}
 use Rattle.kq_model.specs.declared.filter.Filter.{Filter}
 use Rattle.kq_model.specs.declared.kevent.Kevent.{Kevent}
@@ -35,6 +35,13 @@ AgreeOn Udata a b = a.udata ≡ b.udata
 pub record IsSame (ignored : List Ignored) (a b : Kevent) : Type 0 where
   pub key : key_of_event a ≡ key_of_event b
   pub members : (member : Member) → is_ignored ignored b.filter member ≡ false → AgreeOn member a b
+
+-- of the members that are compared, in the order of their numbers, this is the first on which two kevents differ
+pub record IsFirstDifference (ignored : List Ignored) (a b : Kevent) (member : Member) : Type 0 where
+  pub compared : is_ignored ignored b.filter member ≡ false
+  pub differ : AgreeOn member a b → ⊥
+  pub first : (other : Member) → member_number other < member_number member → is_ignored ignored b.filter other ≡ false
+      → AgreeOn other a b
 
 -- as many events, each the same as the one at its place
 abbrev pub AreSame : List Ignored → List Kevent → List Kevent → Type 0

@@ -1,6 +1,6 @@
 ghost use Rattle.std.specs.Prelude.{◌≡◌, IsTrue, false, MatchBool, MatchOption};
 ghost use Rattle.kq_model.specs.CallLaws.{key_of_event};
-ghost use Rattle.kq_judge.specs.Same.{ignores, is_ignored, AgreeOn, IsSame};
+ghost use Rattle.kq_judge.specs.Same.{ignores, is_ignored, AgreeOn, IsSame, IsFirstDifference};
 
 use kq_model::{Filter, Kevent};
 
@@ -62,8 +62,7 @@ fn is_wrong(member: Member, expected: &Kevent, own: &Kevent, ignored: &[Ignored]
 pub fn differing(expected: &Kevent, own: &Kevent, ignored: &[Ignored]) -> Option<Member>
     requires { key_of_event expected.now ≡ key_of_event own.now }
     ensures { MatchOption result (IsSame ignored.now expected.now own.now)
-        (λ member. (is_ignored ignored.now own.now.filter member ≡ false)
-        × (AgreeOn member expected.now own.now → ⊥)) }
+        (IsFirstDifference ignored.now expected.now own.now) }
 {
     if is_wrong(Member::Flags, expected, own, ignored) {
         return Some(Member::Flags);

@@ -11,6 +11,8 @@ mod hints;
 #[cfg(test)]
 mod joins;
 #[cfg(test)]
+mod judging;
+#[cfg(test)]
 mod knotes;
 #[cfg(test)]
 mod steps;

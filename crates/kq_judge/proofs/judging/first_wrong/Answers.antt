@@ -13,7 +13,7 @@ returns-then-at-room-clause-wrong g c =
 pub returns-in-Some-clause-wrong : goal.returns-in-Some-clause-wrong
 returns-in-Some-clause-wrong g c =
     wrong-own c.args.ignored.now (g.V.Views.sees c.args.views.now) c.args.room c.args.kq.now.kq.knotes c.args.own.now
-    c.loop-at.at _ c.loop-at.returned.rows c.in-Some.fault c.loop-at-test.true c.loop-at.invariant.within
+    c.loop-at.at _ c.loop-at.returned.rows c.in-Some.fault c.loop-at-test.true (omega arith)
     c.loop-at.invariant.right c.loop-at.invariant.rows c.in-Some.ensures
 
 pub attach-requires-clause-absent : goal.attach-requires-clause-absent
