@@ -19,3 +19,7 @@ pub mod WatchedRuns
 pub mod ForkLemmas
 pub mod PrepareLemmas
 pub mod FollowLemmas
+pub mod BeginLemmas
+pub mod BeginSteps
+pub mod BeginTallied
+pub mod NamedLemmas

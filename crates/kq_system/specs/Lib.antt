@@ -2,3 +2,4 @@ pub mod SystemState
 pub mod Places
 pub mod Showing
 pub mod Forking
+pub mod Beginning

@@ -128,7 +128,7 @@ pub fn call_on<V: Views>(
 }
 
 /// The process of a live kqueue.
-fn owner_of(live: &IndexMap<u64, Live>, kqueue: u64) -> u32
+pub fn owner_of(live: &IndexMap<u64, Live>, kqueue: u64) -> u32
     requires { IsLive kqueue (map live_of live.now.entries) }
     ensures { (v : NumberedKqueue) → lookup (nat_eq kqueue) live.now.entries ≡ Some v → result ≡ v.kq.owner }
 {

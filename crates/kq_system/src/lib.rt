@@ -3,6 +3,7 @@
 #![tactic(auto)]
 
 mod all_live;
+mod beginning;
 mod fold;
 mod following;
 mod index;
@@ -11,6 +12,7 @@ mod live;
 mod places;
 mod renewing;
 mod showing;
+mod stepping;
 mod system;
 mod ticking;
 mod watching;

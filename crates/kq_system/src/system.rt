@@ -15,9 +15,9 @@ use std::marker::Model;
 #[derive(Drop)]
 pub struct System {
     version: u32,
-    world: World,
-    live: Kqueues,
-    applied: u64,
+    pub(crate) world: World,
+    pub(crate) live: Kqueues,
+    pub(crate) applied: u64,
 }
 
 impl Model for System {
@@ -75,7 +75,7 @@ impl System {
 }
 
 /// The kqueue that a number names.
-fn kqueue_named(named: Option<Named>) -> Option<u64>
+pub fn kqueue_named(named: Option<Named>) -> Option<u64>
     ensures found { IfSome result (λ kqueue. named ≡ Some (named_as.Kqueue kqueue)) }
     ensures none { result ≡ None → (kqueue : ℕ) → named ≡ Some (named_as.Kqueue kqueue) → ⊥ }
 {
@@ -136,7 +136,7 @@ impl System {
     }
 
     /// What the type keeps of READ, WRITE and VNODE knotes.
-    fn watch_their_numbers(&self)
+    pub(crate) fn watch_their_numbers(&self)
         ensures { AllWatchTheirNumbers (system_of self.now) }
     {
         let _ = &self.world;
@@ -278,17 +278,33 @@ impl System {
         ensures possible { OnErr result (IsPossible (plan (self.old.applied + 1)
             (event_of.Kevent pid number changes.now room) (world_of self.old.world))) }
     {
-        let place = self.applied + 1;
+        let reply = self.call_kqueue(pid, number, changes, room)?;
+        self.applied += 1;
+        Ok(reply)
+    }
+
+    /// The same, which takes no place. Whatever place it is at, it is the step of such a call.
+    pub(crate) fn call_kqueue(
+        &mut self,
+        pid: u32,
+        number: u32,
+        changes: &[Change],
+        room: u32,
+    ) -> Result<Reply, Memory>
+        ensures reply { IfOk result (λ reply. (place : ℕ) → IsStep place
+            (event_of.Kevent pid number changes.now room) (system_of self.old) (system_of self.new) reply) }
+        ensures applied { self.new.applied ≡ self.old.applied }
+        ensures memory { OnErr result (IsUnchanged self.old self.new) }
+        ensures possible { OnErr result ((place : ℕ) → IsPossible (plan place
+            (event_of.Kevent pid number changes.now room) (world_of self.old.world))) }
+    {
         let effect = self.world.kevent(pid, number, changes, room);
         if let Err(why) = effect.verdict {
-            self.applied = place;
             return Ok(Reply::Impossible(why));
         }
         let Some(kqueue) = kqueue_named(self.world.descriptor(pid, number)) else {
             unreachable!();
         };
-        let reply = call_on(&mut self.live, kqueue, changes, room, &self.world)?;
-        self.applied = place;
-        Ok(reply)
+        call_on(&mut self.live, kqueue, changes, room, &self.world)
     }
 }

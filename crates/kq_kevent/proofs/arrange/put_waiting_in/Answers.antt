@@ -43,7 +43,8 @@ loop-key-preserved c =
           let now : c.if-waits.queue.keys ≡ q ++ key ∷ [] = ap (λ (v : Keys). v.keys) w.queue-is ∙ w.put_in.ensures.keys
           in
           record {
-            so_far = before ∙ queue-places waits key rest q waiting absent ∙ ap (all_queued (filter waits rest)) (sym now);
+            so_far = before ∙ queue-places waits key rest q waiting absent
+                ∙ ap (all_queued (filter waits rest)) (sym now);
             once = subst AreOnce (sym now) (AreOnce-push key q c.loop-key.invariant.once absent);
             waiting = subst (λ (l : List Key). (other : Key) → has_key other l ≡ true → waits other ≡ true) (sym now)
                 (waiting-more ks key q waiting c.loop-key.invariant.waiting);

@@ -12,7 +12,8 @@ use Rattle.kq_kevent.proofs.kq.Kq.read.Goals as goal
 pub returns-clause-read : goal.returns-clause-read
 returns-clause-read g c =
     let by = caller (g.V.Views.sees c.args.views.now) c.args.self.now in
-    IfOk-weaker c.call.result _ _ (λ r called. called ∙ call-nil by c.args.room c.args.self.now.kq) c.call.ensures.called
+    IfOk-weaker c.call.result _ _ (λ r called. called ∙ call-nil by c.args.room c.args.self.now.kq)
+    c.call.ensures.called
 
 pub returns-clause-model : goal.returns-clause-model
 returns-clause-model g c =
