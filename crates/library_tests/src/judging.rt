@@ -62,10 +62,22 @@ fn another_order_is_allowed(rt: HostRuntime) -> Result<(), Fail> {
 fn the_first_event_that_is_wrong_is_told(rt: HostRuntime) -> Result<(), Fail> {
     let twice = [event(1, 8), event(1, 8)];
     let said = judged(rt.alloc(), &twice, &[])?;
-    assert_eq!(rt; said, Judgement::Wrong { at: 1, fault: Fault::Twice });
+    assert_eq!(rt;
+        said,
+        Judgement::Wrong {
+            at: 1,
+            fault: Fault::Twice
+        }
+    );
     let past = [event(1, 8), event(2, 8), event(3, 8)];
     let said = judged(rt.alloc(), &past, &[])?;
-    assert_eq!(rt; said, Judgement::Wrong { at: 2, fault: Fault::PastRoom });
+    assert_eq!(rt;
+        said,
+        Judgement::Wrong {
+            at: 2,
+            fault: Fault::PastRoom
+        }
+    );
     let unknown = [event(9, 8)];
     let said = judged(rt.alloc(), &unknown, &[])?;
     let fault = Fault::NotPending(Absence::NotRegistered);
@@ -87,7 +99,10 @@ fn a_member_differs_unless_it_is_ignored(rt: HostRuntime) -> Result<(), Fail> {
         member: Member::Udata,
         expected: event(2, 8),
     };
-    assert_eq!(rt; judged(rt.alloc(), &own, &[])?, Judgement::Wrong { at: 1, fault });
+    assert_eq!(rt;
+        judged(rt.alloc(), &own, &[])?,
+        Judgement::Wrong { at: 1, fault }
+    );
     let ignored = [Ignored {
         filter: Filter::User,
         member: Member::Udata,
@@ -108,8 +123,14 @@ fn verdict(alloc: Global, ident: u64) -> Result<Verdict, Memory> {
 fn each_kevent_has_its_verdict(rt: HostRuntime) -> Result<(), Fail> {
     assert_eq!(rt; verdict(rt.alloc(), 2)?, Verdict::Returned);
     assert_eq!(rt; verdict(rt.alloc(), 3)?, Verdict::RoomWasFull);
-    assert_eq!(rt; verdict(rt.alloc(), 9)?, Verdict::Absent(Absence::NotRegistered));
+    assert_eq!(rt;
+        verdict(rt.alloc(), 9)?,
+        Verdict::Absent(Absence::NotRegistered)
+    );
     let kqueue = three(rt.alloc())?;
-    assert_eq!(rt; pending_event(&kqueue, key(3), &NothingThere), Ok(event(3, 8)));
+    assert_eq!(rt;
+        pending_event(&kqueue, key(3), &NothingThere),
+        Ok(event(3, 8))
+    );
     Ok(())
 }
