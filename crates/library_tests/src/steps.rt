@@ -1,4 +1,6 @@
 //! A kevent call of a system in two steps, and another order of the queue between them.
+ghost use Rattle.std.specs.Prelude.{◌≡◌, IfOk};
+
 use kq_kevent::Kq;
 use kq_model::{Change, EvFlags, Event, Filter, Key, Memory, Reply, Why};
 use kq_system::System;
@@ -28,7 +30,9 @@ fn key(ident: u64) -> Key {
 }
 
 /// A process 7 with a kqueue under the number 3.
-fn with_kqueue(alloc: Global) -> Result<System, Memory> {
+fn with_kqueue(alloc: Global) -> Result<System, Memory>
+    ensures { IfOk result (λ s. s.applied ≡ 2) }
+{
     let mut system = System::new(alloc, 1)?;
     system.apply(&Event::Proc { pid: 7 })?;
     system.apply(&Event::Kqueue { pid: 7, fd: 3 })?;
