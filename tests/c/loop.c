@@ -44,9 +44,9 @@ static int start(int fd, int *weight) {
     return kq;
 }
 
-static int ring(int kq) {
+static int ring(int kq, int *weight) {
     struct kevent change;
-    EV_SET(&change, 2, EVFILT_USER, 0, NOTE_TRIGGER, 0, NULL);
+    EV_SET(&change, 2, EVFILT_USER, 0, NOTE_TRIGGER, 0, weight);
     return kevent(kq, &change, 1, NULL, 0, NULL);
 }
 
@@ -90,7 +90,7 @@ int main(void) {
     want(turn(kq, read_bytes) == 0, "and reads them once");
     want(kqsim_clock(sim, 35000000) == KQSIM_OK, "35 ms pass");
     want(turn(kq, read_bytes) == 1 && ticks == 3, "the timer expired three times");
-    want(ring(kq) == 0 && turn(kq, read_bytes) == 1 && rings == 5, "the doorbell rings, with its udata");
+    want(ring(kq, &weight) == 0 && turn(kq, read_bytes) == 1 && rings == 5, "the doorbell rings, with its udata");
     want(turn(kq, read_bytes) == 0, "and rings once");
 
     EV_SET(&change, 9, EVFILT_USER, EV_DELETE, 0, 0, NULL);

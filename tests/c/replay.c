@@ -23,7 +23,8 @@ struct counts { uint64_t calls, events, records; };
 /* a record of numbers: what it is called, how many it has, and what applies it */
 typedef int applied(struct kqsim *, const int64_t *);
 #define U(i) ((uint32_t)w[i])
-#define RECORD(name, ...) static int do_##name(struct kqsim *s, const int64_t *w) { return kqsim_##name(s, __VA_ARGS__); }
+#define RECORD(name, ...) \
+    static int do_##name(struct kqsim *s, const int64_t *w) { return kqsim_##name(s, __VA_ARGS__); }
 RECORD(proc, U(0))
 RECORD(fork, U(0), U(1))
 RECORD(exec, U(0))
@@ -83,7 +84,8 @@ static uint64_t whole(void) {
 static void print_event(const struct kqsim_kevent *e) {
     const char *before = "";
     size_t i;
-    printf("{\"data\":%" PRId64 ",\"fflags\":%u,\"filter\":\"%s\",\"flags\":[", e->data, e->fflags, FILTERS[-e->filter]);
+    printf("{\"data\":%" PRId64 ",\"fflags\":%u,\"filter\":\"%s\",\"flags\":[", e->data, e->fflags,
+           FILTERS[-e->filter]);
     for (i = 0; i < sizeof FLAGS / sizeof *FLAGS; i++)
         if (e->flags & FLAGS[i].flag) {
             printf("%s\"%s\"", before, FLAGS[i].name);
