@@ -1,13 +1,16 @@
-# make           proves the programs and builds them: crates/kqsim/out/kqsim, crates/kqstep/out/kqstep
+# make           proves the programs and builds them: crates/kqsim/out/kqsim, crates/kqstep/out/kqstep; and the
+#                library for C, crates/libkqsim/out/libkqsim.a
 # make run       the report of an example, within two minutes on a fresh machine
 # make test      proves and tests everything; the last line is 'N passed, M failed'
 # make bench     measures the program beside one that only reads
-# make install   puts the programs into PREFIX/bin, and their manual pages into PREFIX/share/man
+# make install   puts the programs into PREFIX/bin, their manual pages into PREFIX/share/man, libkqsim.a into PREFIX/lib
+#                and kqsim.h into PREFIX/include
 #
 # Needed: the kit's `rt`, bash, make, cc and python3.
 
 KQSIM := crates/kqsim/out/kqsim
 KQSTEP := crates/kqstep/out/kqstep
+LIBKQSIM := crates/libkqsim/out/libkqsim.a
 VALUE_COUNT := crates/value_count/out/value_count
 TRACE_CHECK := crates/trace_check/out/trace_check
 REPLAY_BENCH := crates/replay_bench/out/replay_bench
@@ -16,13 +19,22 @@ PREFIX ?= /usr/local
 # How many crates are proved side by side; each takes up to 3 GB.
 JOBS ?= $(shell nproc)
 
-.PHONY: all run test bench install install-man
+.PHONY: all libkqsim run test bench install install-man
 
 # (rt all check proves what has changed of the program and its libraries, side by side where they do not stand on each
 # other; rt run builds the program over that and runs it, so it is given its stored run)
 all:
 	cd crates/kqsim && rt all check --jobs $(JOBS) && rt run < stdin
 	cd crates/kqstep && rt run < stdin
+	$(MAKE) libkqsim
+
+# (one archive, with the few functions of C that call malloc and free)
+libkqsim:
+	cd crates/libkqsim && rt all check --jobs $(JOBS) && rt lib
+	rm -rf $(LIBKQSIM) crates/libkqsim/out/joined
+	mkdir crates/libkqsim/out/joined
+	cd crates/libkqsim/out/joined && ar x ../liblibkqsim.a && ar x "$$(dirname "$$(rt doc)")/c/liblibc_c.a"
+	ar rcs $(LIBKQSIM) crates/libkqsim/out/joined/*.o
 
 # (rt try runs the program without any proof, and copies no file from outside its crate)
 run:
@@ -45,6 +57,8 @@ bench: all
 install: all install-man
 	install -D -m 755 $(KQSIM) $(DESTDIR)$(PREFIX)/bin/kqsim
 	install -D -m 755 $(KQSTEP) $(DESTDIR)$(PREFIX)/bin/kqstep
+	install -D -m 644 $(LIBKQSIM) $(DESTDIR)$(PREFIX)/lib/libkqsim.a
+	install -D -m 644 include/kqsim.h $(DESTDIR)$(PREFIX)/include/kqsim.h
 
 install-man:
 	install -D -m 644 man/kqsim.1 $(DESTDIR)$(PREFIX)/share/man/man1/kqsim.1

@@ -1,0 +1,13 @@
+//! The simulated system for C: `include/kqsim.h` declares what is exported here.
+#![tactic(auto)]
+
+mod call;
+mod descriptors;
+mod files;
+mod handle;
+mod life;
+mod processes;
+mod published;
+mod record;
+mod sockets;
+mod step;
