@@ -1,5 +1,6 @@
 -- One change more, one event more.
-use Rattle.std.proofs.Common.{◌≡◌, ℕ, ◌<◌, ◌≤◌, ◌⊎◌, inl, inr, List, [], ◌∷◌, ◌++◌, length, take, slice_set, refl, ap, arith, zero, suc}
+use Rattle.std.proofs.Common.{◌≡◌, ℕ, ◌<◌, ◌≤◌, ◌⊎◌, inl, inr, List, []}
+use Rattle.std.proofs.Common.{◌∷◌, ◌++◌, length, take, slice_set, refl, ap, arith, zero, suc}
 use Rattle.std.proofs.Math.ListN.{get_or}
 use Rattle.kq_freebsd.specs.declared.c_kevent.CKevent.{CKevent}
 use Rattle.kq_freebsd.specs.Kevents.{AreChanges, IsChange, as_c, handed_out}
@@ -23,7 +24,8 @@ unfolding handed_out
 one_more [] slots i d l m = absurd (omega (arith, l))
 one_more (e ∷ es) [] i d l m = absurd (omega (arith, m))
 one_more (e ∷ es) (s ∷ slots) zero d l m = refl
-one_more (e ∷ es) (s ∷ slots) (suc i) d l m = ap (λ xs. as_c e ∷ xs) (one_more es slots i d (omega (arith, l)) (omega (arith, m)))
+one_more (e ∷ es) (s ∷ slots) (suc i) d l m = ap (λ xs. as_c e ∷ xs) (one_more es slots i d (omega (arith, l))
+    (omega (arith, m)))
 
 pub all_out : (es : List Kevent) (slots : List CKevent) (n : ℕ) → n ≤ length es → (n ≡ length es) ⊎ (n ≡ length slots)
     → handed_out (take n es) slots ≡ handed_out es slots

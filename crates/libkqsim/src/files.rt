@@ -18,7 +18,8 @@ pub extern "C" fn kqsim_file(sim: &mut Kqsim, file: u32, size: i64) -> i32
 /// The record `open`: a process opens a file to read (0), to write (1), or for both (2).
 #[unsafe(no_mangle)]
 pub extern "C" fn kqsim_open(sim: &mut Kqsim, pid: u32, fd: u32, file: u32, mode: u32) -> i32
-    ensures { IsChosen (mode_of_number mode) (λ mode. event_of.Open pid fd file mode) sim.old.system sim.new.system result }
+    ensures { IsChosen (mode_of_number mode)
+        (λ mode. event_of.Open pid fd file mode) sim.old.system sim.new.system result }
 {
     match mode_numbered(mode) {
         Some(mode) => record(

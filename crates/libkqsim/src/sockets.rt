@@ -82,7 +82,8 @@ pub extern "C" fn kqsim_tx(sim: &mut Kqsim, pid: u32, fd: u32, n: u32) -> i32
 /// The record `shut`: a side of a socket is shut, 0 to read or 1 to write, with an error number or 0.
 #[unsafe(no_mangle)]
 pub extern "C" fn kqsim_shut(sim: &mut Kqsim, pid: u32, fd: u32, side: u32, error: u32) -> i32
-    ensures { IsChosen (side_of_number side) (λ side. event_of.Shut pid fd side error) sim.old.system sim.new.system result }
+    ensures { IsChosen (side_of_number side)
+        (λ side. event_of.Shut pid fd side error) sim.old.system sim.new.system result }
 {
     match side_numbered(side) {
         Some(side) => record(
@@ -101,7 +102,8 @@ pub extern "C" fn kqsim_shut(sim: &mut Kqsim, pid: u32, fd: u32, side: u32, erro
 /// The record `lowat`: the low-water mark of a side of a socket, 0 to read or 1 to write.
 #[unsafe(no_mangle)]
 pub extern "C" fn kqsim_lowat(sim: &mut Kqsim, pid: u32, fd: u32, side: u32, n: u32) -> i32
-    ensures { IsChosen (side_of_number side) (λ side. event_of.Lowat pid fd side n) sim.old.system sim.new.system result }
+    ensures { IsChosen (side_of_number side)
+        (λ side. event_of.Lowat pid fd side n) sim.old.system sim.new.system result }
 {
     match side_numbered(side) {
         Some(side) => record(sim, &Event::Lowat { pid, fd, side, n }),

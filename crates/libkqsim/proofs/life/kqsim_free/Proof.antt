@@ -83,8 +83,14 @@ unfolding Rattle.libkqsim.proofs.Destruct++none.drop.Code.code
 kqsim_free_spec {M = M} 𝓤 𝓛 𝓜 𝓡 wired =
     let c = f.clauses 𝓛 𝓜.mem 𝓡.returns in
     let 𝓣 = tables 𝓤 𝓛.H 𝓜 𝓡 𝓡.env in
-    proved_at 𝓛 f.ended stayed c 𝓜 𝓡
-    (Goes-dropped 𝓛 0 (plain (λ _. Z)) f.ended.kept.0 (λ κs x w. refl), (Goes-dropped 𝓛 0 (plain (λ _. RawPtr)) f.ended.kept.1.0 (λ κs x w. refl), tt))
+    proved_at 𝓛 f.ended stayed c 𝓜 𝓡 (
+      Goes-dropped 𝓛 0 (plain (λ _. Z)) f.ended.kept.0 (λ κs x w. refl),
+      (
+        Goes-dropped 𝓛 0 (plain (λ _. RawPtr))
+            f.ended.kept.1.0 (λ κs x w. refl),
+        tt,
+      ),
+    )
     f.Key.name code.function (code.unfolded 𝓤 𝓛.H 𝓜 𝓡 wired) (λ z are.
     let a = z.0.3.0 in
     let p = z.0.3.1.0 in
@@ -103,9 +109,11 @@ kqsim_free_spec {M = M} 𝓤 𝓛 𝓜 𝓡 wired =
     (code.calls-std_heap::GlobalAllocator::deallocate 𝓡.env wired)
     (code.calls-std_heap::GlobalAllocator::grow 𝓡.env wired)
     (code.calls-std_heap::GlobalAllocator::shrink 𝓡.env wired) M 𝓤 𝓛 𝓜 𝓡 in
-    let plainly = glues "libkqsim::Destruct++none::drop" 𝓡.env (code.calls-libkqsim::Destruct++none::drop 𝓡.env wired) Z' LZ' M 𝓤 𝓛 𝓜 𝓡 in
+    let plainly = glues "libkqsim::Destruct++none::drop" 𝓡.env (code.calls-libkqsim::Destruct++none::drop 𝓡.env
+    wired) Z' LZ' M 𝓤 𝓛 𝓜 𝓡 in
     let k = triple_of 𝓛 (g.signature S' Z' ghosts dict none) (g.spec S' Z' ghosts dict none 𝓛 𝓜.mem 𝓡.returns) in
-    suffices ! (Run (h ∷ vptr b o ∷ [])) (subst (λ (xs : List Val). ent 𝓤 (Run (h ∷ vptr b o ∷ [])) (Run xs)) (sym (λ i. ea i ++ (eu i ++ [])))
+    suffices ! (Run (h ∷ vptr b o ∷ [])) (subst (λ (xs : List Val). ent 𝓤 (Run (h ∷ vptr b o ∷ [])) (Run xs)) (sym
+    (λ i. ea i ++ (eu i ++ [])))
     (id⊢ 𝓤 (Run (h ∷ vptr b o ∷ [])))) $
     enter ! 𝓣.C 𝓣.Λ code.function (h ∷ vptr b o ∷ []) Post $ alloc_all ! (λ l. pass_all ! refl (fits, ((tt, tt), tt)) $
     lft_new ! tt (λ α. lft_new ! tt (λ β.
@@ -122,13 +130,15 @@ kqsim_free_spec {M = M} 𝓤 𝓛 𝓜 𝓡 wired =
     nothing ! $ move ! (1 ∷ 0 ∷ []) $ join ! $ move ! (1 ∷ 0 ∷ []) $ join ! $
     nothing ! $ feq_i ! (List Val) (vptr b o ∷ []) (vptr b o ∷ []) refl $ join ! $
     move ! (2 ∷ 0 ∷ []) $ join ! $ move ! (1 ∷ 0 ∷ []) $ join ! $
-    use0 𝓛 (raw (fact 𝓤 ((β ∷ []) ⊑ Z'.lives))) (fact_i 𝓤 _ (emp 𝓤) (⊑_static (β ∷ []))) $ move ! (0 ∷ 2 ∷ []) $ join ! $
+    use0 𝓛 (raw (fact 𝓤 ((β ∷ []) ⊑ Z'.lives))) (fact_i 𝓤 _ (emp 𝓤) (⊑_static (β ∷ []))) $ move ! (0 ∷ 2 ∷ []) $
+    join ! $
     use0 𝓛 (raw (fact 𝓤 ((α ∷ []) ⊑ S'.lives))) (fact_i 𝓤 _ (emp 𝓤) (⊑_static (α ∷ []))) $ join ! $
     move ! (1 ∷ 0 ∷ []) $ use2 𝓛 (raw (k.pre y)) (id⊢ 𝓤 _) $
     calls_at ! (framed 𝓤 𝓛.H 𝓜 𝓣) k
     (met 𝓤 𝓛 𝓜 𝓡 (code.calls-std_alloc::boxed::Box::from_raw 𝓡.env wired) S' Z' LS' LZ' ghosts dict none alive plainly)
     y (and_then ! (get ! refl) (and_then ! (get ! refl) (no_more !))) (λ u.
-    use1 𝓛 (later (some (λ (r : (box.B E).Denot). ((‵ (flft (α ∷ []) full_share) ⊛ ‵ (flft (β ∷ []) full_share) ⊛ ‵ ftrue) ⊛
+    use1 𝓛 (later (some (λ (r : (box.B E).Denot). ((‵ (flft (α ∷ []) full_share) ⊛ ‵ (flft (β ∷ []) full_share) ⊛ ‵
+    ftrue) ⊛
     ‵ ((box.B E).own_val r (u ∷ []))) ⊛ some (λ (ls : Lasts (g.ended S' Z' ghosts dict none) y.0.0 y.0.3).
     ‵ (lasts (g.ended S' Z' ghosts dict none) y.0.0 y.0.3 ls) ⊛
     raw (fact 𝓤 (r.value ≡ k')) ⊛ raw (fact 𝓤 (r.alloc ≡ a)))))) (id⊢ 𝓤 (k.post y u)) $
@@ -144,11 +154,14 @@ kqsim_free_spec {M = M} 𝓤 𝓛 𝓜 𝓡 wired =
     nothing ! $ move ! (1 ∷ 0 ∷ []) $ use2 𝓛 (raw (G.pre x)) (id⊢ 𝓤 _) $
     calls_at ! (framed 𝓤 𝓛.H 𝓜 𝓣) G (end_met.met 𝓤 𝓛 𝓜 𝓡 (code.calls-libkqsim::life::end 𝓡.env wired)) x
     (and_then ! (get ! refl) (no_more !)) (λ v.
-    use1 𝓛 (later (some (λ (w : Unit {0}). (‵ ftrue ⊛ ‵ (unit.own_val w (v ∷ []))) ⊛ some (λ (ls : Lasts letting.ended tt x.0.3).
-    ‵ (lasts letting.ended tt x.0.3 ls) ⊛ raw ((letting.clauses 𝓛 𝓜.mem 𝓡.returns tt x.0.3).ensures tt w (at_exit letting.ended tt x.0.3 ls))))))
+    use1 𝓛 (later (some (λ (w : Unit {0}). (‵ ftrue ⊛ ‵ (unit.own_val w (v ∷ []))) ⊛ some (λ (ls : Lasts
+    letting.ended tt x.0.3).
+    ‵ (lasts letting.ended tt x.0.3 ls) ⊛ raw ((letting.clauses 𝓛 𝓜.mem 𝓡.returns tt x.0.3).ensures tt w (at_exit
+    letting.ended tt x.0.3 ls))))))
     (id⊢ 𝓤 _) $
     await ! tt $ pick ! (λ w. split ! $ split ! $ drop ! $ feq_l ! (λ is_unit. drop ! $
     lands_as ! (ap only is_unit) refl (tt, tt) $ sets ! (of_opd ! (unit_lit !)) refl (tt, tt) $
-    nothing ! $ feq_i ! (List Val) (vunit ∷ []) (vunit ∷ []) refl $ nothing ! $ nothing ! $ fjoin ! $ nothing ! $ fjoin ! $ nothing ! $
+    nothing ! $ feq_i ! (List Val) (vunit ∷ []) (vunit ∷ []) refl $ nothing ! $ nothing ! $ fjoin ! $ nothing ! $
+    fjoin ! $ nothing ! $
     returns ! (look_at ! 0 refl) $ free_all ! refl $ keep ! (0 ∷ 1 ∷ 2 ∷ 3 ∷ []) $
     by ! (leaves 𝓛 f.ended stayed c z vunit tt (tt, (tt, tt)) (tt, (tt, tt)))))))))))))))

@@ -84,11 +84,13 @@ kqsim_new_spec {M = M} 𝓤 𝓛 𝓜 𝓡 wired =
     let ea = uint_Tells w32 n ns are.1.0 in
     let eo = mut_Tells (named 0) κs.0 RawPtr out os are.1.1.0 in
     let pointed = ((rawptr_Lawful 𝓛).typed p (rawptr_vals p) refl).0 in
-    qed 𝓛 (((‵ (flft κs.0 qs.0) ⊛ ‵ ftrue) ⊛ ‵ (owns (types_at f.ended.signature.params κs) z.0.3 z.0.4)) ∷ ‵ ftrue ∷ []) ∵
+    qed 𝓛 (((‵ (flft κs.0 qs.0) ⊛ ‵ ftrue) ⊛ ‵ (owns (types_at f.ended.signature.params κs) z.0.3 z.0.4)) ∷ ‵ ftrue
+    ∷ []) ∵
     split ! $ split ! $ move ! (2 ∷ []) $ fsplit ! $ move ! (1 ∷ []) $ fsplit ! $ drop ! $ fsplit ! $
     keep ! (2 ∷ 0 ∷ 3 ∷ []) $ handle_tells al ! a hs (λ h eh fits.
     -- [the allocator; out; its token]
-    suffices ! (Run (h ∷ vint w32 n ∷ vptr b o ∷ [])) (subst (λ (xs : List Val). ent 𝓤 (Run (h ∷ vint w32 n ∷ vptr b o ∷ [])) (Run xs))
+    suffices ! (Run (h ∷ vint w32 n ∷ vptr b o ∷ [])) (subst (λ (xs : List Val). ent 𝓤 (Run (h ∷ vint w32 n ∷ vptr
+    b o ∷ [])) (Run xs))
     (sym (λ i. eh i ++ (ea i ++ (eo i ++ [])))) (id⊢ 𝓤 (Run (h ∷ vint w32 n ∷ vptr b o ∷ [])))) $
     enter ! 𝓣.C 𝓣.Λ code.function (h ∷ vint w32 n ∷ vptr b o ∷ []) Post $
     alloc_all ! (λ l. pass_all ! refl (fits, ((tt, record { fits = are.1.0.1 }), ((tt, tt), tt))) $
@@ -106,12 +108,14 @@ kqsim_new_spec {M = M} 𝓤 𝓛 𝓜 𝓡 wired =
     (and_then ! (get ! refl) (and_then ! (get ! refl) (and_then ! (get ! refl) (no_more !)))) (λ v.
     use1 𝓛 (later (some (λ (r : P.Denot). (‵ ftrue ⊛ ‵ (P.own_val r (v ∷ []))) ⊛ some (λ (ls : Lasts g.ended tt y.0.3).
     ‵ (lasts g.ended tt y.0.3 ls) ⊛ raw (fact 𝓤 (IsNew n p r.at r.number r.made)))))) (id⊢ 𝓤 (G.post y v)) $
-    await ! tt $ pick ! (λ r. split ! $ split ! $ drop ! $ move ! (1 ∷ []) $ pick ! (λ _. split ! $ drop ! $ heard ! _ (λ new.
+    await ! tt $ pick ! (λ r. split ! $ split ! $ drop ! $ move ! (1 ∷ []) $ pick ! (λ _. split ! $ drop ! $
+    heard ! _ (λ new.
     let Holds = λ (made : Option Kqsim). IsNew n p r.at r.number made in
     let at = ((rawptr_Lawful 𝓛).typed r.at (rawptr_vals r.at) refl).0 in
     peeks ! P (Is P) (shows 𝓛 P) r (v ∷ []) (λ is. fsplit ! $
     let word = lowers.val_is r (v ∷ []) is in
-    let good : Good (layout P) (lowers.lowered r) = subst (Good (layout P)) (ap only word) ((LP.lawful 𝓛).typed r (v ∷ []) is).0 in
+    let good : Good (layout P) (lowers.lowered r) = subst (Good (layout P)) (ap only word) ((LP.lawful 𝓛).typed r
+    (v ∷ []) is).0 in
     fpick ! (λ vss. fsplit ! $ drop ! $ fsplit ! $ peeks ! i32 (Is i32) (shows 𝓛 i32) r.number vss.0 (λ isn.
     rewrite ! 0 (λ (xs : List Val). ‵ (i32.own_val r.number xs)) (sint_Tells w32 r.number vss.0 isn) refl $
     move ! (1 ∷ []) $ drop ! $ move ! (1 ∷ []) $
@@ -126,7 +130,8 @@ kqsim_new_spec {M = M} 𝓤 𝓛 𝓜 𝓡 wired =
     -- [two parts of out; its token; what was made; the number; out's first part]
     nothing ! $ fpack ! (Holds r.made) (λ _. ftrue) new $ move ! (4 ∷ 0 ∷ []) $ fjoin ! $
     fpack ! (Option Kqsim) (λ made. fsep (kept_if made r.at) (fex (Holds made) (λ _. ftrue))) r.made $
-    move ! (5 ∷ 1 ∷ 2 ∷ []) $ fjoin3 ! $ nothing ! $ move ! (1 ∷ 0 ∷ []) $ fjoin ! $ nothing ! $ fjoin ! $ nothing ! $ fjoin ! $
+    move ! (5 ∷ 1 ∷ 2 ∷ []) $ fjoin3 ! $ nothing ! $ move ! (1 ∷ 0 ∷ []) $ fjoin ! $ nothing ! $ fjoin ! $
+    nothing ! $ fjoin ! $
     nothing ! $ move ! (3 ∷ 0 ∷ []) $ join ! $
     returns ! (look_at ! 0 refl) $ free_all ! refl $ keep ! (0 ∷ 1 ∷ 3 ∷ 2 ∷ []) $
     by ! (leaves 𝓛 f.ended stayed c z _ r.number (tt, (tt, (r.at, tt))) (tt, (tt, (tt, tt))))))))))))))))

@@ -83,8 +83,14 @@ unfolding Rattle.libkqsim.proofs.Destruct++none.drop.Code.code
 into_box_spec {M = M} 𝓤 𝓛 𝓜 𝓡 wired =
     let c = f.clauses 𝓛 𝓜.mem 𝓡.returns in
     let 𝓣 = tables 𝓤 𝓛.H 𝓜 𝓡 𝓡.env in
-    proved_at 𝓛 f.ended stayed c 𝓜 𝓡
-    (Goes-dropped 𝓛 0 (plain (λ _. R)) f.ended.kept.0 (λ κs x w. refl), (Goes-dropped 𝓛 0 (plain (λ _. Z)) f.ended.kept.1.0 (λ κs x w. refl), tt))
+    proved_at 𝓛 f.ended stayed c 𝓜 𝓡 (
+      Goes-dropped 𝓛 0 (plain (λ _. R)) f.ended.kept.0 (λ κs x w. refl),
+      (
+        Goes-dropped 𝓛 0 (plain (λ _. Z))
+            f.ended.kept.1.0 (λ κs x w. refl),
+        tt,
+      ),
+    )
     f.Key.name code.function (code.unfolded 𝓤 𝓛.H 𝓜 𝓡 wired) (λ z are.
     let v = z.0.3.0 in
     let a = z.0.3.1.0 in
@@ -95,7 +101,8 @@ into_box_spec {M = M} 𝓤 𝓛 𝓜 𝓡 wired =
     qed 𝓛 ((‵ ftrue ⊛ ‵ (owns (types_at f.ended.signature.params tt) z.0.3 z.0.4)) ∷ ‵ ftrue ∷ []) ∵
     split ! $ drop ! $ fsplit ! $ peeks ! R _ (shows 𝓛 R) v us (λ is. fsplit ! $ move ! (2 ∷ []) $ fsplit ! $
     handle_tells E.al ! a hs (λ h ea fits. move ! (3 ∷ []) $
-    in_a_block ! v.at (λ p. held p v.system) (fst∗ 𝓤 (never 𝓤) (sem 𝓛 (ghosts.dealloc_token heap (bare (lone S.mir)) null_ptr)))
+    in_a_block ! v.at (λ p. held p v.system) (fst∗ 𝓤 (never 𝓤) (sem 𝓛 (ghosts.dealloc_token heap (bare (lone
+    S.mir)) null_ptr)))
     (λ b o e.
     -- [the system and the right to free it; the allocator; ..]
     let w : Val = vstruct (vcons (vptr b o) vnil) in
@@ -104,9 +111,11 @@ into_box_spec {M = M} 𝓤 𝓛 𝓜 𝓡 wired =
     (code.calls-std_heap::GlobalAllocator::deallocate 𝓡.env wired)
     (code.calls-std_heap::GlobalAllocator::grow 𝓡.env wired)
     (code.calls-std_heap::GlobalAllocator::shrink 𝓡.env wired) M 𝓤 𝓛 𝓜 𝓡 in
-    let plainly = glues "libkqsim::Destruct++none::drop" 𝓡.env (code.calls-libkqsim::Destruct++none::drop 𝓡.env wired) Z' LZ' M 𝓤 𝓛 𝓜 𝓡 in
+    let plainly = glues "libkqsim::Destruct++none::drop" 𝓡.env (code.calls-libkqsim::Destruct++none::drop 𝓡.env
+    wired) Z' LZ' M 𝓤 𝓛 𝓜 𝓡 in
     let k = triple_of 𝓛 (g.signature S' Z' ghosts dict none) (g.spec S' Z' ghosts dict none 𝓛 𝓜.mem 𝓡.returns) in
-    suffices ! (Run (w ∷ h ∷ [])) (subst (λ (xs : List Val). ent 𝓤 (Run (w ∷ h ∷ [])) (Run xs)) (sym (λ i. eu i ++ (ea i ++ [])))
+    suffices ! (Run (w ∷ h ∷ [])) (subst (λ (xs : List Val). ent 𝓤 (Run (w ∷ h ∷ [])) (Run xs)) (sym (λ i. eu i ++
+    (ea i ++ [])))
     (id⊢ 𝓤 (Run (w ∷ h ∷ [])))) $
     enter ! 𝓣.C 𝓣.Λ code.function (w ∷ h ∷ []) Post $ alloc_all ! (λ l. pass_all ! refl ((tt, (tt, tt)), (fits, tt)) $
     sets ! (of_opd ! (get_in ! (fld ! refl (stop !)) (sub ! 0 refl (whole !)))) refl (tt, tt) $
@@ -125,17 +134,20 @@ into_box_spec {M = M} 𝓤 𝓛 𝓜 𝓡 wired =
     nothing ! $ move ! (1 ∷ 0 ∷ []) $ join ! $ move ! (1 ∷ 0 ∷ []) $ join ! $
     nothing ! $ feq_i ! (List Val) (vptr b o ∷ []) (vptr b o ∷ []) refl $ join ! $
     move ! (3 ∷ 0 ∷ []) $ join ! $ move ! (1 ∷ 0 ∷ []) $ join ! $
-    use0 𝓛 (raw (fact 𝓤 ((β ∷ []) ⊑ Z'.lives))) (fact_i 𝓤 _ (emp 𝓤) (⊑_static (β ∷ []))) $ move ! (0 ∷ 2 ∷ []) $ join ! $
+    use0 𝓛 (raw (fact 𝓤 ((β ∷ []) ⊑ Z'.lives))) (fact_i 𝓤 _ (emp 𝓤) (⊑_static (β ∷ []))) $ move ! (0 ∷ 2 ∷ []) $
+    join ! $
     use0 𝓛 (raw (fact 𝓤 ((α ∷ []) ⊑ S'.lives))) (fact_i 𝓤 _ (emp 𝓤) (⊑_static (α ∷ []))) $ join ! $
     move ! (1 ∷ 0 ∷ []) $ use2 𝓛 (raw (k.pre y)) (id⊢ 𝓤 _) $
     calls_at_last ! (framed 𝓤 𝓛.H 𝓜 𝓣) k
     (met 𝓤 𝓛 𝓜 𝓡 (code.calls-std_alloc::boxed::Box::from_raw 𝓡.env wired) S' Z' LS' LZ' ghosts dict none alive plainly)
     y (and_then ! (get ! refl) (and_then ! (get ! refl) (no_more !))) (λ u.
-    use1 𝓛 (later (some (λ (r : (box.B E).Denot). ((‵ (flft (α ∷ []) full_share) ⊛ ‵ (flft (β ∷ []) full_share) ⊛ ‵ ftrue) ⊛
+    use1 𝓛 (later (some (λ (r : (box.B E).Denot). ((‵ (flft (α ∷ []) full_share) ⊛ ‵ (flft (β ∷ []) full_share) ⊛ ‵
+    ftrue) ⊛
     ‵ ((box.B E).own_val r (u ∷ []))) ⊛ some (λ (ls : Lasts (g.ended S' Z' ghosts dict none) y.0.0 y.0.3).
     ‵ (lasts (g.ended S' Z' ghosts dict none) y.0.0 y.0.3 ls) ⊛
     raw (fact 𝓤 (r.value ≡ v.system)) ⊛ raw (fact 𝓤 (r.alloc ≡ a)))))) (id⊢ 𝓤 (k.post y u)) $
-    await ! tt $ pick ! (λ r. split ! $ split ! $ drop ! $ move ! (1 ∷ []) $ pick ! (λ _. split3 ! $ drop ! $ move ! (2 ∷ []) $
+    await ! tt $ pick ! (λ r. split ! $ split ! $ drop ! $ move ! (1 ∷ []) $ pick ! (λ _. split3 ! $ drop ! $
+    move ! (2 ∷ []) $
     box_out E ! r (u ∷ []) (λ b' o' h' e' ws fits'. box_in E ! r b' o' r.value e' refl $
     rewrite ! 0 (λ (xs : List Val). ‵ ((box.B E).own_val r xs)) (sym ws) refl $
     let good : Good (layout B) u = subst (Good (layout B)) (sym (ap only ws)) (box.box_typed E h' b' o' fits') in

@@ -108,23 +108,37 @@ of_spec {M = M} 𝓤 𝓛 𝓜 𝓡 wired =
     (code.calls-std_heap::GlobalAllocator::deallocate 𝓡.env wired)
     (code.calls-std_heap::GlobalAllocator::grow 𝓡.env wired)
     (code.calls-std_heap::GlobalAllocator::shrink 𝓡.env wired) M 𝓤 𝓛 𝓜 𝓡 in
-    let plainly = glues "libkqsim::Destruct++none::drop" 𝓡.env (code.calls-libkqsim::Destruct++none::drop 𝓡.env wired) Z' LZ' M 𝓤 𝓛 𝓜 𝓡 in
+    let plainly = glues "libkqsim::Destruct++none::drop" 𝓡.env (code.calls-libkqsim::Destruct++none::drop 𝓡.env
+    wired) Z' LZ' M 𝓤 𝓛 𝓜 𝓡 in
     let world : World = record { M = M; 𝓤 = 𝓤; 𝓛 = 𝓛; 𝓜 = 𝓜; 𝓡 = 𝓡 } in
     let Ends = kinds.ended_of 0 drop_kinds.ps drop_kinds.r in
     let m = method ends 0 (layouts [] tt) in
-    let Told : (κs : Lfts 1) (a : kinds.Dens κs (glue_ps S' LS')) → (kinds.res_t {n = 1} kinds.r_unit κs).Denot → Lasts Ends tt a → Type 0 =
+    let Told : (κs : Lfts 1) (a : kinds.Dens κs (glue_ps S' LS')) → (kinds.res_t {n = 1} kinds.r_unit κs).Denot →
+    Lasts Ends tt a → Type 0 =
     λ κs a x ws. Fit Ends (kinds.stays drop_kinds.ps) tt a ws ×
     drop_reads.Learnt tt a x (at_exit Ends tt a ws) in
     let ended = glue_by S' LS' world ends 𝓡.env (λ κs a. Lasts Ends tt a) (λ κs a. lasts Ends tt a) Told
     (λ κs a. AllWithin 1 (κs.0, tt) (S'.lives, tt) × Unit {0}) 0 tt (λ κs a h. ((h, tt), tt))
-    (via_longer 𝓛 (Over 𝓛 𝓜 𝓡 𝓡.env) 1 (glue_ps S' LS') kinds.r_unit (λ κs a. Lasts Ends tt a) (λ κs a. lasts Ends tt a) Told
+    (via_longer 𝓛 (Over 𝓛 𝓜 𝓡 𝓡.env) 1 (glue_ps S' LS') kinds.r_unit (λ κs a. Lasts Ends tt a) (λ κs a. lasts Ends
+    tt a) Told
     (λ κs a. AllWithin 1 (κs.0, tt) (S'.lives, tt) × Unit {0}) m 0 tt (λ κs. tt) (λ κs a. drop_reads.Asked tt a)
     (λ κs a p. (tt, tt)) (λ κs bd within a vss qs. method_Known 0 drop_kinds.ps drop_kinds.r drop_reads.requires
     drop_reads.ensures drop_reads.Asked drop_reads.Learnt drop_reads.known world drop_symbol.name m
     (drop_symbol.as_method 𝓡.env (code.calls-libkqsim::kq_system++system++System+Destruct::drop 𝓡.env wired) m refl)
-    (drop_met.met 𝓤 𝓛 𝓜 𝓡 (code.calls-libkqsim::kq_system++system++System+Destruct::drop 𝓡.env wired)) ((tt, qs, tt, a, vss), tt))) in
-    let k = triple_of 𝓛 (g.signature S' Z' ghosts dict none ends) (g.spec S' Z' ghosts dict none ends 𝓛 𝓜.mem 𝓡.returns) in
-    suffices ! (Run (w ∷ [])) (subst (λ (us : List Val). ent 𝓤 (Run (w ∷ [])) (Run us)) (sym (λ i. ws i ++ [])) (id⊢ 𝓤 (Run (w ∷ [])))) $
+    (drop_met.met 𝓤 𝓛 𝓜 𝓡 (code.calls-libkqsim::kq_system++system++System+Destruct::drop 𝓡.env wired)) (
+      (
+        tt,
+        qs,
+        tt,
+        a,
+        vss,
+      ),
+      tt,
+    ))) in
+    let k = triple_of 𝓛 (g.signature S' Z' ghosts dict none ends) (g.spec S' Z' ghosts dict none ends 𝓛 𝓜.mem
+    𝓡.returns) in
+    suffices ! (Run (w ∷ [])) (subst (λ (us : List Val). ent 𝓤 (Run (w ∷ [])) (Run us)) (sym (λ i. ws i ++ []))
+    (id⊢ 𝓤 (Run (w ∷ [])))) $
     enter ! 𝓣.C 𝓣.Λ code.function (w ∷ []) Post $ alloc_all ! (λ l. pass_all ! refl (typed, tt) $
     sets ! (of_opd ! (get ! refl)) refl typed $
     lft_new ! tt (λ α. lft_new ! tt (λ β.
@@ -135,13 +149,15 @@ of_spec {M = M} 𝓤 𝓛 𝓜 𝓡 wired =
     use0 𝓛 (raw (fact 𝓤 ((α ∷ []) ⊑ S'.lives))) (fact_i 𝓤 _ (emp 𝓤) (⊑_static (α ∷ []))) $ join ! $
     move ! (1 ∷ 0 ∷ []) $ use2 𝓛 (raw (k.pre y)) (id⊢ 𝓤 _) $
     calls_at ! (framed 𝓤 𝓛.H 𝓜 𝓣) k
-    (met 𝓤 𝓛 𝓜 𝓡 (code.calls-std_alloc::boxed::Box::into_raw 𝓡.env wired) S' Z' LS' LZ' ghosts dict none ends alive plainly ended)
+    (met 𝓤 𝓛 𝓜 𝓡 (code.calls-std_alloc::boxed::Box::into_raw 𝓡.env wired) S' Z' LS' LZ' ghosts dict none ends alive
+    plainly ended)
     y (and_then ! (get ! refl) (no_more !)) (λ u.
     use1 𝓛 (later (some (λ (r : Ptr). ((‵ (flft (α ∷ []) full_share) ⊛ ‵ (flft (β ∷ []) full_share) ⊛ ‵ ftrue) ⊛
     ‵ (RawPtr.own_val r (u ∷ []))) ⊛ some (λ (ls : Lasts (g.ended S' Z' ghosts dict none ends) y.0.0 y.0.3).
     ‵ (lasts (g.ended S' Z' ghosts dict none ends) y.0.0 y.0.3 ls) ⊛ ‵ (held r v.value))))) (id⊢ 𝓤 _) $
     await ! tt $ pick ! (λ r. split ! $ split ! $ drop ! $ feq_l ! (λ eu. pick ! (λ _. split ! $ drop ! $
-    in_a_block ! r (λ p. held p v.value) (fst∗ 𝓤 (never 𝓤) (sem 𝓛 (ghosts.dealloc_token heap (bare (lone S.mir)) null_ptr)))
+    in_a_block ! r (λ p. held p v.value) (fst∗ 𝓤 (never 𝓤) (sem 𝓛 (ghosts.dealloc_token heap (bare (lone S.mir))
+    null_ptr)))
     (λ b' o' e'.
     let kv : Val = vstruct (vcons (vptr b' o') vnil) in
     lands_as ! (ap only eu ∙ ap ptr_val e') refl (tt, tt) $
@@ -149,9 +165,13 @@ of_spec {M = M} 𝓤 𝓛 𝓜 𝓡 wired =
     sets ! (agg ! (and_then ! (get ! refl) (no_more !))) refl (tt, (tt, tt)) $
     nothing ! $ feq_i ! (List Val) (vptr b' o' ∷ []) (vptr b' o' ∷ []) refl $ fjoin ! $
     feq_i ! (List Val) (kv ∷ []) (kv ∷ []) refl $ fjoin ! $
-    fpack ! (Valss (RawPtr ∷ [])) (within (shape the_type) (block_ptr b' o', tt) (kv ∷ [])) (vptr b' o' ∷ [], tt) $ fjoin ! $
+    fpack ! (Valss (RawPtr ∷ [])) (within (shape the_type) (block_ptr b' o', tt) (kv ∷ [])) (vptr b' o' ∷ [], tt) $
+    fjoin ! $
     use0 𝓛 (raw (fact 𝓤 (v.value ≡ v.value))) (fact_i 𝓤 (v.value ≡ v.value) (emp 𝓤) refl) $
     nothing ! $ nothing ! $ fjoin ! $ nothing ! $
     -- [nothing; nothing of the parameter; the `ensures`; the handle]
     returns ! (look_at ! 0 refl) $ free_all ! refl $ keep ! (0 ∷ 1 ∷ 3 ∷ 2 ∷ []) $
-    by ! (leaves 𝓛 f.ended stayed c z kv (record { at = block_ptr b' o'; system = v.value }) (tt, tt) (tt, tt))))))))))))
+    by ! (leaves 𝓛 f.ended stayed c z kv (record { at = block_ptr b' o'; system = v.value }) (tt, tt) (
+      tt,
+      tt,
+    ))))))))))))

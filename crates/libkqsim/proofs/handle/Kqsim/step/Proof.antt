@@ -57,8 +57,14 @@ step_spec 𝓤 𝓛 𝓜 𝓡 wired =
     let W = walk_of 𝓛 f.ended stayed c in
     let 𝓣 = tables 𝓤 𝓛.H 𝓜 𝓡 𝓡.env in
     let gc = g.clauses 𝓛 𝓜.mem 𝓡.returns in
-    proved 𝓛 f.ended stayed c 𝓜 𝓡
-    (Goes-ref 𝓛 2 0 tt (plain (λ _. R)), (Goes-dropped 𝓛 2 (RefOf (1 ∷ []) tt (plain (λ _. E)) (λ _. tt)) yes (λ κs x w. refl), tt))
+    proved 𝓛 f.ended stayed c 𝓜 𝓡 (
+      Goes-ref 𝓛 2 0 tt (plain (λ _. R)),
+      (
+        Goes-dropped 𝓛 2 (RefOf (1 ∷ []) tt (plain (λ _. E)) (λ _. tt)) yes (λ κs
+            x w. refl),
+        tt,
+      ),
+    )
     f.Key.name code.function (code.unfolded 𝓤 𝓛.H 𝓜 𝓡 wired)
     (λ κs. (mut_vals, (shr_vals, tt)))
     (λ κs. (mut_Tells (named 0) κs.0 R, (shr_Tells (named 1) κs.1.0 E, tt)))
@@ -81,19 +87,23 @@ step_spec 𝓤 𝓛 𝓜 𝓡 wired =
     enter ! _ _ _ _ _ $ alloc_all ! (λ l. pass_all ! refl ((tt, tt), ((tt, tt), tt)) $
     fsplit3 ! $ move ! (1 ∷ 2 ∷ 3 ∷ []) $ opens ! tt R b o (λ us.
     move ! (1 ∷ []) $ peeks ! R _ (shows 𝓛 R) h us (λ is. fsplit ! $ move ! (1 ∷ []) $
-    in_a_block ! h.at (λ p. held p x) (fst∗ 𝓤 (never 𝓤) (sem 𝓛 (ghosts.dealloc_token heap (bare (lone S.mir)) null_ptr)))
+    in_a_block ! h.at (λ p. held p x) (fst∗ 𝓤 (never 𝓤) (sem 𝓛 (ghosts.dealloc_token heap (bare (lone S.mir))
+    null_ptr)))
     (λ b' o' e. fsplit ! $
     let word = lowers.val_is h us is ∙ ap (λ (p : Ptr). lowers.lowered (record h { at = p }) ∷ []) e in
     let Cell = λ (ws : List Val). ‵ (cell_at full_share R.mir ws b o) in
     rewrite ! 3 Cell word refl $
-    -- [the system; the right to free it; the fields; the cell; the open borrow, three; self's first part; the event; its token]
-    sets ! (of_opd ! (load ! (through ! refl (fld ! refl (stop !))) (look_in ! 3 (sub ! 0 refl (whole !))))) refl (tt, tt) $
+    -- [the system; the right to free it; the fields; the cell; the open borrow, three; self's first part;
+    -- the event; its token]
+    sets ! (of_opd ! (load ! (through ! refl (fld ! refl (stop !))) (look_in ! 3 (sub ! 0 refl (whole !))))) refl
+    (tt, tt) $
     sets ! (of_opd ! (get ! refl)) refl (tt, tt) $
     first ! $ blocks ! $
     sets ! (addr ! (through ! refl (stop !))) refl (tt, tt) $
     lft_new ! tt (λ α. move ! (1 ∷ []) $
     use1 𝓛 (later (some (λ (γ : GName). ‵ ((MutRef (named 0) (α ∷ []) S).own_val
-    (record { ref_ptr = (b', o'); ghost_name = γ; now = x }) (vptr b' o' ∷ [])) ⊛ ‵ (flent (α ∷ []) (Body (mem S) b' o' γ)))))
+    (record { ref_ptr = (b', o'); ghost_name = γ; now = x }) (vptr b' o' ∷ [])) ⊛ ‵ (flent (α ∷ []) (Body (mem S)
+    b' o' γ)))))
     (lends_ref 𝓛 S (named 0) (α ∷ []) x b' o') $ await ! tt $ pick ! (λ γ. split ! $
     -- [the loan; what is lent; the loan's token; the right to free; the fields; the cell; the open borrow, three; ..]
     let G = triple_of 𝓛 g.signature (g.spec 𝓛 𝓜.mem 𝓡.returns) in
@@ -103,7 +113,8 @@ step_spec 𝓤 𝓛 𝓜 𝓡 wired =
     nothing ! $ move ! (11 ∷ 0 ∷ []) $ join ! $ move ! (1 ∷ 0 ∷ []) $ join ! $
     nothing ! $ move ! (11 ∷ 0 ∷ []) $ join ! $ move ! (3 ∷ 0 ∷ []) $ join ! $ join ! $
     nothing ! $ move ! (1 ∷ 0 ∷ []) $ use2 𝓛 (raw (G.pre z)) (id⊢ 𝓤 _) $
-    -- [before the call; what is lent; the right to free; the fields; the cell; the open borrow, three; self's first part]
+    -- [before the call; what is lent; the right to free; the fields; the cell; the open borrow, three;
+    -- self's first part]
     calls_at_last ! (framed 𝓤 𝓛.H 𝓜 𝓣) G (met 𝓤 𝓛 𝓜 𝓡 (code.calls-libkqsim::step::step 𝓡.env wired)) z
     (and_then ! (get ! refl) (and_then ! (get ! refl) (no_more !))) (λ v.
     use1 𝓛 (later (some (λ (r : Out.Denot).
@@ -114,7 +125,8 @@ step_spec 𝓤 𝓛 𝓜 𝓡 wired =
     -- [the loan's last value; what the call ensures; the loan is over; the event's token; the result; what is lent; ..]
     fsplit ! $ fsplit ! $ move ! (4 ∷ 7 ∷ 0 ∷ []) $
     use3 𝓛 (later (‵ (part_at S full_share ws.0 b' o'))) (ref_back 𝓛 S (α ∷ []) γ ws.0 b' o') $ await ! tt $
-    -- [the system; ..; ..; what the call ensures; the event's token; the result; the right to free; the fields; the cell; ..]
+    -- [the system; ..; ..; what the call ensures; the event's token; the result; the right to free; the
+    -- fields; the cell; ..]
     move ! (0 ∷ 6 ∷ []) $ fjoin ! $ rewrite ! 0 (λ (p : Ptr). ‵ (held p ws.0)) (sym e) refl $
     rewrite ! 7 Cell (sym word) refl $ move ! (6 ∷ 0 ∷ []) $ fjoin ! $
     move ! (6 ∷ 0 ∷ 7 ∷ 8 ∷ 9 ∷ []) $ closes ! tt R (record h { system = ws.0 }) us b o $

@@ -37,8 +37,14 @@ none_spec 𝓤 𝓛 𝓜 𝓡 wired =
     let c = f.clauses 𝓛 𝓜.mem 𝓡.returns in
     let W = walk_of 𝓛 f.ended stayed c in
     let 𝓣 = tables 𝓤 𝓛.H 𝓜 𝓡 𝓡.env in
-    proved 𝓛 f.ended stayed c 𝓜 𝓡
-    (Goes-dropped 𝓛 0 (plain (λ _. i32)) yes (λ κs x w. refl), (Goes-dropped 𝓛 0 (plain (λ _. RawPtr)) yes (λ κs x w. refl), tt))
+    proved 𝓛 f.ended stayed c 𝓜 𝓡 (
+      Goes-dropped 𝓛 0 (plain (λ _. i32)) yes (λ κs x w. refl),
+      (
+        Goes-dropped 𝓛 0 (plain (λ _. RawPtr)) yes (λ κs x
+            w. refl),
+        tt,
+      ),
+    )
     f.Key.name code.function (code.unfolded 𝓤 𝓛.H 𝓜 𝓡 wired)
     (λ κs. (sint_vals w32, (rawptr_vals, tt))) (λ κs. (sint_Tells w32, (rawptr_Tells, tt))) (λ κs qs bounds a _ are.
     let z = a.0 in
@@ -50,11 +56,20 @@ none_spec 𝓤 𝓛 𝓜 𝓡 wired =
     let v : Val = vstruct (vcons (vint w32 (of_z w32 z)) (vcons (ptr_val p) vnil)) in
     qed 𝓛 (raw (on_entry 𝓛 f.signature κs qs a y.0.4) ∷ ‵ ftrue ∷ []) ∵ drop ! $ drop ! $
     enter ! _ _ _ _ _ $ alloc_all ! (λ l. pass_all ! refl (number, (at, tt)) $
-    sets ! (agg ! (and_then ! (get ! refl) (and_then ! (get ! refl) (no_more !)))) refl (and_tt _ at.0, (number.1, (at.1, tt))) $
+    sets ! (agg ! (and_then ! (get ! refl) (and_then ! (get ! refl) (no_more !)))) refl (
+      and_tt _ at.0,
+      (
+        number.1,
+        (at.1, tt),
+      ),
+    ) $
     nothing ! $ nothing ! $ feq_i ! (List Val) (rawptr_vals p) (rawptr_vals p) refl $ fjoin ! $
     owned ! i32 _ (sint_Makes 𝓛 w32) z (sint_vals w32 z) are.0 $ fjoin ! $
     feq_i ! (List Val) (v ∷ []) (v ∷ []) refl $ fjoin ! $
-    fpack ! (Valss (i32 ∷ RawPtr ∷ [])) (within (shape the_type) (z, (p, tt)) (v ∷ [])) (sint_vals w32 z, (rawptr_vals p, tt)) $ fjoin ! $
+    fpack ! (Valss (i32 ∷ RawPtr ∷ [])) (within (shape the_type) (z, (p, tt)) (v ∷ [])) (
+      sint_vals w32 z,
+      (rawptr_vals p, tt),
+    ) $ fjoin ! $
     -- [the result]
     use0 𝓛 (raw (fact 𝓤 ((z ≡ z) × (p ≡ p) × (m ≡ m)))) (fact_i 𝓤 _ (emp 𝓤) (refl, refl, refl)) $
     nothing ! $ nothing ! $ fjoin ! $ nothing ! $ fjoin ! $ nothing ! $

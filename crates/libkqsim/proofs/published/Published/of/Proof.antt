@@ -101,10 +101,14 @@ of_spec {M = M} 𝓤 𝓛 𝓜 𝓡 wired =
     (code.calls-std_heap::GlobalAllocator::deallocate 𝓡.env wired)
     (code.calls-std_heap::GlobalAllocator::grow 𝓡.env wired)
     (code.calls-std_heap::GlobalAllocator::shrink 𝓡.env wired) M 𝓤 𝓛 𝓜 𝓡 in
-    let plainly = glues "libkqsim::Destruct++none::drop" 𝓡.env (code.calls-libkqsim::Destruct++none::drop 𝓡.env wired) Z' LZ' M 𝓤 𝓛 𝓜 𝓡 in
-    let ended = glues "libkqsim::Destruct++none::drop" 𝓡.env (code.calls-libkqsim::Destruct++none::drop 𝓡.env wired) S' LS' M 𝓤 𝓛 𝓜 𝓡 in
-    let k = triple_of 𝓛 (g.signature S' Z' ghosts dict none ends) (g.spec S' Z' ghosts dict none ends 𝓛 𝓜.mem 𝓡.returns) in
-    suffices ! (Run (w ∷ [])) (subst (λ (us : List Val). ent 𝓤 (Run (w ∷ [])) (Run us)) (sym (λ i. ws i ++ [])) (id⊢ 𝓤 (Run (w ∷ [])))) $
+    let plainly = glues "libkqsim::Destruct++none::drop" 𝓡.env (code.calls-libkqsim::Destruct++none::drop 𝓡.env
+    wired) Z' LZ' M 𝓤 𝓛 𝓜 𝓡 in
+    let ended = glues "libkqsim::Destruct++none::drop" 𝓡.env (code.calls-libkqsim::Destruct++none::drop 𝓡.env
+    wired) S' LS' M 𝓤 𝓛 𝓜 𝓡 in
+    let k = triple_of 𝓛 (g.signature S' Z' ghosts dict none ends) (g.spec S' Z' ghosts dict none ends 𝓛 𝓜.mem
+    𝓡.returns) in
+    suffices ! (Run (w ∷ [])) (subst (λ (us : List Val). ent 𝓤 (Run (w ∷ [])) (Run us)) (sym (λ i. ws i ++ []))
+    (id⊢ 𝓤 (Run (w ∷ [])))) $
     enter ! 𝓣.C 𝓣.Λ code.function (w ∷ []) Post $ alloc_all ! (λ l. pass_all ! refl (typed, tt) $
     sets ! (of_opd ! (get ! refl)) refl typed $
     lft_new ! tt (λ α. lft_new ! tt (λ β.
@@ -115,17 +119,27 @@ of_spec {M = M} 𝓤 𝓛 𝓜 𝓡 wired =
     use0 𝓛 (raw (fact 𝓤 ((α ∷ []) ⊑ S'.lives))) (fact_i 𝓤 _ (emp 𝓤) (⊑_static (α ∷ []))) $ join ! $
     move ! (1 ∷ 0 ∷ []) $ use2 𝓛 (raw (k.pre y)) (id⊢ 𝓤 _) $
     calls_at ! (framed 𝓤 𝓛.H 𝓜 𝓣) k
-    (met 𝓤 𝓛 𝓜 𝓡 (code.calls-std_alloc::boxed::Box::into_raw 𝓡.env wired) S' Z' LS' LZ' ghosts dict none ends alive plainly ended)
+    (met 𝓤 𝓛 𝓜 𝓡 (code.calls-std_alloc::boxed::Box::into_raw 𝓡.env wired) S' Z' LS' LZ' ghosts dict none ends alive
+    plainly ended)
     y (and_then ! (get ! refl) (no_more !)) (λ u.
     use1 𝓛 (later (some (λ (r : Ptr). ((‵ (flft (α ∷ []) full_share) ⊛ ‵ (flft (β ∷ []) full_share) ⊛ ‵ ftrue) ⊛
     ‵ (RawPtr.own_val r (u ∷ []))) ⊛ some (λ (ls : Lasts (g.ended S' Z' ghosts dict none ends) y.0.0 y.0.3).
     ‵ (lasts (g.ended S' Z' ghosts dict none ends) y.0.0 y.0.3 ls) ⊛ ‵ (kept r v.value))))) (id⊢ 𝓤 _) $
     await ! tt $ pick ! (λ r. split ! $ split ! $ drop ! $ feq_l ! (λ eu. pick ! (λ _. split ! $ drop ! $
-    in_a_block ! r (λ p. kept p v.value) (fst∗ 𝓤 (never 𝓤) (sem 𝓛 (ghosts.dealloc_token heap (bare (lone S.mir)) null_ptr)))
+    in_a_block ! r (λ p. kept p v.value) (fst∗ 𝓤 (never 𝓤) (sem 𝓛 (ghosts.dealloc_token heap (bare (lone S.mir))
+    null_ptr)))
     (λ b' o' e'.
     let kv : Val = vstruct (vcons (vint w32 0) (vcons (vptr b' o') vnil)) in
     lands_as ! (ap only eu ∙ ap ptr_val e') refl (tt, tt) $
-    sets ! (agg ! (and_then ! (lit ! tt) (and_then ! (get ! refl) (no_more !)))) refl (tt, (record { fits = lit< tt }, (tt, tt))) $
+    sets ! (agg ! (and_then ! (lit ! tt) (and_then ! (get ! refl) (no_more !)))) refl (
+      tt,
+      (
+        record {
+          fits = lit< tt;
+        },
+        (tt, tt),
+      ),
+    ) $
     nothing ! $ feq_i ! (List Val) (vptr b' o' ∷ []) (vptr b' o' ∷ []) refl $ fjoin ! $
     owned ! i32 _ (sint_Makes 𝓛 w32) (pos 0) (sint_vals w32 (pos 0)) (refl, lit< tt) $ fjoin ! $
     feq_i ! (List Val) (kv ∷ []) (kv ∷ []) refl $ fjoin ! $
@@ -136,4 +150,7 @@ of_spec {M = M} 𝓤 𝓛 𝓜 𝓡 wired =
     nothing ! $ nothing ! $ fjoin ! $ nothing ! $
     -- [nothing; nothing of the parameter; the `ensures`; the result]
     returns ! (look_at ! 0 refl) $ free_all ! refl $ keep ! (0 ∷ 1 ∷ 3 ∷ 2 ∷ []) $
-    by ! (leaves 𝓛 f.ended stayed c z kv (record { number = pos 0; at = block_ptr b' o'; made = m }) (tt, tt) (tt, tt))))))))))))
+    by ! (leaves 𝓛 f.ended stayed c z kv (record { number = pos 0; at = block_ptr b' o'; made = m }) (tt, tt) (
+      tt,
+      tt,
+    ))))))))))))
