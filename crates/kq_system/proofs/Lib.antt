@@ -19,3 +19,5 @@ pub mod WatchedRuns
 pub mod ForkLemmas
 pub mod PrepareLemmas
 pub mod FollowLemmas
+pub mod BeginLemmas
+pub mod BeginSteps

@@ -1,7 +1,8 @@
 -- The live kqueue that a number names; and a kevent call of the system in two steps, as kq_kevent/specs/Beginning.antt
--- has them of one kqueue: its changes, and then, where these gave no answer, the retrieval. Between the two, one may put
--- the queue into another order.
-use Rattle.std.specs.Prelude.{◌≡◌, ◌==◌, ℕ, List, [], ◌∷◌, map, Option, Some, None, option_and_then, if◌then◌else◌}
+-- has them of one kqueue: its changes, and then, where these gave no answer, the retrieval. Between the two, the queue
+-- may be put into another order.
+use Rattle.std.specs.Prelude.{◌≡◌, ◌==◌, ℕ, List, [], ◌∷◌, map, nat_eq, Option, Some, None, option_and_then, if◌then◌else◌}
+use Rattle.std.specs.Map.{lookup}
 use Rattle.kq_kevent.specs.Arranged.{arranged}
 use Rattle.kq_kevent.specs.Beginning as kevent
 use Rattle.kq_kevent.specs.Owned.{OwnedKqueue}
@@ -23,7 +24,7 @@ use Rattle.kq_model.specs.Recast.{tallied_system}
 use Rattle.kq_model.specs.System as model
 use Rattle.kq_model.specs.Tallied.{Live, System}
 use Rattle.kq_model.specs.World.{Call, Planned, Impossible, Possible, named_by, seen_world}
-use Rattle.kq_system.specs.SystemState.{IsStep}
+use Rattle.kq_system.specs.SystemState.{IsCalled, IsStep, NumberedKqueue}
 
 -- ---- the kqueue that a number names
 
@@ -50,12 +51,16 @@ module _ {S A B C D : Type 0} {h : Hearing S} {k : Keeping A B C D} where
   live_named pid number s = option_and_then (λ place. live_at place s.live) (place_named pid number s)
 
 -- the kqueue of the code is the live one that was found, and goes by this version of the trace's format
-pub record IsLiveOne (found : Option Live) (pid version : ℕ) (kq : OwnedKqueue) : Type 0 where
+pub record IsLiveOne (found : Option Live) (version : ℕ) (kq : OwnedKqueue) : Type 0 where
   pub live : Live
   pub is : found ≡ Some live
   pub kq_is : kq.kq ≡ live.kq
-  pub owner : kq.owner ≡ pid
+  pub owner_is : kq.owner ≡ live.owner
   pub version_is : kq.version ≡ version
+
+-- the kqueue of the code stands in the table under its place
+abbrev pub IsEntry : ℕ → List (ℕ × NumberedKqueue) → OwnedKqueue → Type 0
+IsEntry place entries kq = (v : NumberedKqueue) × (lookup (nat_eq place) entries ≡ Some v) × (kq ≡ v.kq)
 
 -- ---- a call begins
 
@@ -64,10 +69,11 @@ pub record Begun {S A B C D : Type 0} (h : Hearing S) (k : Keeping A B C D) : Ty
   -- the answer of the call; none where it goes on to read events
   pub answer : Option Reply
 
-module _ {S A B C D : Type 0} {h : Hearing S} {k : Keeping A B C D} where
-  abbrev pub begun_kqueue : Moment → Call → model.Live h → kevent.Begun h
-  begun_kqueue m c l = kevent.begun (caller_at l.owner m) c.room c.changes l.kq
+-- the call of one kqueue, at this moment
+abbrev pub begun_kqueue : {S : Type 0} {h : Hearing S} → Moment → Call → model.Live h → kevent.Begun h
+begun_kqueue m c l = kevent.begun (caller_at l.owner m) c.room c.changes l.kq
 
+module _ {S A B C D : Type 0} {h : Hearing S} {k : Keeping A B C D} where
   unfoldable pub begun_on : Moment → Option Call → model.System h k → Begun h k
   begun_on m None s = record { system = s; answer = None }
   begun_on m (Some c) s = record {
@@ -82,6 +88,18 @@ module _ {S A B C D : Type 0} {h : Hearing S} {k : Keeping A B C D} where
   -- the call at this place
   unfoldable pub begun : ℕ → Event → model.System h k → Begun h k
   begun place e s = begun_by place (plan place e (seen_world s.world)) s
+
+-- a call of one of the live kqueues began at this moment
+abbrev pub IsBegunAt : Moment → Call → List Live → List Live → Option Reply → Type 0
+IsBegunAt m c old new answer =
+    (new ≡ with_live_at c.kqueue (λ l. (begun_kqueue m c l).kq) old)
+    × (answer ≡ option_and_then (λ l. (begun_kqueue m c l).answer) (live_at c.kqueue old))
+
+-- With this answer it is over. With none it goes on as the call without changes does at the second moment.
+abbrev pub IsCallSoFar : Moment → Moment → Call → List Live → List Live → Option Reply → Type 0
+IsCallSoFar m n c old new (Some reply) = IsCalled m c old new reply
+IsCallSoFar m n c old new None =
+    (last : List Live) × (reply : Reply) × IsCalled m c old last reply × IsCalled n (record c { changes = [] }) new last reply
 
 -- a call that began takes the old system to the new one, with this answer
 abbrev pub IsBeginning : ℕ → Event → System → System → Option Reply → Type 0
@@ -101,12 +119,13 @@ IsStepSoFar place pid fd changes room old new None =
 
 -- ---- another order
 
-module _ {S A B C D : Type 0} {h : Hearing S} {k : Keeping A B C D} where
-  unfoldable pub arranged_at : Option ℕ → List Key → List (model.Live h) → List (model.Live h)
-  arranged_at None keys live = live
-  arranged_at (Some place) keys live =
-      with_live_at place (λ l. record l.kq { queue = arranged keys l.kq.queue }) live
+-- these keys come first in the queue of the kqueue that was made at a place
+unfoldable pub arranged_at : {S : Type 0} {h : Hearing S} → Option ℕ → List Key → List (model.Live h)
+    → List (model.Live h)
+arranged_at None keys live = live
+arranged_at (Some place) keys live = with_live_at place (λ l. record l.kq { queue = arranged keys l.kq.queue }) live
 
-  -- these keys come first in the queue of the kqueue that a number names
-  abbrev pub arranged_in : ℕ → ℕ → List Key → model.System h k → model.System h k
-  arranged_in pid number keys s = record s { live = arranged_at (place_named pid number s) keys s.live }
+-- of that which a number names
+abbrev pub arranged_in : {S A B C D : Type 0} {h : Hearing S} {k : Keeping A B C D} → ℕ → ℕ → List Key → model.System h k
+    → model.System h k
+arranged_in pid number keys s = record s { live = arranged_at (place_named pid number s) keys s.live }

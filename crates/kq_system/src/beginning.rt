@@ -1,16 +1,30 @@
 // What is done with one live kqueue: a call of it begins, and its queue gets another order.
-ghost use Rattle.std.specs.Prelude.{◌≡◌, Some, IfOk, OnErr, map, option_and_then};
+ghost use Rattle.std.specs.Prelude.{◌≡◌, [], None, Some, IfOk, MatchOption, OnErr, map, nat_eq};
+ghost use Rattle.std.specs.Map.{lookup};
 ghost use Rattle.kq_kevent.specs.Arranged.{arranged};
 ghost use Rattle.kq_model.specs.Moment.{Moment};
-ghost use Rattle.kq_system.specs.Beginning.{begun_kqueue, live_at, with_live_at};
-ghost use Rattle.kq_system.specs.SystemState.{live_of, AreOfVersion, HaveStayed, IsLive};
+ghost use Rattle.kq_system.specs.Beginning.{with_live_at, IsBegunAt, IsCallSoFar, IsEntry};
+ghost use Rattle.kq_system.specs.SystemState.{live_of, AreOfVersion, HaveStayed, IsLive, IsQuiet};
 
 use crate::all_live::owner_of;
 use crate::kqueues::Kqueues;
 use crate::renewing::renew;
 use crate::watching::watch_all;
 use kq_filters::Views;
+use kq_kevent::Kq;
 use kq_model::{Change, Key, Memory, Reply};
+
+/// The live kqueue that was made at a place.
+pub fn kqueue_at(live: &Kqueues, kqueue: u64) -> Option<&Kq>
+    ensures { MatchOption result
+        (lookup (nat_eq kqueue) live.now.entries ≡ None)
+        (λ kq. IsEntry kqueue live.now.entries kq.now) }
+{
+    match live.live.get(&kqueue) {
+        Some(one) => Some(&one.kq),
+        None => None,
+    }
+}
 
 /// A call on the live kqueue that was made at a place begins.
 pub fn begin_on<V: Views>(
@@ -23,10 +37,17 @@ pub fn begin_on<V: Views>(
     requires { IsLive kqueue (map live_of live.old.entries) }
     ensures begun { IfOk result (λ answer. (m : Moment) → m.views ≡ V.sees views.now
         → AreOfVersion m.version live.old.entries
-        → let c = record { kqueue = kqueue; changes = changes.now; room = room } in
-        (map live_of live.new.entries
-        ≡ with_live_at kqueue (λ l. (begun_kqueue m c l).kq) (map live_of live.old.entries))
-        × (answer ≡ option_and_then (λ l. (begun_kqueue m c l).answer) (live_at kqueue (map live_of live.old.entries)))) }
+        → IsBegunAt m (record { kqueue = kqueue; changes = changes.now; room = room })
+        (map live_of live.old.entries) (map live_of live.new.entries) answer) }
+
+    // At two moments of calls in this world, of which the second has no changes.
+    ensures steps { IfOk result (λ answer. (m n : Moment) → AreOfVersion m.version live.old.entries
+        → IsQuiet m → m.views ≡ V.sees views.now
+        → m.call ≡ Some (record { kqueue = kqueue; changes = changes.now; room = room })
+        → IsQuiet n → n.views ≡ V.sees views.now → n.version ≡ m.version
+        → n.call ≡ Some (record { kqueue = kqueue; changes = []; room = room })
+        → IsCallSoFar m n (record { kqueue = kqueue; changes = changes.now; room = room })
+        (map live_of live.old.entries) (map live_of live.new.entries) answer) }
     ensures stayed { HaveStayed live.old.entries live.new.entries }
     ensures memory { OnErr result (map live_of live.new.entries ≡ map live_of live.old.entries) }
 {

@@ -3,15 +3,18 @@ ghost use Rattle.std.specs.Prelude.{◌≡◌, ◌+◌, ◌-◌, ◌^◌, ◌<�
 ghost use Rattle.kq_model.specs.declared.event.Event.TheVariants as event_of;
 ghost use Rattle.kq_model.specs.Hearing.{listed};
 ghost use Rattle.kq_model.specs.Objects as objects;
+ghost use Rattle.kq_model.specs.Plans.{plan};
 ghost use Rattle.kq_model.specs.Recast.{IsTalliedStep, tallied_system};
 ghost use Rattle.kq_model.specs.System as model;
 ghost use Rattle.kq_model.specs.System.{step};
 ghost use Rattle.kq_model.specs.WatchedNumbers.{AllWatchTheirNumbers};
+ghost use Rattle.kq_process.specs.Effects.{IsPossible};
+ghost use Rattle.kq_process.specs.World.{world_of};
 ghost use Rattle.kq_system.specs.Beginning.{arranged_in, live_named, IsBeginning, IsLiveOne, IsStepSoFar};
 ghost use Rattle.kq_system.specs.SystemState.{IsImpossible, IsStep, IsUnchanged, system_of};
 
 use crate::System;
-use crate::beginning::{begin_on, put_first_in};
+use crate::beginning::{begin_on, kqueue_at, put_first_in};
 use crate::system::kqueue_named;
 use kq_kevent::Kq;
 use kq_model::{Change, Key, Memory, Reply};
@@ -29,13 +32,12 @@ impl System {
     pub fn kqueue(&self, pid: u32, fd: u32) -> Option<&Kq>
         ensures { MatchOption result
             (live_named pid fd (system_of self.now) ≡ None)
-            (λ kq. IsLiveOne (live_named pid fd (system_of self.now)) pid self.now.version kq.now) }
+            (λ kq. IsLiveOne (live_named pid fd (system_of self.now)) self.now.version kq.now) }
     {
-        let kqueue = kqueue_named(self.world.descriptor(pid, fd))?;
-        match self.live.live.get(&kqueue) {
-            Some(one) => Some(&one.kq),
-            None => None,
-        }
+        let Some(kqueue) = kqueue_named(self.world.descriptor(pid, fd)) else {
+            return None;
+        };
+        kqueue_at(&self.live, kqueue)
     }
 
     /// The first step of a kevent call, which takes the next place as [`System::apply`] does: its changes,
@@ -63,6 +65,28 @@ impl System {
         ensures memory { OnErr result (IsUnchanged self.old self.new) }
         ensures impossible { IsImpossible (self.old.applied + 1)
             (event_of.Kevent pid fd changes.now room) (system_of self.old) → IsOk result }
+    {
+        let answer = self.begin(pid, fd, changes, room);
+        self.watch_their_numbers();
+        answer
+    }
+
+    fn begin(
+        &mut self,
+        pid: u32,
+        fd: u32,
+        changes: &[Change],
+        room: u32,
+    ) -> Result<Option<Reply>, Memory>
+        requires { self.old.applied < 2 ^ 31 - 1 }
+        ensures begun { IfOk result (IsBeginning (self.old.applied + 1)
+            (event_of.Kevent pid fd changes.now room) (system_of self.old) (system_of self.new)) }
+        ensures steps { IfOk result (IsStepSoFar (self.old.applied + 1) pid fd changes.now room
+            (system_of self.old) (system_of self.new)) }
+        ensures applied { IfOk result (λ _. self.new.applied ≡ self.old.applied + 1) }
+        ensures memory { OnErr result (IsUnchanged self.old self.new) }
+        ensures possible { OnErr result (IsPossible (plan (self.old.applied + 1)
+            (event_of.Kevent pid fd changes.now room) (world_of self.old.world))) }
     {
         let place = self.applied + 1;
         let effect = self.world.kevent(pid, fd, changes, room);
@@ -97,7 +121,9 @@ impl System {
         ensures impossible { IsImpossible self.old.applied
             (event_of.Kevent pid fd [] room) (system_of self.old) → IsOk result }
     {
-        self.call_kqueue(pid, fd, &[], room)
+        let reply = self.call_kqueue(pid, fd, &[], room);
+        self.watch_their_numbers();
+        reply
     }
 
     /// Puts these keys first in the queue of the kqueue that a number of a process names, in this order,
@@ -110,6 +136,14 @@ impl System {
             → system_of self.new ≡ tallied_system (arranged_in pid fd keys.now m) }
 
         ensures watched { AllWatchTheirNumbers (system_of self.new) }
+        ensures applied { self.new.applied ≡ self.old.applied }
+    {
+        self.arrange(pid, fd, keys);
+        self.watch_their_numbers();
+    }
+
+    fn arrange(&mut self, pid: u32, fd: u32, keys: &[Key])
+        ensures system { system_of self.new ≡ arranged_in pid fd keys.now (system_of self.old) }
         ensures applied { self.new.applied ≡ self.old.applied }
     {
         if let Some(kqueue) = kqueue_named(self.world.descriptor(pid, fd)) {

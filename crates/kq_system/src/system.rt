@@ -136,7 +136,7 @@ impl System {
     }
 
     /// What the type keeps of READ, WRITE and VNODE knotes.
-    fn watch_their_numbers(&self)
+    pub(crate) fn watch_their_numbers(&self)
         ensures { AllWatchTheirNumbers (system_of self.now) }
     {
         let _ = &self.world;

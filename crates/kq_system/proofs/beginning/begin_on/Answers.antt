@@ -1,0 +1,175 @@
+use Rattle.std.proofs.Common.{◌≡◌, ◌∙◌, true, None, Some, nat_eq, map, sym, refl, ap, subst}
+use Rattle.std.proofs.lemmas.Result.{IfOk-weaker, on_err_weaker}
+use Rattle.std.specs.Map.{lookup}
+use Rattle.std.specs.HashMap.{spare}
+use Rattle.std.specs.Prelude.{All}
+use Rattle.kq_kevent.specs.Owned.{caller}
+use Rattle.kq_model.specs.declared.change.Change.{Change}
+use Rattle.kq_model.specs.Bits.{add, asks}
+use Rattle.kq_model.specs.Targets.{target_of}
+use Rattle.kq_model.specs.World.{Call}
+use Rattle.kq_system.specs.Beginning.{IsBegunAt, IsCallSoFar}
+use Rattle.kq_system.specs.Showing.{AreFound, IsListed, LiveKqueues}
+use Rattle.kq_system.specs.SystemState.{AreOfVersion, AreUpTo, HaveStayed, IsLive, NumberedKqueue, live_of}
+use Rattle.kq_system.proofs.BeginLemmas.{begun_at, begun_listed, so_far}
+use Rattle.kq_system.proofs.CallLemmas.{kept, keys_kept, live_found, version_kept}
+use Rattle.kq_system.proofs.FoundLemmas.{found_called, found_more}
+use Rattle.kq_system.proofs.ShowLemmas.{Entries}
+use Rattle.kq_system.proofs.beginning.begin_on.Goals as goal
+
+pub owner_of-owner-requires : goal.owner_of-owner-requires
+owner_of-owner-requires g c =
+    subst (λ (es : Entries). IsLive c.args.kqueue (map live_of es))
+    (sym (ap (λ (l : LiveKqueues). l.entries) c.live.view_is ∙ c.renew.ensures)) c.requires
+
+pub unreachable-requires : goal.unreachable-requires
+unreachable-requires g c =
+    live_found c.args.kqueue c.live.inside.live.entries
+    (subst (λ (es : Entries). IsLive c.args.kqueue (map live_of es))
+    (sym (ap (λ (l : LiveKqueues). l.entries) c.live.view_is ∙ c.renew.ensures)) c.requires)
+    (sym c.in_default.ensures.value)
+
+pub returns-clause-begun : goal.returns-clause-begun
+returns-clause-begun g c =
+    let call : Call = record { kqueue = c.args.kqueue; changes = c.args.changes.now; room = c.args.room } in
+    let es = c.live.inside.live.entries in
+    let same : es ≡ c.args.live.now.entries = ap (λ (l : LiveKqueues). l.entries) c.live.view_is ∙ c.renew.ensures in
+    let v : NumberedKqueue = record {
+      number = c.one.inside.number;
+      kq = c.one.inside.kq;
+      shown = c.one.inside.shown;
+      ended = c.one.inside.ended;
+    } in
+    let w : NumberedKqueue = record {
+      number = c.one.inside.number;
+      kq = c.begin.new.self;
+      shown = c.one.inside.shown;
+      ended = c.one.inside.ended;
+    } in
+    let writes = c.get_mut.follows.holds w in
+    let found : lookup (nat_eq c.args.kqueue) es ≡ Some v = sym c.in-Some.ensures.value
+    ∙ ap Some (sym c.one.view_is) in
+    IfOk-weaker c.begin.result _ _ (λ r begun m sees versions.
+    subst (λ (es : Entries). IsBegunAt m call (map live_of es) (map live_of (c.get_mut.follows.lender w).entries) r) same
+    (subst (λ es'. IsBegunAt m call (map live_of es) (map live_of es') r) (sym writes.0)
+    (begun_at m call (g.V.Views.sees c.args.views.now) es v w r sees
+    (subst (AreOfVersion m.version) (sym same) versions) c.get_mut.ensures.unique found
+    refl c.begin.ensures.owner begun)))
+    c.begin.ensures.begun
+
+pub returns-clause-steps : goal.returns-clause-steps
+returns-clause-steps g c =
+    let call : Call = record { kqueue = c.args.kqueue; changes = c.args.changes.now; room = c.args.room } in
+    let es = c.live.inside.live.entries in
+    let same : es ≡ c.args.live.now.entries = ap (λ (l : LiveKqueues). l.entries) c.live.view_is ∙ c.renew.ensures in
+    let v : NumberedKqueue = record {
+      number = c.one.inside.number;
+      kq = c.one.inside.kq;
+      shown = c.one.inside.shown;
+      ended = c.one.inside.ended;
+    } in
+    let w : NumberedKqueue = record {
+      number = c.one.inside.number;
+      kq = c.begin.new.self;
+      shown = c.one.inside.shown;
+      ended = c.one.inside.ended;
+    } in
+    let writes = c.get_mut.follows.holds w in
+    let found : lookup (nat_eq c.args.kqueue) es ≡ Some v = sym c.in-Some.ensures.value
+    ∙ ap Some (sym c.one.view_is) in
+    IfOk-weaker c.begin.result _ _ (λ r begun m n versions quiet sees calls still seen version then.
+    subst (λ (es : Entries). IsCallSoFar m n call (map live_of es) (map live_of (c.get_mut.follows.lender w).entries) r) same
+    (subst (λ es'. IsCallSoFar m n call (map live_of es) (map live_of es') r) (sym writes.0)
+    (so_far m n call (g.V.Views.sees c.args.views.now) es v w r quiet sees
+    (subst (AreOfVersion m.version) (sym same) versions) calls still seen version then c.get_mut.ensures.unique found
+    refl c.begin.ensures.owner c.begin.ensures.version begun)))
+    c.begin.ensures.begun
+
+pub returns-clause-stayed : goal.returns-clause-stayed
+returns-clause-stayed g c =
+    let es = c.live.inside.live.entries in
+    let same : es ≡ c.args.live.now.entries = ap (λ (l : LiveKqueues). l.entries) c.live.view_is ∙ c.renew.ensures in
+    let v : NumberedKqueue = record {
+      number = c.one.inside.number;
+      kq = c.one.inside.kq;
+      shown = c.one.inside.shown;
+      ended = c.one.inside.ended;
+    } in
+    let w : NumberedKqueue = record {
+      number = c.one.inside.number;
+      kq = c.begin.new.self;
+      shown = c.one.inside.shown;
+      ended = c.one.inside.ended;
+    } in
+    let writes = c.get_mut.follows.holds w in
+    let found : lookup (nat_eq c.args.kqueue) es ≡ Some v = sym c.in-Some.ensures.value
+    ∙ ap Some (sym c.one.view_is) in
+    subst (λ (es : Entries). HaveStayed es (c.get_mut.follows.lender w).entries) same
+    (subst (HaveStayed es) (sym writes.0) (record {
+      of_version = λ version all. version_kept version c.args.kqueue es v w found c.begin.ensures.version all;
+      up_to = λ most all. subst (AreUpTo most) (sym (keys_kept c.args.kqueue es w)) all;
+    }))
+
+pub returns-clause-memory : goal.returns-clause-memory
+returns-clause-memory g c =
+    let es = c.live.inside.live.entries in
+    let same : es ≡ c.args.live.now.entries = ap (λ (l : LiveKqueues). l.entries) c.live.view_is ∙ c.renew.ensures in
+    let v : NumberedKqueue = record {
+      number = c.one.inside.number;
+      kq = c.one.inside.kq;
+      shown = c.one.inside.shown;
+      ended = c.one.inside.ended;
+    } in
+    let w : NumberedKqueue = record {
+      number = c.one.inside.number;
+      kq = c.begin.new.self;
+      shown = c.one.inside.shown;
+      ended = c.one.inside.ended;
+    } in
+    let writes = c.get_mut.follows.holds w in
+    let found : lookup (nat_eq c.args.kqueue) es ≡ Some v = sym c.in-Some.ensures.value
+    ∙ ap Some (sym c.one.view_is) in
+    on_err_weaker c.begin.result (λ kept_kq.
+    ap (map live_of) writes.0 ∙ kept c.args.kqueue es v w found refl c.begin.ensures.owner kept_kq
+    ∙ ap (map live_of) same)
+    c.begin.ensures.err
+
+-- where the targets of the changes got no place
+pub invariant_of-live : goal.invariant_of-live
+invariant_of-live g c =
+    let old = c.live.inside in
+    found_more old.owned.table old.watching.table c.watch_all.new.watching.table old.round old.live.entries
+    (spare old.live) old.ready c.live.invariant c.watch_all.ensures.grows (spare old.live)
+
+pub invariant_of-live-2 : goal.invariant_of-live-2
+invariant_of-live-2 g c =
+    let old = c.live.inside in
+    let views = g.V.Views.sees c.args.views.now in
+    let es = c.live.inside.live.entries in
+    let same : es ≡ c.args.live.now.entries = ap (λ (l : LiveKqueues). l.entries) c.live.view_is ∙ c.renew.ensures in
+    let v : NumberedKqueue = record {
+      number = c.one.inside.number;
+      kq = c.one.inside.kq;
+      shown = c.one.inside.shown;
+      ended = c.one.inside.ended;
+    } in
+    let w : NumberedKqueue = record {
+      number = c.one.inside.number;
+      kq = c.begin.new.self;
+      shown = c.one.inside.shown;
+      ended = c.one.inside.ended;
+    } in
+    let writes = c.get_mut.follows.holds w in
+    let found : lookup (nat_eq c.args.kqueue) es ≡ Some v = sym c.in-Some.ensures.value
+    ∙ ap Some (sym c.one.view_is) in
+    let owner : c.owner_of-owner.result ≡ v.kq.owner = c.owner_of-owner.ensures v found in
+    subst (λ (es : Entries). AreFound es (spare (c.get_mut.follows.lender w)) None old.owned.table
+    c.watch_all.new.watching.table old.round) (sym writes.0)
+    (found_called old.owned.table old.watching.table c.watch_all.new.watching.table old.round es (spare old.live)
+    old.ready c.live.invariant c.watch_all.ensures.grows (spare (c.get_mut.follows.lender w)) c.args.kqueue v w found
+    c.begin.ensures.owner refl refl
+    (λ has. begun_listed c.watch_all.new.watching.table c.args.kqueue (caller views v.kq) c.args.room
+    c.args.changes.now v.kq.kq w.kq.kq c.begin.result
+    (subst (λ n. All (λ (x : Change). asks x.flags add ≡ true → IsListed c.args.kqueue c.watch_all.new.watching.table
+    x.filter x.ident (target_of views n x.filter x.ident)) c.args.changes.now) owner
+    c.in_ok-watch_all.ensures.listed) has c.begin.ensures.begun c.begin.ensures.err))
