@@ -1,4 +1,4 @@
-# make           proves the programs and builds them: crates/kqsim/out/kqsim, crates/kqstep/out/kqstep
+# make           proves the programs and builds them: out/kqsim, out/kqstep and out/kqcheck in their crates
 # make run       the report of an example, within two minutes on a fresh machine
 # make test      proves and tests everything; the last line is 'N passed, M failed'
 # make bench     measures the program beside one that only reads
@@ -8,6 +8,7 @@
 
 KQSIM := crates/kqsim/out/kqsim
 KQSTEP := crates/kqstep/out/kqstep
+KQCHECK := crates/kqcheck/out/kqcheck
 VALUE_COUNT := crates/value_count/out/value_count
 TRACE_CHECK := crates/trace_check/out/trace_check
 REPLAY_BENCH := crates/replay_bench/out/replay_bench
@@ -23,6 +24,7 @@ JOBS ?= $(shell nproc)
 all:
 	cd crates/kqsim && rt all check --jobs $(JOBS) && rt run < stdin
 	cd crates/kqstep && rt run < stdin
+	cd crates/kqcheck && rt run -- --explain 4 - < stdin
 
 # (rt try runs the program without any proof, and copies no file from outside its crate)
 run:
@@ -45,8 +47,10 @@ bench: all
 install: all install-man
 	install -D -m 755 $(KQSIM) $(DESTDIR)$(PREFIX)/bin/kqsim
 	install -D -m 755 $(KQSTEP) $(DESTDIR)$(PREFIX)/bin/kqstep
+	install -D -m 755 $(KQCHECK) $(DESTDIR)$(PREFIX)/bin/kqcheck
 
 install-man:
 	install -D -m 644 man/kqsim.1 $(DESTDIR)$(PREFIX)/share/man/man1/kqsim.1
 	install -D -m 644 man/kqstep.1 $(DESTDIR)$(PREFIX)/share/man/man1/kqstep.1
+	install -D -m 644 man/kqcheck.1 $(DESTDIR)$(PREFIX)/share/man/man1/kqcheck.1
 	install -D -m 644 man/kqsim.5 $(DESTDIR)$(PREFIX)/share/man/man5/kqsim.5
