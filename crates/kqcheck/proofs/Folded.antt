@@ -39,7 +39,7 @@ pub one_on : (ignored : List Ignored) (permits : Bool) (applied at after : ℕ) 
 one_on ignored permits applied at after s next events i e answers behind given first later v o lt is here one given_is behind_is stepped goes rest =
     let G : ℕ → Type 0 = λ n. GoesOn permits (n + 1) v first later in
     let S : Option Given → Type 0 = λ g. IsStepped ignored (applied + 1) e g s v next in
-    let R : List Answer → Type 0 = λ as. IsJudgedFrom ignored permits (after + 1) next (drop (i + 1) events) as later o in
+    let R : List Answer → Type 0 = λ behind_it. IsJudgedFrom ignored permits (after + 1) next (drop (i + 1) events) behind_it later o in
     let T : ℕ → Type 0 = λ n. IsJudgedFrom ignored permits (n + 1) next (drop (i + 1) events) (behind_place (applied + 1) answers) later o in
     let there : given ≡ given_at (applied + 1) answers = given_is ∙ ap (λ n. given_at (n + 1) answers) here in
     let then : behind ≡ behind_place (applied + 1) answers = behind_is ∙ ap (λ n. behind_place (n + 1) answers) here in
