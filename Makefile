@@ -1,4 +1,4 @@
-# make           proves the programs and builds them: crates/kqsim/out/kqsim, crates/kqstep/out/kqstep; and the
+# make           proves the programs and builds them: out/kqsim, out/kqstep and out/kqcheck in their crates; and the
 #                library for C, crates/libkqsim/out/libkqsim.a
 # make run       the report of an example, within two minutes on a fresh machine
 # make test      proves and tests everything; the last line is 'N passed, M failed'
@@ -10,6 +10,7 @@
 
 KQSIM := crates/kqsim/out/kqsim
 KQSTEP := crates/kqstep/out/kqstep
+KQCHECK := crates/kqcheck/out/kqcheck
 LIBKQSIM := crates/libkqsim/out/libkqsim.a
 VALUE_COUNT := crates/value_count/out/value_count
 TRACE_CHECK := crates/trace_check/out/trace_check
@@ -26,6 +27,7 @@ JOBS ?= $(shell nproc)
 all:
 	cd crates/kqsim && rt all check --jobs $(JOBS) && rt run < stdin
 	cd crates/kqstep && rt run < stdin
+	cd crates/kqcheck && rt run -- --explain 4 - < stdin
 	$(MAKE) libkqsim
 
 # (one archive, with the few functions of C that call malloc and free)
@@ -57,10 +59,12 @@ bench: all
 install: all install-man
 	install -D -m 755 $(KQSIM) $(DESTDIR)$(PREFIX)/bin/kqsim
 	install -D -m 755 $(KQSTEP) $(DESTDIR)$(PREFIX)/bin/kqstep
+	install -D -m 755 $(KQCHECK) $(DESTDIR)$(PREFIX)/bin/kqcheck
 	install -D -m 644 $(LIBKQSIM) $(DESTDIR)$(PREFIX)/lib/libkqsim.a
 	install -D -m 644 include/kqsim.h $(DESTDIR)$(PREFIX)/include/kqsim.h
 
 install-man:
 	install -D -m 644 man/kqsim.1 $(DESTDIR)$(PREFIX)/share/man/man1/kqsim.1
 	install -D -m 644 man/kqstep.1 $(DESTDIR)$(PREFIX)/share/man/man1/kqstep.1
+	install -D -m 644 man/kqcheck.1 $(DESTDIR)$(PREFIX)/share/man/man1/kqcheck.1
 	install -D -m 644 man/kqsim.5 $(DESTDIR)$(PREFIX)/share/man/man5/kqsim.5

@@ -1,0 +1,4 @@
+pub mod InOrder
+pub mod Folded
+pub mod FirstAnswer
+pub mod Orders

@@ -1,0 +1,7 @@
+pub mod Fault
+pub mod Replies
+pub mod Stepped
+pub mod Judged
+pub mod Placed
+pub mod Texts
+pub mod Run

@@ -1,0 +1,88 @@
+//! `kqcheck`: says whether the answers that a program recorded are right, and why not.
+#![tactic(auto)]
+
+mod answering;
+mod explaining;
+mod fault;
+mod history;
+mod input;
+mod judging;
+mod misplaced;
+mod order;
+mod outcome;
+mod output;
+mod running;
+mod step;
+mod story;
+mod telling;
+mod text;
+mod verdict;
+mod words;
+
+use fault::Fault;
+use input::{MOST_BYTES, read_in};
+use order::{Order, order_of};
+use running::{Given, run_order, tell};
+use std::env;
+use std::fs::File;
+use std::io::ErrorKind;
+use std::process::ExitCode;
+
+fn main(rt: HostRuntime) -> ExitCode {
+    let (mut out, mut err) = (rt.stdout(), rt.stderr());
+    let status = match asked(&rt) {
+        Ok((order, given)) => run_order(&rt, &order, &given, &mut out, &mut err),
+        Err(fault) => {
+            tell(fault, &mut err);
+            fault.status()
+        }
+    };
+    ExitCode::from(status)
+}
+
+/// The order of the command line, and what its files have. Words that are no text are none of the program's.
+fn asked(rt: &HostRuntime) -> Result<(Order, Given), Fault> {
+    let all = env::args(rt).map_err(|error| match error.kind() {
+        ErrorKind::OutOfMemory => Fault::Memory,
+        _ => Fault::Usage,
+    })?;
+    let mut words = Vec::new(rt.alloc());
+    for word in all.skip(1) {
+        words.push(word).map_err(|_| Fault::Memory)?;
+    }
+    let mut texts = Vec::new(rt.alloc());
+    for word in &words {
+        texts.push(word.as_str()).map_err(|_| Fault::Memory)?;
+    }
+    let order = order_of(rt.alloc(), texts.as_slice())?;
+    let given = given_for(rt, &order)?;
+    Ok((order, given))
+}
+
+/// The files of an order, read whole.
+fn given_for(rt: &HostRuntime, order: &Order) -> Result<Given, Fault> {
+    let (trace, answers) = match order {
+        Order::Help => ("", ""),
+        Order::Explain { trace, .. } => (trace.as_str(), ""),
+        Order::Check { trace, answers, .. } => (trace.as_str(), answers.as_str()),
+    };
+    Ok(Given {
+        trace: bytes_of(rt, trace, Fault::ReadTrace)?,
+        answers: bytes_of(rt, answers, Fault::ReadAnswers)?,
+    })
+}
+
+/// What a file has, or standard input by the name `-`; nothing where no file is named.
+fn bytes_of(rt: &HostRuntime, name: &str, unread: Fault) -> Result<Vec<u8>, Fault> {
+    if name.is_empty() {
+        return Ok(Vec::new(rt.alloc()));
+    }
+    if name == "-" {
+        return read_in(rt.alloc(), &mut rt.stdin(), MOST_BYTES, unread);
+    }
+    let mut file = File::open(rt, name).map_err(|error| match error.kind() {
+        ErrorKind::OutOfMemory => Fault::Memory,
+        _ => unread,
+    })?;
+    read_in(rt.alloc(), &mut file, MOST_BYTES, unread)
+}

@@ -1,0 +1,154 @@
+//! Orders carried out.
+
+use crate::fault::Fault;
+use crate::judging::judge_all;
+use crate::misplaced::first_misplaced;
+use crate::order::Order;
+use crate::outcome::Outcome;
+use crate::output::write_out;
+use crate::explaining::explained;
+use crate::telling::refusal_of;
+use crate::text::put_outcome;
+use kq_answers::{Answer, AnswerFault, read_answers};
+use kq_judge::Ignored;
+use kq_model::{Memory, Trace};
+use kq_trace::read_trace_with;
+use std::alloc::Global;
+use std::io::Write;
+use std::thread::Threads;
+
+/// The bytes of the files of an order; none of a file that it does not name.
+#[derive(Drop)]
+pub struct Given {
+    pub trace: Vec<u8>,
+    pub answers: Vec<u8>,
+}
+
+/// What `kqcheck --help` prints.
+const HELP: &str = "\
+kqcheck - says whether recorded answers of kevent(2) are right, and why not
+
+    kqcheck [--permit-impossible] [--ignore FILTER.MEMBER].. TRACE ANSWERS
+    kqcheck [--permit-impossible] --explain PLACE TRACE
+
+ANSWERS has lines as a report has them, for as many calls as one recorded
+(kqsim(5) has both formats). An answer is right where some order of the queue
+gives it; the order as it stands then is what it leaves.
+
+    equal          each answer is the one of the queue's order
+    allowed        each is right; the first in another order is named
+    not allowed    the first that is not right, and why
+    impossible     the first record that cannot be, unless these are permitted
+
+--ignore WRITE.data    a member that is not compared: flags, fflags, data, udata
+--explain 18           the call at place 18, kevent by kevent
+-                      standard input in place of one of the two files
+
+Exit status: 0 equal or allowed; 1 not allowed, or impossible; 2 other words;
+3 a read failed; 4 a bad line, or no call there; 5 out of memory; 7 a write
+failed.
+";
+
+/// Carries an order out over the bytes of its files, and prints the line of a fault on `err`: the exit status. A failing
+/// `err` changes no status.
+pub fn run_order<R: AllocGlobal + Threads + Sync, O: Write, E: Write>(
+    rt: &R,
+    order: &Order,
+    given: &Given,
+    out: &mut O,
+    err: &mut E,
+) -> u8 {
+    match carry_out(rt, order, given, out) {
+        Ok(status) => status,
+        Err(fault) => {
+            tell(fault, err);
+            fault.status()
+        }
+    }
+}
+
+fn carry_out<R: AllocGlobal + Threads + Sync, O: Write>(
+    rt: &R,
+    order: &Order,
+    given: &Given,
+    out: &mut O,
+) -> Result<u8, Fault> {
+    match order {
+        Order::Help => {
+            write_out(HELP.as_bytes(), out)?;
+            Ok(0)
+        }
+        Order::Check { ignored, permits, .. } =>
+            check(rt, given, ignored.as_slice(), *permits, out),
+        Order::Explain { at, permits, .. } => explain(rt, given, *at, *permits, out),
+    }
+}
+
+fn check<R: AllocGlobal + Threads + Sync, O: Write>(
+    rt: &R,
+    given: &Given,
+    ignored: &[Ignored],
+    permits: bool,
+    out: &mut O,
+) -> Result<u8, Fault> {
+    let trace = read_trace_with(rt, &given.trace, 1)?;
+    let answers = read_answers(rt.alloc(), &given.answers)?;
+    let answers = answers.as_slice();
+    if let Some(line) = first_misplaced(trace.events.as_slice(), answers) {
+        return Err(Fault::Answers {
+            line,
+            fault: AnswerFault::NoCall,
+        });
+    }
+    let outcome = judge_all(rt.alloc(), &trace, answers, ignored, permits)?;
+    let text = text_of(rt.alloc(), &trace, answers, ignored, outcome)?;
+    write_out(&text, out)?;
+    Ok(outcome.status())
+}
+
+/// What is said of an outcome; of one that is refused, also why.
+fn text_of(
+    alloc: Global,
+    trace: &Trace,
+    answers: &[Answer],
+    ignored: &[Ignored],
+    outcome: Outcome,
+) -> Result<Vec<u8>, Memory> {
+    let mut text = Vec::new(alloc);
+    put_outcome(&mut text, outcome)?;
+    if let Outcome::Refused { at } = outcome {
+        let why = refusal_of(alloc, trace, answers, ignored, at)?;
+        text.extend_from_slice(&why).map_err(|_| Memory)?;
+    }
+    Ok(text)
+}
+
+fn explain<R: AllocGlobal + Threads + Sync, O: Write>(
+    rt: &R,
+    given: &Given,
+    at: u64,
+    permits: bool,
+    out: &mut O,
+) -> Result<u8, Fault> {
+    let trace = read_trace_with(rt, &given.trace, 1)?;
+    let outcome = judge_all(rt.alloc(), &trace, &[], &[], permits)?;
+    if let Outcome::Impossible { at: place, .. } = outcome {
+        if place <= at {
+            let text = text_of(rt.alloc(), &trace, &[], &[], outcome)?;
+            write_out(&text, out)?;
+            return Ok(1);
+        }
+    }
+    match explained(rt.alloc(), &trace, at)? {
+        Some(text) => {
+            write_out(&text, out)?;
+            Ok(0)
+        }
+        None => Err(Fault::NoCall { at }),
+    }
+}
+
+/// Prints the line of a fault; where that fails nothing else can be done.
+pub fn tell<E: Write>(fault: Fault, err: &mut E) {
+    let _ = writeln!(err, "{fault}");
+}

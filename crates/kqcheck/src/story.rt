@@ -1,0 +1,129 @@
+//! The run up to one call, with what some kevents of its kqueue went through.
+
+ghost use Rattle.std.specs.Prelude.{◌≡◌, ◌+◌, ◌-◌, ◌^◌, ◌<◌, ◌≤◌, IfOk, IfSome, OnOk};
+
+use crate::history::History;
+use crate::judging::{answer_at, arrange};
+use crate::step::{Part, name_of};
+use crate::verdict::Call;
+use kq_answers::{Answer, Given};
+use kq_judge::Ignored;
+use kq_model::{Change, Event, Memory, Reply, Trace};
+use kq_system::System;
+use std::alloc::Global;
+
+/// A run that has come to a place.
+#[derive(Drop)]
+pub struct Story<'r> {
+    alloc: Global,
+    pub system: System,
+    pub history: History,
+    /// Members that are not compared.
+    pub ignored: &'r [Ignored],
+    /// The answers from that place on.
+    pub rest: &'r [Answer],
+}
+
+/// The record at a place.
+pub fn event_at(trace: &Trace, at: u64) -> Option<&Event>
+    ensures place { IfSome result (λ _. at < 2 ^ 31) }
+    ensures positive { IfSome result (λ _. 0 < at) }
+{
+    let events = trace.events.as_slice();
+    if at == 0 || at > events.len() as u64 {
+        return None;
+    }
+    Some(&events[(at - 1) as usize])
+}
+
+/// Carries out the records before a place, and notes what these kevents go through.
+pub fn story_before<'r>(
+    alloc: Global,
+    trace: &Trace,
+    answers: &'r [Answer],
+    ignored: &'r [Ignored],
+    at: u64,
+    history: History,
+) -> Result<Story<'r>, Memory>
+    requires small { at < 2 ^ 31 }
+    requires positive { 0 < at }
+    ensures { IfOk result (λ story. story.system.applied < at) }
+{
+    let mut story = Story {
+        alloc,
+        system: System::new(alloc, trace.version)?,
+        history,
+        ignored,
+        rest: answers,
+    };
+    'records: for event in trace.events.as_slice() {
+        if story.system.applied() + 1 >= at {
+            return Ok(story);
+        }
+        story.go_on(event)?;
+    }
+    Ok(story)
+}
+
+impl<'r> Story<'r> {
+    /// Carries out one record.
+    fn go_on(&mut self, event: &Event) -> Result<(), Memory>
+        requires { self.old.system.applied < 2 ^ 31 - 1 }
+        ensures { OnOk result (self.new.system.applied ≡ self.old.system.applied + 1) }
+    {
+        let (given, behind) = answer_at(self.rest, self.system.applied() + 1);
+        self.rest = behind;
+        match event {
+            Event::Kevent {
+                pid,
+                fd,
+                changes,
+                room,
+            } => {
+                let call = Call {
+                    pid: *pid,
+                    fd: *fd,
+                    room: *room,
+                };
+                if self.begin(call, changes.as_slice())?.is_none() {
+                    let _ = self.read(call, given)?;
+                }
+                Ok(())
+            }
+            _ => {
+                let _ = self.system.apply(event)?;
+                self.history
+                    .note(&self.system, name_of(event), Part::Record, &[])
+            }
+        }
+    }
+
+    /// The first step of a call: its reply, or none where it goes on to read events.
+    pub fn begin(&mut self, call: Call, changes: &[Change]) -> Result<Option<Reply>, Memory>
+        requires { self.old.system.applied < 2 ^ 31 - 1 }
+        ensures { OnOk result (self.new.system.applied ≡ self.old.system.applied + 1) }
+    {
+        let reply = self
+            .system
+            .begin_call(call.pid, call.fd, changes, call.room)?;
+        self.history
+            .note(&self.system, "kevent", Part::Changes, &[])?;
+        Ok(reply)
+    }
+
+    /// The second step of a call.
+    pub fn read(&mut self, call: Call, given: Option<&Given>) -> Result<Reply, Memory>
+        ensures { OnOk result (self.new.system.applied ≡ self.old.system.applied) }
+    {
+        let _ = arrange(self.alloc, &mut self.system, call, given, self.ignored)?;
+        let reply = self
+            .system
+            .read_events(call.pid, call.fd, call.room)?;
+        if let Reply::Events(events) = &reply {
+            let events = events.as_slice();
+            self.history
+                .note(&self.system, "kevent", Part::Reading, events)?;
+        }
+        Ok(reply)
+    }
+}
