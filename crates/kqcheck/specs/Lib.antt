@@ -4,4 +4,3 @@ pub mod Stepped
 pub mod Judged
 pub mod Placed
 pub mod Texts
-pub mod Run

@@ -20,8 +20,11 @@ pub fn is_reply(given: &Given, reply: &Reply) -> bool
     ensures { MatchBool result (IsReply given.now reply.now) (IsReply given.now reply.now → ⊥) }
 {
     match (given, reply) {
-        (Given::Events(own), Reply::Events(events)) =>
-            are_same(events.as_slice(), own.as_slice(), &[]),
+        (Given::Events(own), Reply::Events(events)) => are_same(
+            events.as_slice(),
+            own.as_slice(),
+            &[],
+        ),
         (Given::Failed(number), Reply::Failed(error)) => *number == error.code(),
         (Given::Impossible(own), Reply::Impossible(why)) => *own == *why,
         _ => false,

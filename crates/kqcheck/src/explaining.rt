@@ -63,7 +63,13 @@ fn call_text(
     put_number(&mut out, call.room)?;
     put(&mut out, "\n  answer  ")?;
     let begun = story.begin(call, changes)?;
-    let told = all_told(alloc, &story, keys.as_slice(), call, outcome_of(&begun, call))?;
+    let told = all_told(
+        alloc,
+        &story,
+        keys.as_slice(),
+        call,
+        outcome_of(&begun, call),
+    )?;
     let reply = match begun {
         Some(reply) => reply,
         None => story.read(call, None)?,

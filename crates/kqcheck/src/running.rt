@@ -1,12 +1,12 @@
 //! Orders carried out.
 
+use crate::explaining::explained;
 use crate::fault::Fault;
 use crate::judging::judge_all;
 use crate::misplaced::first_misplaced;
 use crate::order::Order;
 use crate::outcome::Outcome;
 use crate::output::write_out;
-use crate::explaining::explained;
 use crate::telling::refusal_of;
 use crate::text::put_outcome;
 use kq_answers::{Answer, AnswerFault, read_answers};
@@ -78,8 +78,11 @@ fn carry_out<R: AllocGlobal + Threads + Sync, O: Write>(
             write_out(HELP.as_bytes(), out)?;
             Ok(0)
         }
-        Order::Check { ignored, permits, .. } =>
-            check(rt, given, ignored.as_slice(), *permits, out),
+        Order::Check {
+            ignored,
+            permits,
+            ..
+        } => check(rt, given, ignored.as_slice(), *permits, out),
         Order::Explain { at, permits, .. } => explain(rt, given, *at, *permits, out),
     }
 }

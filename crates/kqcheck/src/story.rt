@@ -116,9 +116,7 @@ impl<'r> Story<'r> {
         ensures { OnOk result (self.new.system.applied ≡ self.old.system.applied) }
     {
         let _ = arrange(self.alloc, &mut self.system, call, given, self.ignored)?;
-        let reply = self
-            .system
-            .read_events(call.pid, call.fd, call.room)?;
+        let reply = self.system.read_events(call.pid, call.fd, call.room)?;
         if let Reply::Events(events) = &reply {
             let events = events.as_slice();
             self.history

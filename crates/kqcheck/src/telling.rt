@@ -4,9 +4,7 @@ use crate::answering::{events_in_order, key_of};
 use crate::history::History;
 use crate::judging::answer_at;
 use crate::story::{Story, event_at, story_before};
-use crate::text::{
-    put_absence, put_difference, put_given, put_key, put_moments, put_reply,
-};
+use crate::text::{put_absence, put_difference, put_given, put_key, put_moments, put_reply};
 use crate::verdict::Call;
 use kq_answers::{Answer, Given};
 use kq_judge::{Fault, Ignored, Judgement, judge};

@@ -6,12 +6,12 @@ ghost use Rattle.kqcheck.specs.Texts.{outcome_line, place_text};
 
 use crate::history::Followed;
 use crate::outcome::Outcome;
+use bitflags::Flags;
 use kq_answers::Given;
 use kq_judge::{Absence, Member};
 use kq_knote::Knote;
 use kq_model::{EvFlags, Kevent, Key, Memory, Reply};
 use kq_text::{put, put_flags, put_i64, put_number};
-use bitflags::Flags;
 
 /// How many moments of a kevent are told, the last ones.
 const MOST_MOMENTS: usize = 8;

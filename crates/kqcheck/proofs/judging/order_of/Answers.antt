@@ -10,7 +10,7 @@ use Rattle.kqcheck.proofs.judging.order_of.Goals as goal
 pub returns-then-are_same : goal.returns-then-are_same
 returns-then-are_same c =
     let one : IsThatOne (live_named c.args.call.pid c.args.call.fd (system_of c.args.system.now)) (system_of c.args.system.now)
-        (views_of (world_of c.world-world.result.now)) c.in-Some.kq.now.kq =
+    (views_of (world_of c.world-world.result.now)) c.in-Some.kq.now.kq =
     record {
       live = c.in-Some.ensures.live;
       is = c.in-Some.ensures.is;
@@ -23,7 +23,7 @@ returns-then-are_same c =
 pub returns-in-Wrong : goal.returns-in-Wrong
 returns-in-Wrong c =
     let one : IsThatOne (live_named c.args.call.pid c.args.call.fd (system_of c.args.system.now)) (system_of c.args.system.now)
-        (views_of (world_of c.world-world.result.now)) c.in-Some.kq.now.kq =
+    (views_of (world_of c.world-world.result.now)) c.in-Some.kq.now.kq =
     record {
       live = c.in-Some.ensures.live;
       is = c.in-Some.ensures.is;
