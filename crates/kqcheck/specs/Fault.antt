@@ -5,8 +5,8 @@ use Rattle.kq_answers.specs.declared.fault.AnswersError.TheVariants as answers
 use Rattle.kq_trace.specs.declared.fault.TraceError.{TraceError}
 use Rattle.kq_trace.specs.declared.fault.TraceError.TheVariants as trace
 use Rattle.kqcheck.specs.declared.fault.Fault.{Fault}
-use Rattle.kqcheck.specs.declared.fault.Fault.TheVariants.{Usage, ReadTrace, ReadAnswers, Trace, Answers, NoCall, Memory}
-use Rattle.kqcheck.specs.declared.fault.Fault.TheVariants.{Write}
+use Rattle.kqcheck.specs.declared.fault.Fault.TheVariants.{Usage, ReadTrace, ReadAnswers, Trace, Answers, NoCall}
+use Rattle.kqcheck.specs.declared.fault.Fault.TheVariants.{Memory, Write}
 
 abbrev pub status_of : Fault → ℕ
 status_of Usage = 2

@@ -1,6 +1,6 @@
 -- Answers at places where a trace has no such record.
-use Rattle.std.specs.Prelude.{◌≡◌, ◌-◌, ℕ, Bool, true, false, not, ◌&&◌, ◌<◌, List, [], ◌∷◌, Option, Some, None, slice_get, nat_lt}
-use Rattle.std.specs.Prelude.{if◌then◌else◌}
+use Rattle.std.specs.Prelude.{ℕ, ◌-◌, nat_lt, Bool, true, false, ◌&&◌, if◌then◌else◌}
+use Rattle.std.specs.Prelude.{List, [], ◌∷◌, Option, Some, None, slice_get}
 use Rattle.kq_answers.specs.declared.answer.Answer.{Answer}
 use Rattle.kq_answers.specs.declared.answer.Given.{Given}
 use Rattle.kq_answers.specs.declared.answer.Given.TheVariants as given

@@ -57,7 +57,8 @@ arranged_by pid fd own _ s = s
 
 -- the order in which events are read that are answered by these
 abbrev pub IsArrangedOf : List Ignored → ℕ → ℕ → ℕ → List Kevent → Option Live → System → Verdict → System → Type 0
-IsArrangedOf ignored pid fd room own live s v next = IsOrder ignored room own live s v × (next ≡ arranged_by pid fd own v s)
+IsArrangedOf ignored pid fd room own live s v next =
+    IsOrder ignored room own live s v × (next ≡ arranged_by pid fd own v s)
 
 -- the same by the answer, if there is one
 abbrev pub IsArranged : List Ignored → ℕ → ℕ → ℕ → Option Given → System → Verdict → System → Type 0

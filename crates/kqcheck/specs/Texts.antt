@@ -12,7 +12,8 @@ unfoldable pub outcome_line : Outcome → List ℕ
 outcome_line Equal = codes "equal\n"
 outcome_line (Allowed first) = codes "allowed: the first call in another order is at " ++ place_text first ++ codes "\n"
 outcome_line (Refused at) = codes "not allowed: the call at " ++ place_text at ++ codes "\n"
-outcome_line (Impossible at why) = codes "impossible: the record at " ++ place_text at ++ codes ": " ++ why_name why ++ codes "\n"
+outcome_line (Impossible at why) =
+    codes "impossible: the record at " ++ place_text at ++ codes ": " ++ why_name why ++ codes "\n"
 
 -- 0 where all is right
 abbrev pub outcome_status : Outcome → ℕ

@@ -207,7 +207,8 @@ fn ended(first: Option<u64>) -> Outcome
     }
 }
 
-/// What the answers to a trace come to. Where `permits`, impossible records are passed over, whatever their answers are.
+/// What the answers to a trace come to. Where `permits`, impossible records are passed over, whatever their answers
+/// are.
 pub fn judge_all(
     alloc: Global,
     trace: &Trace,

@@ -6,8 +6,8 @@ ghost use Rattle.kqcheck.specs.Placed.{first_misplaced, is_placed};
 use kq_answers::{Answer, Given};
 use kq_model::Event;
 
-/// Whether the record at the answer's place may have such an answer: a call has events or a failure, any record a reason
-/// for which it could not be.
+/// Whether the record at the answer's place may have such an answer: a call has events or a failure, any record a
+/// reason for which it could not be.
 fn is_placed(events: &[Event], answer: &Answer) -> bool
     ensures { result ≡ is_placed events.now answer.now }
 {

@@ -28,8 +28,8 @@ pub enum Order {
 }
 
 /// The order that the words behind the program's name give: `[--permit-impossible] [--ignore FILTER.MEMBER].. TRACE
-/// ANSWERS`, of which one file at most is `-`, or `[--permit-impossible] --explain PLACE TRACE`, or `--help`. All others
-/// are [`Fault::Usage`].
+/// ANSWERS`, of which one file at most is `-`, or `[--permit-impossible] --explain PLACE TRACE`, or `--help`. All
+/// others are [`Fault::Usage`].
 pub fn order_of(alloc: Global, words: &[&str]) -> Result<Order, Fault> {
     if words.len() == 1 && words[0] == "--help" {
         return Ok(Order::Help);

@@ -49,8 +49,8 @@ Exit status: 0 equal or allowed; 1 not allowed, or impossible; 2 other words;
 failed.
 ";
 
-/// Carries an order out over the bytes of its files, and prints the line of a fault on `err`: the exit status. A failing
-/// `err` changes no status.
+/// Carries an order out over the bytes of its files, and prints the line of a fault on `err`: the exit status. A
+/// failing `err` changes no status.
 pub fn run_order<R: AllocGlobal + Threads + Sync, O: Write, E: Write>(
     rt: &R,
     order: &Order,

@@ -1,5 +1,7 @@
 //! Why an answer is not allowed.
 
+ghost use Rattle.std.specs.Prelude.{◌-◌, ◌^◌, ◌<◌};
+
 use crate::answering::{events_in_order, key_of};
 use crate::history::History;
 use crate::judging::answer_at;
@@ -12,8 +14,8 @@ use kq_model::{Change, Event, Kevent, Key, Memory, Reply, Series, Trace};
 use kq_text::{put, put_number};
 use std::alloc::Global;
 
-/// What is wrong with an answer: of which kevent, its own event where it has one, and the fault of that event; without a
-/// fault it is missing.
+/// What is wrong with an answer: of which kevent, its own event where it has one, and the fault of that event; without
+/// a fault it is missing.
 #[derive(Drop)]
 struct Blame {
     key: Key,
@@ -21,8 +23,8 @@ struct Blame {
     fault: Option<Fault>,
 }
 
-/// Why the answer to the record at a place is not allowed: the answer, the events of the queue's order, the first kevent
-/// that is wrong, and what that went through.
+/// Why the answer to the record at a place is not allowed: the answer, the events of the queue's order, the first
+/// kevent that is wrong, and what that went through.
 pub fn refusal_of(
     alloc: Global,
     trace: &Trace,
@@ -133,7 +135,9 @@ fn put_blame(
     blame: &Blame,
     call: Call,
     changes: &[Change],
-) -> Result<(), Memory> {
+) -> Result<(), Memory>
+    requires { story.system.applied < 2 ^ 31 - 1 }
+{
     let mut story = story;
     let _ = story.begin(call, changes)?;
     put(out, label_of(blame))?;

@@ -10,7 +10,7 @@ use bitflags::Flags;
 use kq_answers::Given;
 use kq_judge::{Absence, Member};
 use kq_knote::Knote;
-use kq_model::{EvFlags, Kevent, Key, Memory, Reply};
+use kq_model::{EvFlags, Kevent, Key, Memory, Reply, Why};
 use kq_text::{put, put_flags, put_i64, put_number};
 
 /// How many moments of a kevent are told, the last ones.
@@ -23,24 +23,36 @@ pub fn put_outcome(out: &mut Vec<u8>, outcome: Outcome) -> Result<(), Memory>
 {
     match outcome {
         Outcome::Equal => put(out, "equal\n"),
-        Outcome::Allowed { first } => {
-            put(out, "allowed: the first call in another order is at ")?;
-            put_place(out, first)?;
-            put(out, "\n")
-        }
-        Outcome::Refused { at } => {
-            put(out, "not allowed: the call at ")?;
-            put_place(out, at)?;
-            put(out, "\n")
-        }
-        Outcome::Impossible { at, why } => {
-            put(out, "impossible: the record at ")?;
-            put_place(out, at)?;
-            put(out, ": ")?;
-            put(out, why.name())?;
-            put(out, "\n")
-        }
+        Outcome::Allowed { first } => put_allowed(out, first),
+        Outcome::Refused { at } => put_refused(out, at),
+        Outcome::Impossible { at, why } => put_impossible(out, at, why),
     }
+}
+
+fn put_allowed(out: &mut Vec<u8>, first: u64) -> Result<(), Memory>
+    ensures { OnOk result (Adds out.old.items (outcome_line (Outcome.Allowed first)) out.new.items) }
+{
+    put(out, "allowed: the first call in another order is at ")?;
+    put_place(out, first)?;
+    put(out, "\n")
+}
+
+fn put_refused(out: &mut Vec<u8>, at: u64) -> Result<(), Memory>
+    ensures { OnOk result (Adds out.old.items (outcome_line (Outcome.Refused at)) out.new.items) }
+{
+    put(out, "not allowed: the call at ")?;
+    put_place(out, at)?;
+    put(out, "\n")
+}
+
+fn put_impossible(out: &mut Vec<u8>, at: u64, why: Why) -> Result<(), Memory>
+    ensures { OnOk result (Adds out.old.items (outcome_line (Outcome.Impossible at why)) out.new.items) }
+{
+    put(out, "impossible: the record at ")?;
+    put_place(out, at)?;
+    put(out, ": ")?;
+    put(out, why.name())?;
+    put(out, "\n")
 }
 
 /// Adds the place of a record, and its line in the trace.
