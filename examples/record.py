@@ -2,10 +2,10 @@
 """A small event loop that writes a trace of itself: python3 examples/record.py [ANSWERS]
 
 The trace goes to standard output. Where a file is named, what the loop answered by itself goes there, in the
-form of a report. So this compares the loop with kevent(2), call by call, and prints nothing where they agree:
+form of a report. So this compares the loop with kevent(2), call by call, and prints `equal` where they agree:
 
     python3 examples/record.py own.report > own.trace
-    crates/kqsim/out/kqsim replay own.trace | diff own.report -
+    crates/kqcheck/out/kqcheck own.trace own.report
 
 It needs Python 3 and no kqueue. To record a loop of your own, take Recorder, and call it while you hold the lock
 that puts your calls into an order.
