@@ -20,7 +20,7 @@ PREFIX ?= /usr/local
 # How many crates are proved side by side; each takes up to 3 GB.
 JOBS ?= $(shell nproc)
 
-.PHONY: all libkqsim run test bench install install-man
+.PHONY: all libkqsim libkqsim-joined run test bench install install-man
 
 # (rt all check proves what has changed of the program and its libraries, side by side where they do not stand on each
 # other; rt run builds the program over that and runs it, so it is given its stored run)
@@ -30,9 +30,12 @@ all:
 	cd crates/kqcheck && rt run -- --explain 4 - < stdin
 	$(MAKE) libkqsim
 
-# (one archive, with the few functions of C that call malloc and free)
 libkqsim:
 	cd crates/libkqsim && rt all check --jobs $(JOBS) && rt lib
+	$(MAKE) libkqsim-joined
+
+# (one archive, with the few functions of C that call malloc and free)
+libkqsim-joined:
 	rm -rf $(LIBKQSIM) crates/libkqsim/out/joined
 	mkdir crates/libkqsim/out/joined
 	cd crates/libkqsim/out/joined && ar x ../liblibkqsim.a && ar x "$$(dirname "$$(rt doc)")/c/liblibc_c.a"
