@@ -1,11 +1,14 @@
 -- What was heard: nothing at first, and then the items behind what was heard before.
-use Rattle.std.proofs.Common.{◌≡◌, ◌∙◌, ◌++◌, List, Result, Ok, Err, OnOk, ap, ap₂, sym, [], append-nil}
+use Rattle.std.proofs.Common.{◌≡◌, ◌∙◌, ◌++◌, List, Result, Ok, Err, OnOk, ap, ap₂, sym, subst, [], append-nil}
+use Rattle.kq_model.specs.Items.{all_items}
 use Rattle.kq_history.specs.declared.hearing.Hearing.{Hearing}
 use Rattle.kq_history.specs.declared.item.Item.{Item}
+use Rattle.kq_history.specs.Items.{bare_items}
+use Rattle.kq_history.specs.Kept.{SaysAll}
 use Rattle.kq_history.specs.Log.{AreShelved}
-use Rattle.kq_history.specs.Said.{AreAllSaid, IsLogged}
+use Rattle.kq_history.specs.Said.{kept_by, AreAllSaid, IsLogged}
 use Rattle.kq_history.specs.Splitting.{HasLogged}
-use Rattle.kq_history.specs.Traced.{Traced}
+use Rattle.kq_history.specs.Traced.{Traced, moments_of}
 
 -- a log with these items behind the others has heard them
 pub heard_on : {T E : Type 0} (r : Result T E) (old new : Hearing) (slice items : List Item) → slice ≡ items
@@ -28,6 +31,6 @@ none_behind before items h none has = record {
 -- with what was not handed over behind it, that is all that the records say
 pub all_heard : (t : Traced) (before items : List Item) (h : Hearing) → AreAllSaid before t items → HasLogged (before ++ items) h → IsLogged t h.log
 all_heard t before items h said has = record {
-  items = has.items_are ∙ said;
+  items = subst (SaysAll (kept_by t) (bare_items (all_items (moments_of t)))) (sym has.items_are) said;
   shelved = has.shelved;
 }

@@ -15,7 +15,8 @@ mod Worklist
 mod Following
 mod Altering
 mod AccountedActs
-mod AccountedHolds
+mod HeldViews
+mod LeftViews
 mod RisingTables
 mod WithinRecords
 mod AnyWithin
@@ -37,6 +38,9 @@ pub mod NotingLemmas
 pub mod HeardItems
 mod PlainRows
 mod NamedKqueues
+mod KeptCloses
+mod GoneProcesses
+mod GoneClosers
 mod SaidItems
 mod SaidNext
 pub mod PrivateOf

@@ -1,4 +1,4 @@
--- The targets that numbers name before a record and after it are among those that were added one number after the other.
+-- The targets of what numbers named before a record are among those that were added one number after the other.
 use Rattle.std.proofs.Common.{◌≡◌, ◌∙◌, ◌==◌, ◌||◌, ◌++◌, ◌∷◌, [], ℕ, Bool, true, false, List, Option, refl, sym, ap, ap₂, subst}
 use Rattle.std.specs.List.{flat_map, list_any}
 use Rattle.std.proofs.lemmas.Bool.{and_parts, eqb-true, false≢true}
@@ -13,7 +13,7 @@ use Rattle.kq_model.proofs.KnoteLaws.{by_test}
 use Rattle.kq_model.proofs.SameTarget.{same_target}
 use Rattle.kq_history.specs.Noted.{IsNextWorld}
 use Rattle.kq_history.specs.Keys.{pair_eq, target_key}
-use Rattle.kq_history.specs.Touched.{has_number, has_target, targets_named, AreAmong}
+use Rattle.kq_history.specs.Touched.{has_number, has_target, AreAmong}
 use Rattle.kq_history.proofs.NotedKeys.{as_target}
 
 -- ---- tests of two parts
@@ -63,31 +63,16 @@ pushed-there old new x pushed = λ t is.
     (λ here. in-second old (x ∷ []) t (or_left (target_eq x t) false here))
     (λ there. in-first old (x ∷ []) t there))
 
-pub among-then : (xs ys old mid new : List Target) → AreAmong (xs ++ old) mid → AreAmong (ys ++ mid) new → AreAmong (xs ++ ys ++ old) new
-among-then xs ys old mid new first second = λ t is.
-    in-either (xs ++ ys) old t is
-    (λ in_both. in-either xs ys t in_both
-    (λ in_xs. second t (in-second ys mid t (first t (in-first xs old t in_xs))))
-    (λ in_ys. second t (in-first ys mid t in_ys)))
-    (λ in_old. second t (in-second ys mid t (first t (in-second xs old t in_old))))
-
 -- behind the same others
 pub among-behind : (xs ys zs : List Target) → AreAmong ys zs → AreAmong (xs ++ ys) (xs ++ zs)
 among-behind xs ys zs among = λ t is.
     in-either xs ys t is (λ in_xs. in-first xs zs t in_xs) (λ in_ys. in-second xs zs t (among t in_ys))
 
--- twice the same
-pub among-once : (xs old new : List Target) → AreAmong (xs ++ old) new → AreAmong (xs ++ xs ++ old) new
-among-once xs old new all = λ t is.
-    in-either (xs ++ xs) old t is
-    (λ in_both. in-either xs xs t in_both (λ a. all t (in-first xs old t a)) (λ a. all t (in-first xs old t a)))
-    (λ in_old. all t (in-second xs old t in_old))
-
 -- ---- number by number
 
-module _ (before after : ℕ × ℕ → Option Named) where
+module _ (left : Option Named → List Target) (before : ℕ × ℕ → Option Named) where
   abbrev around : ℕ × ℕ → List Target
-  around p = targets_named (before p) ++ targets_named (after p)
+  around p = left (before p)
 
   same_pair : (x p : ℕ × ℕ) → pair_eq x p ≡ true → x ≡ p
   same_pair x p is =
@@ -104,19 +89,17 @@ module _ (before after : ℕ × ℕ → Option Named) where
       (λ later. in-second (around x) (flat_map around ns) t (around-there ns p t later there))
 
   pub one-number-more : (ns : List (ℕ × ℕ)) (p : ℕ × ℕ) (had : Option Named) (init cur new : List Target)
-      → AreAmong (flat_map around ns ++ init) cur → AreAmong (targets_named had ++ targets_named (after p) ++ cur) new
+      → AreAmong (flat_map around ns ++ init) cur → AreAmong (left had ++ cur) new
       → (has_number p.0 p.1 ns ≡ false → had ≡ before p) → AreAmong (flat_map around (ns ++ p ∷ []) ++ init) new
   one-number-more ns p had init cur new so_far added kept = λ t is.
-      let named : List Target = targets_named had ++ targets_named (after p) in
-      let from_cur : has_target t cur ≡ true → has_target t new ≡ true = λ there. added t (in-second named cur t there) in
+      let from_cur : has_target t cur ≡ true → has_target t new ≡ true = λ there. added t (in-second (left had) cur t there) in
       in-either (flat_map around (ns ++ p ∷ [])) init t is
       (λ in_all. in-either (flat_map around ns) (around p) t
       (ap (has_target t) (sym (flat_map-append around ns (p ∷ []) ∙ ap (λ xs. flat_map around ns ++ xs) (append-nil (around p)))) ∙ in_all)
       (λ earlier. from_cur (so_far t (in-first (flat_map around ns) init t earlier)))
       (λ in_p. by_test (λ b. has_number p.0 p.1 ns ≡ b → has_target t new ≡ true) (has_number p.0 p.1 ns)
       (λ _ known. from_cur (so_far t (in-first (flat_map around ns) init t (around-there ns p t known in_p))))
-      (λ _ fresh. added t (in-first named cur t
-      (subst (λ n. has_target t (targets_named n ++ targets_named (after p)) ≡ true) (sym (kept fresh)) in_p)))
+      (λ _ fresh. added t (in-first (left had) cur t (subst (λ n. has_target t (left n) ≡ true) (sym (kept fresh)) in_p)))
       refl))
       (λ in_init. from_cur (so_far t (in-second (flat_map around ns) init t in_init)))
 

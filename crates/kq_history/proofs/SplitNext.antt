@@ -1,6 +1,7 @@
 -- What a split keeps, before the first record and with one record more.
-use Rattle.std.proofs.Common.{◌≡◌, ◌∙◌, ◌<◌, ◌≤◌, ◌+◌, ℕ, zero, suc, length, get_or, List, [], ◌∷◌, ◌++◌, map, Option, None, Some, refl, sym, ap, subst, arith}
+use Rattle.std.proofs.Common.{◌≡◌, ◌∙◌, ◌<◌, ◌≤◌, ◌+◌, nat_eq, ℕ, zero, suc, Bool, false, length, get_or, List, [], ◌∷◌, ◌++◌, filter, map, Option, None, Some, refl, sym, ap, subst, arith}
 use Rattle.std.specs.List.Sorted.{IsStrictlyIncreasing}
+use Rattle.std.specs.HashSet.{contains}
 use Rattle.std.specs.Prelude.{All}
 use Rattle.std.proofs.lemmas.List.{length-map}
 use Rattle.std.proofs.lemmas.List.Elements.{All-head, All-map, All-nil, All-weaker}
@@ -23,6 +24,7 @@ use Rattle.kq_process.specs.World.{world_of, IsEffectBy}
 use Rattle.kq_history.specs.declared.item.Item.{Item}
 use Rattle.kq_history.specs.declared.kqueues.Kqueues.{Kqueues}
 use Rattle.kq_history.specs.Heard.{AreHeardNext, AreSaidNext}
+use Rattle.kq_history.specs.Kept.{is_silent}
 use Rattle.kq_history.specs.Said.{AreAllSaid, AreNamedBy, AreTheKqueues}
 use Rattle.kq_history.specs.Sayings.{kqueue_of}
 use Rattle.kq_history.specs.Traced.{Traced, births_of, longer, places_of}
@@ -93,12 +95,13 @@ few-kqueues t =
 
 pub first-said : (version : ℕ) (items : List Item) → items ≡ [] → AreAllSaid [] (record { version = version; events = [] }) items
 unfolding plans_from moments_from
-first-said version items none = none
+first-said version items none = λ test keeps. ap (filter test) none
 
-pub first-kqueues : (version : ℕ) (k : Kqueues) → k.places.items ≡ [] → k.concerned.items ≡ [] → AreTheKqueues (record { version = version; events = [] }) k
+pub first-kqueues : (version : ℕ) (k : Kqueues) → k.places.items ≡ [] → k.concerned.items ≡ [] → ((pid : ℕ) → contains nat_eq k.owners pid ≡ false) → AreTheKqueues (record { version = version; events = [] }) k
 unfolding plans_from moments_from births_from
-first-kqueues version k places concerned = record {
+first-kqueues version k places concerned none = record {
   births = places;
+  owners = none;
   concerned = subst (AreNamedBy [] []) (sym concerned) tt;
   calls = All-nil _;
 }
@@ -116,18 +119,19 @@ module _ (t : Traced) (e : Event) (place : ℕ) (old : World) (effect : Effect) 
   by : IsEffectOf (plan (end t e) e (now t e)) effect
   by = subst (λ n. IsEffectOf (plan n e (now t e)) effect) (sym at) (subst (λ (w : model.World counted). IsEffectOf (plan place e w) effect) before.world of)
 
-  pub items-next : (clock : ℕ) (kqueue : Option ℕ) (kept items more : List Item) → clock ≡ (world_of old).now → kqueue ≡ kqueue_of e (world_of old)
-      → ((w : model.World counted) → clock ≡ w.now → kqueue ≡ kqueue_of e w → AreSaidNext place e effect w items more)
+  pub items-next : (silent : Bool) (k : Kqueues) (clock : ℕ) (kqueue : Option ℕ) (kept items more : List Item) → AreTheKqueues t k
+      → silent ≡ is_silent e (contains nat_eq k.owners) → clock ≡ (world_of old).now → kqueue ≡ kqueue_of e (world_of old)
+      → ((w : model.World counted) → clock ≡ w.now → kqueue ≡ kqueue_of e w → AreSaidNext silent place e effect w items more)
       → AreAllSaid kept t items → AreAllSaid kept (longer t e) more
-  items-next clock kqueue kept items more clock_is kqueue_is next said =
-      said-next t e counts (plan (end t e) e (now t e)) refl effect by kept items more said
-      (subst (λ n. AreSaidNext n e effect (now t e) items more) (sym at)
+  items-next silent k clock kqueue kept items more are silent_is clock_is kqueue_is next said =
+      said-next t e counts lists silent (contains nat_eq k.owners) are.owners silent_is (plan (end t e) e (now t e)) refl effect by kept items more said
+      (subst (λ n. AreSaidNext silent n e effect (now t e) items more) (sym at)
       (next (now t e) (clock_is ∙ ap (λ (w : model.World counted). w.now) before.world) (kqueue_is ∙ ap (kqueue_of e) before.world)))
 
   pub kqueues-next : (new : World) (kqueue : Option ℕ) (k k' : Kqueues) → IsWorldAfter (longer t e) new → kqueue ≡ kqueue_of e (world_of old)
       → ((w : model.World counted) → kqueue ≡ kqueue_of e w → AreHeardNext place e effect w (world_of new) k k') → AreTheKqueues t k → AreTheKqueues (longer t e) k'
   kqueues-next new kqueue k k' after kqueue_is next are =
-      heard-next t e counts (plan (end t e) e (now t e)) refl effect by (world_of new) leads k k' are
+      heard-next t e counts lists (plan (end t e) e (now t e)) refl effect by (world_of new) leads k k' are
       (subst (λ n. AreHeardNext n e effect (now t e) (world_of new) k k') (sym at)
       (next (now t e) (kqueue_is ∙ ap (kqueue_of e) before.world)))
     where

@@ -1,5 +1,7 @@
 -- A splitting with one record more, and what it hands over.
-use Rattle.std.proofs.Common.{◌≡◌, ◌∙◌, ◌+◌, ◌≤◌, ℕ, length, take, List, [], ◌∷◌, ◌++◌, Option, sym, ap, ap₂, subst, arith}
+use Rattle.std.proofs.Common.{◌≡◌, ◌∙◌, ◌+◌, ◌≤◌, nat_eq, ℕ, Bool, length, take, List, [], ◌∷◌, ◌++◌, Option, sym, ap, ap₂, subst, arith}
+use Rattle.std.specs.HashSet.{contains}
+use Rattle.kq_model.specs.Items.{all_items}
 use Rattle.std.proofs.lemmas.List.{append-nil, append_assoc, length-append, length-take-le}
 use Rattle.kq_model.specs.declared.event.Event.{Event}
 use Rattle.kq_model.specs.Objects.{counted}
@@ -13,11 +15,13 @@ use Rattle.kq_history.specs.declared.seen.Seen.{Seen}
 use Rattle.kq_history.specs.declared.watching.Watching.{Watching}
 use Rattle.kq_history.specs.Heard.{AreHeardNext, AreSaidNext}
 use Rattle.kq_history.specs.Plain.{plain_row}
-use Rattle.kq_history.specs.Said.{AreTheKqueues}
+use Rattle.kq_history.specs.Items.{bare_items}
+use Rattle.kq_history.specs.Kept.{is_silent, SaysAll}
+use Rattle.kq_history.specs.Said.{kept_by, AreTheKqueues}
 use Rattle.kq_history.specs.Sayings.{kqueue_of}
 use Rattle.kq_history.specs.Sights.{and_then, NotedViews}
 use Rattle.kq_history.specs.Splitting.{HasHandedOver, IsWatchedSoFar}
-use Rattle.kq_history.specs.Traced.{Traced, longer}
+use Rattle.kq_history.specs.Traced.{Traced, longer, moments_of}
 use Rattle.kq_history.specs.Tracked.{IsTracked}
 use Rattle.kq_history.proofs.FirstTracked.{none-taken}
 use Rattle.kq_history.proofs.PlainRows.{plain-longer}
@@ -45,13 +49,14 @@ place-of-next t es before n at within =
 pub watching-next : (n : NotedViews) (before : List Item) (t : Traced) (e : Event) (place : ℕ) (old new : Watching) (effect : Effect) (clock : ℕ)
     (kqueue : Option ℕ) → length t.events + 1 ≡ place → IsWatchedSoFar n before t old → IsTracked n (longer t e) new.world new.seen
     → IsEffectBy (plan place e) old.world effect → clock ≡ (world_of old.world).now → kqueue ≡ kqueue_of e (world_of old.world)
-    → ((w : model.World counted) → clock ≡ w.now → kqueue ≡ kqueue_of e w → AreSaidNext place e effect w old.items.list.items new.items.list.items)
+    → (silent : Bool) → silent ≡ is_silent e (contains nat_eq old.kqueues.owners)
+    → ((w : model.World counted) → clock ≡ w.now → kqueue ≡ kqueue_of e w → AreSaidNext silent place e effect w old.items.list.items new.items.list.items)
     → ((w : model.World counted) → kqueue ≡ kqueue_of e w → AreHeardNext place e effect w (world_of new.world) old.kqueues new.kqueues)
     → new.plain.items ≡ old.plain.items ++ plain_row place effect.verdict → IsWatchedSoFar n before (longer t e) new
-watching-next n before t e place old new effect clock kqueue at so_far onward of clock_is kqueue_is says names rows = record {
+watching-next n before t e place old new effect clock kqueue at so_far onward of clock_is kqueue_is silent silent_is says names rows = record {
   tracked = onward;
-  said = items-next t e place old.world effect at so_far.tracked.after of clock kqueue before old.items.list.items new.items.list.items clock_is
-      kqueue_is says so_far.said;
+  said = items-next t e place old.world effect at so_far.tracked.after of silent old.kqueues clock kqueue before old.items.list.items new.items.list.items
+      so_far.kqueues silent_is clock_is kqueue_is says so_far.said;
   kqueues = kqueues-next t e place old.world effect at so_far.tracked.after of new.world kqueue old.kqueues new.kqueues onward.after
       kqueue_is names so_far.kqueues;
   plain_is = rows ∙ ap (λ xs. xs ++ plain_row place effect.verdict) so_far.plain_is
@@ -73,7 +78,8 @@ all-handed-over n before t old new world numbers clock kqueues plain none so_far
       subst (λ (s : Seen). IsTracked then t new.world s) same
       (subst (λ (w : World). IsTracked then t w (record { numbers = old.seen.numbers; clock = old.seen.clock; sights = new.seen.sights }))
       (sym world) (all-noted n t old.world old.seen new.seen.sights none.sights so_far.tracked));
-  said = ap (λ xs. (before ++ old.items.list.items) ++ xs) none.items ∙ append-nil (before ++ old.items.list.items) ∙ so_far.said;
+  said = subst (SaysAll (kept_by t) (bare_items (all_items (moments_of t))))
+      (sym (ap (λ xs. (before ++ old.items.list.items) ++ xs) none.items ∙ append-nil (before ++ old.items.list.items))) so_far.said;
   kqueues = subst (AreTheKqueues t) (sym kqueues) so_far.kqueues;
   plain_is = ap (λ rows. rows.items) plain ∙ so_far.plain_is;
 }

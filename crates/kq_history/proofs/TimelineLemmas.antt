@@ -1,9 +1,12 @@
 -- The value at a place is that of the mark before the first one that is later.
 use Rattle.std.proofs.Common.{◌≡◌, ℕ, zero, suc, ◌+◌, ◌-◌, ◌<◌, ◌≤◌, Bool, true, false, cond, leb, length, get_or, List, [], ◌∷◌, None, Some, refl, sym, ap, ◌∙◌, arith}
+use Rattle.std.specs.List.Sorted.{IsNonDecreasingBy}
+use Rattle.std.proofs.lemmas.Bool.{both_ways, false_from_ne_true}
+use Rattle.std.proofs.lemmas.List.Sorted.{IsPartitionedBy-leb}
 use Rattle.std.specs.List.{slice_get}
 use Rattle.std.proofs.lemmas.Option.{get_or_from_slice_get, none-some, slice_get-get_or, slice_get_within}
 use Rattle.kq_history.specs.declared.timeline.Mark.{Mark}
-use Rattle.kq_history.specs.Timeline.{last_value, value_at}
+use Rattle.kq_history.specs.Timeline.{last_value, value_at, HaveBegun}
 
 module _ {V : Type 0} (place : ℕ) where
   abbrev has_begun : Mark V → Bool
@@ -33,6 +36,33 @@ module _ {V : Type 0} (place : ℕ) where
       value_from ms n (cond (has_begun m) m.value before) (omega (arith, within))
       (λ k e up_to. begun (suc k) e (omega (arith, up_to)))
       (λ k e after inside. later (suc k) e (omega (arith, after)) (omega (arith, inside))) d
+
+  -- ---- so many marks are at the place or before it
+
+  abbrev rise : List (Mark V) → Type 0
+  rise ms = IsNonDecreasingBy (λ (m : Mark V). m.place) ms
+
+  pub value-none : (ms : List (Mark V)) (before : V) → HaveBegun place 0 ms → before ≡ value_at place before ms
+  value-none ms before begun = sym (value_before ms before (λ k d within. begun.1 k d (omega arith) within))
+
+  pub value-behind : (ms : List (Mark V)) (count : ℕ) (before : V) (d : Mark V) → 1 ≤ count → count ≤ length ms → HaveBegun place count ms
+      → (get_or ms (count - 1) d).value ≡ value_at place before ms
+  value-behind ms count before d some within begun =
+      sym (value_from ms (count - 1) before (omega (arith, some, within))
+      (λ k e up_to. begun.0 k e (omega arith) (omega (arith, some, up_to)))
+      (λ k e after inside. begun.1 k e (omega (arith, some, after)) inside) d)
+
+  -- the last of so many has begun, and the next one has not
+  pub begun-between : (ms : List (Mark V)) (count : ℕ) → rise ms → count ≤ length ms
+      → ((d : Mark V) → 1 ≤ count → has_begun (get_or ms (count - 1) d) ≡ true)
+      → ((d : Mark V) → count < length ms → has_begun (get_or ms count d) ≡ false)
+      → HaveBegun place count ms
+  begun-between ms count rises within last next =
+      let parted = IsPartitionedBy-leb (λ (m : Mark V). m.place) ms place rises in (
+        (λ k d from below. parted k (count - 1) d (omega (arith, below)) (omega (arith, below, within)) (last d (omega (arith, below)))),
+        (λ k d from inside. false_from_ne_true (has_begun (get_or ms k d)) (λ begun.
+            both_ways (has_begun (get_or ms count d)) (next d (omega (arith, from, inside))) (parted count k d from inside begun))),
+      )
 
 -- ---- behind all marks
 

@@ -17,7 +17,7 @@ use Rattle.kq_model.specs.Views.{Views}
 use Rattle.kq_model.specs.World.{World, Plan, Impossible, Possible, carried_out, named_by, views_of}
 use Rattle.kq_history.specs.Noted.{IsNextWorld}
 use Rattle.kq_history.specs.Seen.{Shows}
-use Rattle.kq_history.specs.Touched.{all_named, has_target, targets_named, told_targets, touched_numbers, touched_targets}
+use Rattle.kq_history.specs.Touched.{all_named, has_target, targets_left, tells_file, told_targets, touched_numbers, touched_targets}
 use Rattle.kq_history.specs.Spoken.{opened_numbers, spoken_numbers, spoken_targets}
 use Rattle.kq_history.specs.Traced.{Traced, longer, seen_at}
 use Rattle.kq_history.proofs.AnyWithin.{any-within}
@@ -37,16 +37,16 @@ module _ (t : Traced) (e : Event) (counts : IsCountedWorld (end t e) (now t e)) 
       itself : (n : ℕ) → ltb n n ≡ false
       itself n = le-ltb n n (omega arith)
 
-  abbrev named_by_numbers : Views → (ℕ → ℕ → Option Named) → List (ℕ × ℕ) → List Target
-  named_by_numbers after names numbers = flat_map (λ (p : ℕ × ℕ). targets_named (names p.0 p.1) ++ targets_named (after.descriptor p.0 p.1)) numbers
+  abbrev left_by_numbers : (ℕ → ℕ → Option Named) → Bool → List (ℕ × ℕ) → List Target
+  left_by_numbers names tells numbers = flat_map (λ (p : ℕ × ℕ). targets_left tells (names p.0 p.1)) numbers
 
   targets-same : (s : ℕ → Views) (after : Views) (hints : _) (numbers : List (ℕ × ℕ)) → Shows (seen_at t) s
       → touched_targets e hints (s (end t e)) after numbers ≡ touched_targets e hints (views_of (now t e)) after numbers
   targets-same s after hints numbers shows =
-      ap (λ names. named_by_numbers after names numbers ++ (told_targets hints ++ (spoken_targets e ++ all_named after (spoken_numbers e)))) (before-same s shows)
+      ap (λ names. left_by_numbers names (tells_file hints) numbers ++ (told_targets hints ++ (spoken_targets e ++ all_named after (spoken_numbers e)))) (before-same s shows)
 
   within : (p : Plan) → plan (end t e) e (now t e) ≡ Possible p → IsWithin (opened_numbers e) (spoken_numbers e) (spoken_targets e) (now t e) p
-  within p is = subst (IsWithinRecord e (now t e)) is (any-within (end t e) e (now t e) counts.rising)
+  within p is = subst (IsWithinRecord e (now t e)) is (any-within (end t e) e (now t e) counts lists)
 
   -- ---- a possible record
 
@@ -71,7 +71,7 @@ module _ (t : Traced) (e : Event) (counts : IsCountedWorld (end t e) (now t e)) 
           untouched_number (end t e) e (now t e) p closed shut (within p is) pid number untouched
           ∙ ap (λ (v : Views). v.descriptor pid number) (sym (seen-stands t e at later));
       same_views = λ at x later untouched.
-          untouched_view (end t e) e (now t e) p closed shut (within p is) counted_after.rising lists x
+          untouched_view (end t e) e (now t e) p closed shut (within p is) counted_after.rising x
           (ap (has_target x) (sym (targets-same s (views_of after) p.hints (touched_numbers e closed after) shows)) ∙ untouched)
           ∙ ap (λ (v : Views). v.view x) (sym (seen-stands t e at later));
     }

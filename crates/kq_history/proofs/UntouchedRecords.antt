@@ -1,17 +1,17 @@
 -- What a record does not touch is after it as it was: what a number names, and what is seen of a target.
-use Rattle.std.proofs.Common.{◌≡◌, ◌∙◌, ◌==◌, ℕ, ◌&&◌, ◌||◌, Bool, true, false, eqb, List, ◌++◌, map, Option, None, Some, refl, sym, ap, ap₂}
+use Rattle.std.proofs.Common.{◌≡◌, ◌∙◌, ◌==◌, ℕ, ◌&&◌, ◌||◌, Bool, true, false, eqb, List, [], ◌∷◌, ◌++◌, map, Option, None, Some, refl, sym, ap, ap₂, subst}
 use Rattle.std.specs.Prelude.{All}
 use Rattle.std.specs.List.{flat_map, list_any}
-use Rattle.std.proofs.lemmas.Bool.{and_parts, both_ways, eqb-true, false_from_ne_true}
-use Rattle.std.proofs.lemmas.List.Elements.{All-map}
+use Rattle.std.proofs.lemmas.Bool.{and_parts, both_ways, eqb-true, false_from_ne_true, true≢false}
+use Rattle.std.proofs.lemmas.List.Elements.{All-map, All-weaker}
 use Rattle.kq_model.proofs.ListFilters.{All-both}
 use Rattle.std.proofs.lemmas.List.Folds.{list_any-append}
 use Rattle.kq_model.specs.declared.event.Event.{Event}
+use Rattle.kq_model.specs.declared.event.Event.TheVariants as event
 use Rattle.kq_model.specs.declared.object.Target.{Target}
 use Rattle.kq_model.specs.declared.object.Target.TheVariants as target
 use Rattle.kq_model.specs.Close.{Pair, has_pair}
 use Rattle.kq_model.specs.Descriptors.{Descriptor, IsRising, named_among, without_closed}
-use Rattle.kq_model.specs.ListedFiles.{AreListed}
 use Rattle.kq_model.specs.Objects.{counted, all_done, view_of}
 use Rattle.kq_model.specs.Targets.{target_eq}
 use Rattle.kq_model.specs.TouchedNumbers.{born_numbers, pair_of}
@@ -20,12 +20,75 @@ use Rattle.kq_model.specs.World.{World, Plan, carried_out, named_by, view_in, vi
 use Rattle.kq_model.proofs.KnoteLaws.{by_test}
 use Rattle.kq_model.proofs.UntouchedNumbers.{untouched-number}
 use Rattle.kq_model.proofs.UntouchedTargets.{untouched-target}
-use Rattle.kq_history.specs.Spoken.{opened_numbers, spoken_file, spoken_numbers, spoken_process, spoken_targets}
-use Rattle.kq_history.specs.Touched.{all_named, has_number, has_target, open_numbers, targets_named, targets_of, told_targets, touched_numbers, touched_targets}
+use Rattle.kq_history.specs.Spoken.{first_number, first_opened, opened_numbers, second_number, second_opened, spoken_file, spoken_numbers, spoken_process, spoken_targets}
+use Rattle.kq_history.specs.Touched.{all_named, has_number, has_target, left_of, open_numbers, targets_left, targets_named, tells_file, told_targets, touched_numbers, touched_targets}
 use Rattle.kq_history.specs.Within.{IsWithin, PassesAll}
-use Rattle.kq_history.proofs.Altering.{unaltered}
 use Rattle.kq_history.proofs.RisingTables.{IsNamedIn, is_same, named-rising, opened-put, stand-there}
 use Rattle.kq_history.proofs.TouchedKeys.{all-have, in_left, in_right, named-have, none-passes, open-has, pairs-have, process-spoken, table-has, to_pair}
+
+-- what it opens it speaks of
+opened-spoken : (e : Event) (pid number : ℕ) → has_number pid number (opened_numbers e) ≡ true → has_number pid number (spoken_numbers e) ≡ true
+unfolding first_number second_number first_opened second_opened
+opened-spoken (event.Proc p) pid number there = there
+opened-spoken (event.Fork p child) pid number there = there
+opened-spoken (event.Exit p status) pid number there = there
+opened-spoken (event.Kqueue p fd) pid number there = there
+opened-spoken (event.Dup p fd to) pid number there = in_right (λ (x : ℕ × ℕ). (x.0 == pid) && (x.1 == number)) ((p, fd) ∷ []) ((p, to) ∷ []) there
+opened-spoken (event.Close p fd) pid number there = absurd (true≢false (sym there))
+opened-spoken (event.Socket p fd rcv snd) pid number there = there
+opened-spoken (event.Listen p fd backlog) pid number there = absurd (true≢false (sym there))
+opened-spoken (event.Arrive p fd) pid number there = absurd (true≢false (sym there))
+opened-spoken (event.Accept p fd to rcv snd) pid number there = in_right (λ (x : ℕ × ℕ). (x.0 == pid) && (x.1 == number)) ((p, fd) ∷ []) ((p, to) ∷ []) there
+opened-spoken (event.Connect p fd) pid number there = absurd (true≢false (sym there))
+opened-spoken (event.Rx p fd n) pid number there = absurd (true≢false (sym there))
+opened-spoken (event.Tx p fd n) pid number there = absurd (true≢false (sym there))
+opened-spoken (event.Shut p fd side error) pid number there = absurd (true≢false (sym there))
+opened-spoken (event.Lowat p fd side n) pid number there = absurd (true≢false (sym there))
+opened-spoken (event.Pipe p rfd wfd cap) pid number there = there
+opened-spoken (event.Read p fd n) pid number there = absurd (true≢false (sym there))
+opened-spoken (event.Write p fd n) pid number there = absurd (true≢false (sym there))
+opened-spoken (event.Exec p) pid number there = there
+opened-spoken (event.Sigset p sig ignore) pid number there = there
+opened-spoken (event.Sig p sig) pid number there = there
+opened-spoken (event.File file size) pid number there = there
+opened-spoken (event.Open p fd file mode) pid number there = there
+opened-spoken (event.Seek p fd offset) pid number there = absurd (true≢false (sym there))
+opened-spoken (event.Truncate file size) pid number there = there
+opened-spoken (event.Note file note) pid number there = there
+opened-spoken (event.Clock ns) pid number there = there
+opened-spoken (event.Kevent p fd changes room) pid number there = there
+
+-- where it speaks of a number it starts no process
+none-started : (pid number : ℕ) (e : Event) (w : World counted) → has_number pid number (spoken_numbers e) ≡ true → has_number pid number (open_numbers (spoken_process e) w) ≡ false
+unfolding first_number second_number spoken_process
+none-started pid number (event.Proc p) w there = absurd (true≢false (sym there))
+none-started pid number (event.Fork p child) w there = absurd (true≢false (sym there))
+none-started pid number (event.Exit p status) w there = absurd (true≢false (sym there))
+none-started pid number (event.Kqueue p fd) w there = refl
+none-started pid number (event.Dup p fd to) w there = refl
+none-started pid number (event.Close p fd) w there = refl
+none-started pid number (event.Socket p fd rcv snd) w there = refl
+none-started pid number (event.Listen p fd backlog) w there = refl
+none-started pid number (event.Arrive p fd) w there = refl
+none-started pid number (event.Accept p fd to rcv snd) w there = refl
+none-started pid number (event.Connect p fd) w there = refl
+none-started pid number (event.Rx p fd n) w there = refl
+none-started pid number (event.Tx p fd n) w there = refl
+none-started pid number (event.Shut p fd side error) w there = refl
+none-started pid number (event.Lowat p fd side n) w there = refl
+none-started pid number (event.Pipe p rfd wfd cap) w there = refl
+none-started pid number (event.Read p fd n) w there = refl
+none-started pid number (event.Write p fd n) w there = refl
+none-started pid number (event.Exec p) w there = refl
+none-started pid number (event.Sigset p sig ignore) w there = refl
+none-started pid number (event.Sig p sig) w there = refl
+none-started pid number (event.File file size) w there = refl
+none-started pid number (event.Open p fd file mode) w there = refl
+none-started pid number (event.Seek p fd offset) w there = refl
+none-started pid number (event.Truncate file size) w there = refl
+none-started pid number (event.Note file note) w there = refl
+none-started pid number (event.Clock ns) w there = refl
+none-started pid number (event.Kevent p fd changes room) w there = refl
 
 module _ (place : ℕ) (e : Event) (w : World counted) (p : Plan) (closed : List (ℕ × ℕ)) (shut : map to_pair closed ≡ p.closed)
     (within : IsWithin (opened_numbers e) (spoken_numbers e) (spoken_targets e) w p) where
@@ -99,51 +162,61 @@ module _ (place : ℕ) (e : Event) (w : World counted) (p : Plan) (closed : List
 
   -- ---- targets
 
-  module _ (rising : IsRising after.table) (listed : AreListed w.objects) where
+  module _ (rising : IsRising after.table) where
     abbrev targets : List Target
     targets = touched_targets e p.hints (views_of w) (views_of after) numbers
 
     abbrev passes : Target → Bool
     passes t = has_target t targets
 
-    abbrev named_targets : List Target
-    named_targets = flat_map (targets_of (views_of w) (views_of after)) numbers
+    abbrev left_targets : List Target
+    left_targets = flat_map (left_of (tells_file p.hints) (views_of w)) numbers
 
     -- what it speaks of, and what its numbers name
     abbrev spoken_on : List Target
     spoken_on = spoken_targets e ++ all_named (views_of after) (spoken_numbers e)
 
-    named-passes : (pid number : ℕ) (t : Target) → has_number pid number numbers ≡ true → has_target t (targets_of (views_of w) (views_of after) (pid, number)) ≡ true → passes t ≡ true
-    named-passes pid number t there names =
-        in_left (λ x. target_eq x t) named_targets (told_targets p.hints ++ spoken_on)
-        (named-have (targets_of (views_of w) (views_of after)) pid number t numbers there names)
+    other-passes : (t : Target) → has_target t (told_targets p.hints ++ spoken_on) ≡ true → passes t ≡ true
+    other-passes t there = in_right (λ x. target_eq x t) left_targets (told_targets p.hints ++ spoken_on) there
 
-    before-passes : (pid number : ℕ) → has_number pid number numbers ≡ true → All (λ t. passes t ≡ true) (targets_named (named_among pid number w.table))
-    unfolding views_of named_by
-    before-passes pid number there =
-        all-have targets (targets_named (named_among pid number w.table))
-        (λ t names. named-passes pid number t there (in_left (λ x. target_eq x t) (targets_named (named_among pid number w.table)) (targets_named (named_among pid number after.table)) names))
+    told-passes : (t : Target) → has_target t (told_targets p.hints) ≡ true → passes t ≡ true
+    told-passes t there = other-passes t (in_left (λ x. target_eq x t) (told_targets p.hints) spoken_on there)
 
-    -- a number that it does not touch names after it what it named before it
-    spoken-passes : (pid number : ℕ) → has_number pid number (spoken_numbers e) ≡ true → All (λ t. passes t ≡ true) (targets_named (named_among pid number w.table))
+    spoken-passes : (t : Target) → has_target t (spoken_targets e) ≡ true → passes t ≡ true
+    spoken-passes t there =
+        other-passes t (in_right (λ x. target_eq x t) (told_targets p.hints) spoken_on
+        (in_left (λ x. target_eq x t) (spoken_targets e) (all_named (views_of after) (spoken_numbers e)) there))
+
+    -- what a number that it speaks of names after it
+    named-passes : (pid number : ℕ) → has_number pid number (spoken_numbers e) ≡ true → All (λ t. passes t ≡ true) (targets_named (named_among pid number after.table))
     unfolding views_of named_by
-    spoken-passes pid number there =
-        by_test (λ b. has_number pid number numbers ≡ b → All (λ t. passes t ≡ true) (targets_named (named_among pid number w.table))) (has_number pid number numbers)
-        (λ _ touched. before-passes pid number touched)
-        (λ _ untouched. all-have targets (targets_named (named_among pid number w.table))
-        (λ t names. in_right (λ x. target_eq x t) named_targets (told_targets p.hints ++ spoken_on)
-        (in_right (λ x. target_eq x t) (told_targets p.hints) spoken_on
+    named-passes pid number there =
+        all-have targets (targets_named (named_among pid number after.table))
+        (λ t names. other-passes t (in_right (λ x. target_eq x t) (told_targets p.hints) spoken_on
         (in_right (λ x. target_eq x t) (spoken_targets e) (all_named (views_of after) (spoken_numbers e))
-        (named-have (λ (x : ℕ × ℕ). targets_named ((views_of after).descriptor x.0 x.1)) pid number t (spoken_numbers e) there
-        (ap (λ n. has_target t (targets_named n)) (untouched_number pid number untouched) ∙ names)))))) refl
+        (named-have (λ (x : ℕ × ℕ). targets_named ((views_of after).descriptor x.0 x.1)) pid number t (spoken_numbers e) there names))))
 
-    after-passes : (d : Descriptor) → has_number d.pid d.number numbers ≡ true → IsNamedIn after.table d → All (λ t. passes t ≡ true) (targets_named (Some d.named))
+    closed-passes : (pid number : ℕ) → has_pair pid number p.closed ≡ true → All (λ t. passes t ≡ true) (targets_left (tells_file p.hints) (named_among pid number w.table))
     unfolding views_of named_by
-    after-passes d there named =
-        all-have targets (targets_named (Some d.named))
-        (λ t names. named-passes d.pid d.number t there
-        (in_right (λ x. target_eq x t) (targets_named (named_among d.pid d.number w.table)) (targets_named (named_among d.pid d.number after.table))
-        (ap (λ n. has_target t (targets_named n)) named ∙ names)))
+    closed-passes pid number shut_here =
+        all-have targets (targets_left (tells_file p.hints) (named_among pid number w.table))
+        (λ t names. in_left (λ x. target_eq x t) left_targets (told_targets p.hints ++ spoken_on)
+        (named-have (left_of (tells_file p.hints) (views_of w)) pid number t numbers (closed-touched pid number shut_here) names))
+
+    -- a number that it speaks of, and neither opens nor closes, names after it what it named before it
+    same-named : (pid number : ℕ) → has_number pid number (spoken_numbers e) ≡ true → has_number pid number (opened_numbers e) ≡ false
+        → has_pair pid number p.closed ≡ false → named_among pid number after.table ≡ named_among pid number w.table
+    same-named pid number there old still =
+        untouched_number pid number
+        (list_any-append (λ (x : ℕ × ℕ). (x.0 == pid) && (x.1 == number)) closed (opened_numbers e ++ open_numbers (spoken_process e) after)
+        ∙ ap₂ (λ a b. a || b) (sym (pairs-have pid number closed) ∙ ap (has_pair pid number) shut ∙ still)
+        (list_any-append (λ (x : ℕ × ℕ). (x.0 == pid) && (x.1 == number)) (opened_numbers e) (open_numbers (spoken_process e) after)
+        ∙ ap₂ (λ a b. a || b) old (none-started pid number e after there)))
+
+    kept-passes : (pid number : ℕ) → has_number pid number (spoken_numbers e) ≡ true → has_number pid number (opened_numbers e) ≡ false
+        → has_pair pid number p.closed ≡ false → All (λ t. passes t ≡ true) (targets_named (named_among pid number w.table))
+    kept-passes pid number there old still =
+        subst (λ n. All (λ t. passes t ≡ true) (targets_named n)) (same-named pid number there old still) (named-passes pid number there)
 
     opened-named : All (IsNamedIn after.table) p.opened
     unfolding carried_out
@@ -151,27 +224,22 @@ module _ (place : ℕ) (e : Event) (w : World counted) (p : Plan) (closed : List
 
     all-pass : PassesAll (opened_numbers e) (spoken_numbers e) (spoken_targets e) w passes p
     all-pass = record {
-      told = all-have targets (told_targets p.hints) (λ t there. in_right (λ x. target_eq x t) named_targets (told_targets p.hints ++ spoken_on)
-          (in_left (λ x. target_eq x t) (told_targets p.hints) spoken_on there));
-      spoken = all-have targets (spoken_targets e) (λ t there. in_right (λ x. target_eq x t) named_targets (told_targets p.hints ++ spoken_on)
-          (in_right (λ x. target_eq x t) (told_targets p.hints) spoken_on
-          (in_left (λ x. target_eq x t) (spoken_targets e) (all_named (views_of after) (spoken_numbers e)) there)));
-      opened = All-both (λ (d : Descriptor). has_number d.pid d.number numbers ≡ true) (IsNamedIn after.table)
-          (λ (d : Descriptor). All (λ t. passes t ≡ true) (targets_named (Some d.named))) (λ d there named. after-passes d there named) p.opened opened-touched opened-named;
-      numbered = spoken-passes;
-      closed = λ pid number there. before-passes pid number (closed-touched pid number there);
+      told = all-have targets (told_targets p.hints) told-passes;
+      spoken = all-have targets (spoken_targets e) spoken-passes;
+      opened = All-weaker (IsNamedIn after.table) (λ (d : Descriptor). has_number d.pid d.number (opened_numbers e) ≡ true → All (λ t. passes t ≡ true) (targets_named (Some d.named)))
+          (λ d named there. subst (λ n. All (λ t. passes t ≡ true) (targets_named n)) named (named-passes d.pid d.number (opened-spoken e d.pid d.number there)))
+          p.opened opened-named;
+      numbered = kept-passes;
+      closed = closed-passes;
     }
 
     process-untouched : (pid : ℕ) → passes (target.Process pid) ≡ false → (starts pid p.started || ends pid p.ended) ≡ false
     process-untouched pid absent =
         false_from_ne_true (starts pid p.started || ends pid p.ended) (λ is.
-        both_ways (passes (target.Process pid)) absent
-        (in_right (λ x. target_eq x (target.Process pid)) named_targets (told_targets p.hints ++ spoken_on)
-        (in_right (λ x. target_eq x (target.Process pid)) (told_targets p.hints) spoken_on
-        (in_left (λ x. target_eq x (target.Process pid)) (spoken_targets e) (all_named (views_of after) (spoken_numbers e)) (within.process pid is)))))
+        both_ways (passes (target.Process pid)) absent (spoken-passes (target.Process pid) (within.process pid is)))
 
     object-untouched : (t : Target) → passes t ≡ false → view_of t (all_done p.doings w.objects) ≡ view_of t w.objects
-    object-untouched t absent = unaltered passes w.objects listed t p.doings absent (within.doings passes all-pass)
+    object-untouched t absent = within.doings passes all-pass t absent
 
     pub untouched_view : (t : Target) → passes t ≡ false → view_in after t ≡ view_in w t
     unfolding view_in carried_out is_touched

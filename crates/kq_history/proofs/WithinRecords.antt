@@ -2,7 +2,8 @@
 use Rattle.std.proofs.Common.{◌≡◌, ◌∙◌, ◌==◌, not, nat_lt, ◌&&◌, ◌||◌, eq-eqb, length, ℕ, ℤ, pos, negsuc, Bool, true, false, List, [], ◌∷◌, ◌++◌, Option, None, Some, Ok, Err, refl, sym, ap, ap₂, subst, if◌then◌else◌}
 use Rattle.std.specs.Prelude.{All}
 use Rattle.std.specs.Option.{is_some}
-use Rattle.std.proofs.lemmas.Bool.{eqb-true, true≢false}
+use Rattle.std.proofs.lemmas.Bool.{eqb-true, false_from_ne_true, true≢false}
+use Rattle.std.proofs.lemmas.Option.{none-some, same_Some}
 use Rattle.std.proofs.lemmas.List.Elements.{All-nil, All-cons, All-head, All-tail, All-append, All-filter, All-map, All-weaker}
 use Rattle.kq_model.specs.declared.act.Act.{Act}
 use Rattle.kq_model.specs.declared.act.Act.TheVariants as act
@@ -17,27 +18,31 @@ use Rattle.kq_model.specs.declared.why.Why.{Why}
 use Rattle.kq_model.specs.declared.why.Why.TheVariants.{UsedDescriptor, UsedPid, ClockBack, TooMany}
 use Rattle.kq_model.specs.Bits.{exec_note, exit_note}
 use Rattle.kq_model.specs.Close.{Pair, has_pair}
+use Rattle.kq_model.specs.CountedWorld.{IsCountedWorld}
 use Rattle.kq_model.specs.Descriptors.{Descriptor, IsRising, named_among}
 use Rattle.kq_model.specs.DescriptorPlans.{close_doings, close_hints, closes, duplicated, plan_call, plan_close, plan_dup, plan_kevent, plan_kqueue}
 use Rattle.kq_model.specs.Holding.{hold_doings, option_list, release_all, release_doings, release_hint, release_hints}
+use Rattle.kq_model.specs.ListedFiles.{AreListed}
 use Rattle.kq_model.specs.Limits.{most_changes, most_room}
 use Rattle.kq_model.specs.ObjectPlan as object
 use Rattle.kq_model.specs.ObjectRecordPlans.{descriptor, pipe_ends, plan_accept, plan_act, plan_at, plan_open, plan_pipe, plan_socket, unless_open, with_objects}
-use Rattle.kq_model.specs.Objects.{counted}
+use Rattle.kq_model.specs.Objects.{all_done, counted, view_of}
 use Rattle.kq_model.specs.Planning as object_planning
-use Rattle.kq_model.specs.Processes.{ignored_by, ignores_none, process_of, was_used}
+use Rattle.kq_model.specs.Processes.{Start, ignored_by, ignores_none, is_live, process_of, was_used}
 use Rattle.kq_model.specs.ProcessPlans.{delivery, descriptors_of, forked, hold_all, inheritable, inherited, is_signal, names_of, noted, pairs_of, plan_clock, plan_clock_at, plan_exec, plan_exit, plan_fork, plan_proc, plan_sig, plan_sigset}
 use Rattle.kq_model.specs.Targets.{target_eq}
 use Rattle.kq_model.specs.TouchedTargets.{starts, ends}
 use Rattle.kq_model.specs.World.{World, Plan, Planned, Impossible, Possible, idle, named_by}
 use Rattle.kq_model.proofs.KnoteLaws.{by_test}
 use Rattle.kq_model.proofs.ListFilters.{All-both}
+use Rattle.kq_model.proofs.ReleasedAll.{all_done-append}
 use Rattle.kq_model.proofs.PlanReasons.{if_live-holds, on_descriptor-holds, unless, unless_gone, unless_open-holds}
-use Rattle.kq_history.specs.Accounts.{Accounts}
-use Rattle.kq_history.specs.Touched.{has_number, has_target, targets_named, told_targets}
+use Rattle.kq_history.specs.Touched.{has_number, has_target, targets_left, targets_named, tells_file, told_targets}
 use Rattle.kq_history.specs.Within.{PassesAll, IsWithin, StaysWithin}
 use Rattle.kq_history.proofs.AccountedActs.{AreAccounted, accounted, act_targets}
-use Rattle.kq_history.proofs.AccountedHolds.{held-accounted, released-accounted, all_held-accounted, all_released-accounted}
+use Rattle.kq_history.proofs.Altering.{unaltered}
+use Rattle.kq_history.proofs.HeldViews.{same-inherited, spared-hold}
+use Rattle.kq_history.proofs.LeftViews.{covers, same-released, spared-release}
 use Rattle.kq_history.proofs.RisingTables.{named-rising, pairs-there}
 
 or_true : (b : Bool) → (b || true) ≡ true
@@ -77,7 +82,7 @@ spoken-passes has number (t ∷ ts) all there =
     (λ _ is _. ap has (sym (file_is number t is)) ∙ All-head (λ x. has x ≡ true) t ts all)
     (λ _ _ later. spoken-passes has number ts (All-tail (λ x. has x ≡ true) t ts all) later) refl there
 
-module _ (opens numbers : List (ℕ × ℕ)) (targets : List Target) (w : World counted) where
+module _ (opens numbers : List (ℕ × ℕ)) (targets : List Target) (w : World counted) (listed : AreListed w.objects) where
   abbrev Stays : Planned → Type 0
   Stays q = StaysWithin opens numbers targets w q
 
@@ -86,18 +91,20 @@ module _ (opens numbers : List (ℕ × ℕ)) (targets : List Target) (w : World 
 
   -- a record that opens nothing, makes nothing and notes nothing
   quiet : (p : Plan) → p.opened ≡ [] → p.born ≡ None → p.doings ≡ [] → p.started ≡ None → p.ended ≡ None → IsWithin opens numbers targets w p
-  unfolding starts ends
+  unfolding starts ends all_done
   quiet p no_opened no_born no_doings no_started no_ended = record {
     opened = subst (λ (ds : List Descriptor). All (λ (d : Descriptor). (has_number d.pid d.number opens || starts d.pid p.started) ≡ true) ds) (sym no_opened) (All-nil _);
     born = λ x is. absurd (no_number x (sym no_born ∙ is));
     process = λ pid is. absurd (true≢false (sym is ∙ ap₂ (λ s e. starts pid s || ends pid e) no_started no_ended));
-    doings = λ has passes. subst (λ (ds : List Doing). All (Accounts has w.objects) ds) (sym no_doings) (All-nil _);
+    fresh = λ s is. absurd (none-some s (sym no_started ∙ is));
+    maker = λ x is. absurd (no_number x (sym no_born ∙ is));
+    doings = λ has passes t absent. ap (λ (ds : List Doing). view_of t (all_done ds w.objects)) no_doings;
   }
 
   -- ---- records about objects
 
   abbrev Names : List Descriptor → List Target → Type 0
-  Names ds ts = (has : Target → Bool) (p : Plan) → p.opened ≡ ds → PassesAll opens numbers targets w has p → All (λ t. has t ≡ true) ts
+  Names ds ts = (has : Target → Bool) (p : Plan) → p.opened ≡ ds → p.closed ≡ [] → PassesAll opens numbers targets w has p → All (λ t. has t ≡ true) ts
 
   objects-within : (ds : List Descriptor) (place : ℕ) (a : Act) (q : object.Planned) → object_planning.plan place a w.objects ≡ q
       → All (λ (d : Descriptor). has_number d.pid d.number opens ≡ true) ds → Names ds (act_targets place a) → Stays (with_objects ds q)
@@ -108,7 +115,11 @@ module _ (opens numbers : List (ℕ × ℕ)) (targets : List Target) (w : World 
         (λ d has. ap (λ b. b || false) has) ds there;
     born = λ x none. absurd (no_number x none);
     process = λ pid never. absurd (true≢false (sym never));
-    doings = λ has passes. subst (AreAccounted has w.objects) is (accounted has w.objects place a (names has _ refl passes)) passes.told;
+    fresh = λ s none. absurd (none-some s none);
+    maker = λ x none. absurd (no_number x none);
+    doings = λ has passes t absent.
+        unaltered has w.objects listed t p.doings absent
+        (subst (AreAccounted has w.objects) is (accounted has w.objects place a (names has _ refl refl passes)) passes.told);
   }
 
   act-within : (ds : List Descriptor) (place : ℕ) (a : Act) → All (λ (d : Descriptor). has_number d.pid d.number opens ≡ true) ds
@@ -118,22 +129,22 @@ module _ (opens numbers : List (ℕ × ℕ)) (targets : List Target) (w : World 
 
   -- at what a number names
   pub at-within : (place pid fd : ℕ) (at : Named → Act) → ((n : Named) → act_targets place (at n) ≡ targets_named (Some n)) → has_number pid fd numbers ≡ true
-      → Stays (plan_at place pid fd at w)
+      → has_number pid fd opens ≡ false → Stays (plan_at place pid fd at w)
   unfolding plan_at
-  at-within place pid fd at names there =
+  at-within place pid fd at names there old =
       on_descriptor-holds Stays refused w pid fd (λ n. plan_act place [] (at n) w)
       (λ n live found. act-within [] place (at n) (All-nil _)
-      (λ has p _ passes. subst (λ ts. All (λ t. has t ≡ true) ts) (ap targets_named found ∙ sym (names n)) (passes.numbered pid fd there)))
+      (λ has p _ open_still passes. subst (λ ts. All (λ t. has t ≡ true) ts) (ap targets_named found ∙ sym (names n)) (passes.numbered pid fd there old (ap (has_pair pid fd) open_still))))
 
   one-there : (pid fd : ℕ) (n : Named) → has_number pid fd opens ≡ true → All (λ (d : Descriptor). has_number d.pid d.number opens ≡ true) (descriptor pid fd n ∷ [])
   one-there pid fd n there = All-cons (λ (d : Descriptor). has_number d.pid d.number opens ≡ true) (descriptor pid fd n) [] there (All-nil _)
 
   -- what the first of the opened numbers names
-  opened-names : (d : Descriptor) (ds : List Descriptor) (has : Target → Bool) (p : Plan) → p.opened ≡ d ∷ ds → PassesAll opens numbers targets w has p
-      → All (λ t. has t ≡ true) (targets_named (Some d.named))
-  opened-names d ds has p is passes =
-      All-head (λ (x : Descriptor). All (λ t. has t ≡ true) (targets_named (Some x.named))) d ds
-      (subst (λ xs. All (λ (x : Descriptor). All (λ t. has t ≡ true) (targets_named (Some x.named))) xs) is passes.opened)
+  opened-names : (d : Descriptor) (ds : List Descriptor) → has_number d.pid d.number opens ≡ true → (has : Target → Bool) (p : Plan) → p.opened ≡ d ∷ ds
+      → p.closed ≡ [] → PassesAll opens numbers targets w has p → All (λ t. has t ≡ true) (targets_named (Some d.named))
+  opened-names d ds there has p is none passes =
+      All-head (λ (x : Descriptor). has_number x.pid x.number opens ≡ true → All (λ t. has t ≡ true) (targets_named (Some x.named))) d ds
+      (subst (λ xs. All (λ (x : Descriptor). has_number x.pid x.number opens ≡ true → All (λ t. has t ≡ true) (targets_named (Some x.named))) xs) is passes.opened) there
 
   pub socket-within : (place pid fd receive send : ℕ) → has_number pid fd opens ≡ true → Stays (plan_socket place pid fd receive send w)
   unfolding plan_socket
@@ -143,18 +154,25 @@ module _ (opens numbers : List (ℕ × ℕ)) (targets : List Target) (w : World 
       let made : Planned = plan_act place ds (act.Socket receive send) w in
       if_live-holds Stays refused w pid (unless_open pid (fd ∷ []) w made)
       (λ _. unless_open-holds Stays refused w pid (fd ∷ []) made
-      (λ _. act-within ds place (act.Socket receive send) (one-there pid fd n there) (opened-names (descriptor pid fd n) [])))
+      (λ _. act-within ds place (act.Socket receive send) (one-there pid fd n there) (opened-names (descriptor pid fd n) [] there)))
 
-  pub accept-within : (place pid fd to receive send : ℕ) → has_number pid fd numbers ≡ true → has_number pid to opens ≡ true → Stays (plan_accept place pid fd to receive send w)
+  -- one is open, the other is not
+  not-one : (pid fd to : ℕ) (n : Named) → named_among pid fd w.table ≡ Some n → named_among pid to w.table ≡ None → (to == fd) ≡ false
+  not-one pid fd to n found none =
+      false_from_ne_true (to == fd) (λ same. none-some n (sym none ∙ ap (λ x. named_among pid x w.table) (eqb-true to fd same) ∙ found))
+
+  pub accept-within : (place pid fd to receive send : ℕ) → has_number pid fd numbers ≡ true → has_number pid to opens ≡ true
+      → ((to == fd) ≡ false → has_number pid fd opens ≡ false) → Stays (plan_accept place pid fd to receive send w)
   unfolding plan_accept
-  accept-within place pid fd to receive send there new =
+  accept-within place pid fd to receive send there new old =
       let made_by : Named → Planned = λ n. plan_act place (descriptor pid to (named.Socket place) ∷ []) (act.Accept n receive send) w in
       on_descriptor-holds Stays refused w pid fd (λ n. unless_open pid (to ∷ []) w (made_by n))
       (λ n live found. unless_open-holds Stays refused w pid (to ∷ []) (made_by n)
-      (λ _. act-within (descriptor pid to (named.Socket place) ∷ []) place (act.Accept n receive send) (one-there pid to (named.Socket place) new)
-      (λ has p is passes. All-append (λ t. has t ≡ true) (target.Socket place ∷ []) (targets_named (Some n))
-      (opened-names (descriptor pid to (named.Socket place)) [] has p is passes)
-      (subst (λ x. All (λ t. has t ≡ true) (targets_named x)) found (passes.numbered pid fd there)))))
+      (λ closed. act-within (descriptor pid to (named.Socket place) ∷ []) place (act.Accept n receive send) (one-there pid to (named.Socket place) new)
+      (λ has p is open_still passes. All-append (λ t. has t ≡ true) (target.Socket place ∷ []) (targets_named (Some n))
+      (opened-names (descriptor pid to (named.Socket place)) [] new has p is open_still passes)
+      (subst (λ x. All (λ t. has t ≡ true) (targets_named x)) found
+      (passes.numbered pid fd there (old (not-one pid fd to n found closed.0)) (ap (has_pair pid fd) open_still))))))
 
   pub open-within : (place pid fd number : ℕ) (mode : Mode) → has_number pid fd opens ≡ true → Stays (plan_open place pid fd number mode w)
   unfolding plan_open
@@ -164,7 +182,7 @@ module _ (opens numbers : List (ℕ × ℕ)) (targets : List Target) (w : World 
       let made : Planned = plan_act place ds (act.Open number mode) w in
       if_live-holds Stays refused w pid (unless_open pid (fd ∷ []) w made)
       (λ _. unless_open-holds Stays refused w pid (fd ∷ []) made
-      (λ _. act-within ds place (act.Open number mode) (one-there pid fd n there) (opened-names (descriptor pid fd n) [])))
+      (λ _. act-within ds place (act.Open number mode) (one-there pid fd n there) (opened-names (descriptor pid fd n) [] there)))
 
   pub pipe-within : (place pid rfd wfd cap : ℕ) → has_number pid rfd opens ≡ true → has_number pid wfd opens ≡ true → Stays (plan_pipe place pid rfd wfd cap w)
   unfolding plan_pipe
@@ -178,41 +196,47 @@ module _ (opens numbers : List (ℕ × ℕ)) (targets : List Target) (w : World 
       (λ _. unless_open-holds Stays refused w pid (rfd ∷ wfd ∷ []) made
       (λ _. act-within (reader ∷ writer ∷ []) place (act.Pipe cap)
       (All-cons (λ (d : Descriptor). has_number d.pid d.number opens ≡ true) reader (writer ∷ []) reads (one-there pid wfd (named.PipeWrite place) writes))
-      (opened-names reader (writer ∷ [])))))
+      (opened-names reader (writer ∷ []) reads))))
 
   -- ---- descriptors
 
-  released : (pid fd : ℕ) (n : Named) (has : Target → Bool) → named_among pid fd w.table ≡ Some n → All (λ t. has t ≡ true) (targets_named (named_among pid fd w.table))
-      → All (λ t. has t ≡ true) (told_targets (option_list (release_hint n w.objects))) → All (Accounts has w.objects) (release_doings n w.objects)
-  released pid fd n has found names told =
-      released-accounted has w.objects n (subst (λ x. All (λ t. has t ≡ true) (targets_named x)) found names) told
+  released : (pid fd : ℕ) (n : Named) (has : Target → Bool) (t : Target) → has t ≡ false → named_among pid fd w.table ≡ Some n
+      → All (λ t. has t ≡ true) (targets_left (tells_file (option_list (release_hint n w.objects))) (named_among pid fd w.table))
+      → All (λ t. has t ≡ true) (told_targets (option_list (release_hint n w.objects))) → view_of t (all_done (release_doings n w.objects) w.objects) ≡ view_of t w.objects
+  released pid fd n has t absent found left told =
+      let tells = tells_file (option_list (release_hint n w.objects)) in
+      spared-release has t n w.objects absent
+      (covers has n w.objects tells told (λ is. is) (subst (λ x. All (λ t. has t ≡ true) (targets_left tells x)) found left))
 
-  pub close-within : (pid fd : ℕ) → has_number pid fd numbers ≡ true → Stays (plan_close pid fd w)
+  pub close-within : (pid fd : ℕ) → Stays (plan_close pid fd w)
   unfolding plan_close starts ends
-  close-within pid fd there =
+  close-within pid fd =
       on_descriptor-holds Stays refused w pid fd _
       (λ n live found. record {
         opened = All-nil _;
         born = λ x none. absurd (no_number x none);
         process = λ other never. absurd (true≢false (sym never));
-        doings = λ has passes. released pid fd n has found (passes.numbered pid fd there) passes.told;
+        fresh = λ s none. absurd (none-some s none);
+        maker = λ x none. absurd (no_number x none);
+        doings = λ has passes t absent. released pid fd n has t absent found (passes.closed pid fd (ap (λ b. b || false) (same_pair pid fd))) passes.told;
       })
 
   -- what the number named before
-  before : (pid to : ℕ) (x : Option Named) (has : Target → Bool) → named_among pid to w.table ≡ x → All (λ t. has t ≡ true) (targets_named (named_among pid to w.table))
-      → All (λ t. has t ≡ true) (told_targets (close_hints x w.objects)) → All (Accounts has w.objects) (close_doings x w.objects)
-  unfolding close_hints close_doings
-  before pid to None has is names told = All-nil _
-  before pid to (Some n) has is names told = released pid to n has is names told
+  before : (pid to : ℕ) (x : Option Named) (has : Target → Bool) (t : Target) → has t ≡ false → named_among pid to w.table ≡ x
+      → (has_pair pid to (closes pid to x) ≡ true → All (λ t. has t ≡ true) (targets_left (tells_file (close_hints x w.objects)) (named_among pid to w.table)))
+      → All (λ t. has t ≡ true) (told_targets (close_hints x w.objects)) → view_of t (all_done (close_doings x w.objects) w.objects) ≡ view_of t w.objects
+  unfolding close_hints close_doings closes all_done
+  before pid to None has t absent is left told = refl
+  before pid to (Some n) has t absent is left told = released pid to n has t absent is (left (ap (λ b. b || false) (same_pair pid to))) told
 
-  shared : (pid fd to : ℕ) (n : Named) → has_number pid to opens ≡ true → has_number pid to numbers ≡ true → Stays (if fd == to then Possible idle else Possible (record idle {
+  shared : (pid fd to : ℕ) (n : Named) → has_number pid to opens ≡ true → Stays (if fd == to then Possible idle else Possible (record idle {
     closed = closes pid to (named_by pid to w);
     opened = record { pid = pid; number = to; named = n } ∷ [];
     doings = close_doings (named_by pid to w) w.objects ++ hold_doings n;
     hints = close_hints (named_by pid to w) w.objects;
   }))
   unfolding starts ends named_by
-  shared pid fd to n opens_it there =
+  shared pid fd to n opens_it =
       by_test (λ b. Stays (if b then Possible idle else Possible (record idle {
         closed = closes pid to (named_among pid to w.table);
         opened = record { pid = pid; number = to; named = n } ∷ [];
@@ -225,34 +249,45 @@ module _ (opens numbers : List (ℕ × ℕ)) (targets : List Target) (w : World 
             (ap (λ b. b || false) opens_it) (All-nil _);
         born = λ x none. absurd (no_number x none);
         process = λ other never. absurd (true≢false (sym never));
-        doings = λ has passes. All-append (Accounts has w.objects) (close_doings (named_among pid to w.table) w.objects) (hold_doings n)
-            (before pid to (named_among pid to w.table) has refl (passes.numbered pid to there) passes.told)
-            (held-accounted has w.objects n (opened-names (record { pid = pid; number = to; named = n }) [] has _ refl passes));
+        fresh = λ s none. absurd (none-some s none);
+        maker = λ x none. absurd (no_number x none);
+        doings = λ has passes t absent.
+            ap (view_of t) (all_done-append (close_doings (named_among pid to w.table) w.objects) (hold_doings n) w.objects)
+            ∙ spared-hold has t n (all_done (close_doings (named_among pid to w.table) w.objects) w.objects) absent (opened-one pid to n opens_it has _ refl passes)
+            ∙ before pid to (named_among pid to w.table) has t absent refl (λ shut. passes.closed pid to shut) passes.told;
       })
+    where
+      opened-one : (pid to : ℕ) (n : Named) → has_number pid to opens ≡ true → (has : Target → Bool) (p : Plan) → p.opened ≡ record { pid = pid; number = to; named = n } ∷ []
+          → PassesAll opens numbers targets w has p → All (λ t. has t ≡ true) (targets_named (Some n))
+      opened-one pid to n there has p is passes =
+          All-head (λ (x : Descriptor). has_number x.pid x.number opens ≡ true → All (λ t. has t ≡ true) (targets_named (Some x.named))) (record { pid = pid; number = to; named = n }) []
+          (subst (λ xs. All (λ (x : Descriptor). has_number x.pid x.number opens ≡ true → All (λ t. has t ≡ true) (targets_named (Some x.named))) xs) is passes.opened) there
 
-  duplicated-within : (pid fd to : ℕ) (n : Named) → has_number pid to opens ≡ true → has_number pid to numbers ≡ true → Stays (duplicated pid fd to w n)
+  duplicated-within : (pid fd to : ℕ) (n : Named) → has_number pid to opens ≡ true → Stays (duplicated pid fd to w n)
   unfolding duplicated
-  duplicated-within pid fd to (named.Kqueue place) opens_it there = tt
-  duplicated-within pid fd to (named.Socket place) opens_it there = shared pid fd to (named.Socket place) opens_it there
-  duplicated-within pid fd to (named.PipeRead place) opens_it there = shared pid fd to (named.PipeRead place) opens_it there
-  duplicated-within pid fd to (named.PipeWrite place) opens_it there = shared pid fd to (named.PipeWrite place) opens_it there
-  duplicated-within pid fd to (named.Open place number) opens_it there = shared pid fd to (named.Open place number) opens_it there
+  duplicated-within pid fd to (named.Kqueue place) opens_it = tt
+  duplicated-within pid fd to (named.Socket place) opens_it = shared pid fd to (named.Socket place) opens_it
+  duplicated-within pid fd to (named.PipeRead place) opens_it = shared pid fd to (named.PipeRead place) opens_it
+  duplicated-within pid fd to (named.PipeWrite place) opens_it = shared pid fd to (named.PipeWrite place) opens_it
+  duplicated-within pid fd to (named.Open place number) opens_it = shared pid fd to (named.Open place number) opens_it
 
-  pub dup-within : (pid fd to : ℕ) → has_number pid to opens ≡ true → has_number pid to numbers ≡ true → Stays (plan_dup pid fd to w)
+  pub dup-within : (pid fd to : ℕ) → has_number pid to opens ≡ true → Stays (plan_dup pid fd to w)
   unfolding plan_dup
-  dup-within pid fd to opens_it there = on_descriptor-holds Stays refused w pid fd (duplicated pid fd to w) (λ n _ _. duplicated-within pid fd to n opens_it there)
+  dup-within pid fd to opens_it = on_descriptor-holds Stays refused w pid fd (duplicated pid fd to w) (λ n _ _. duplicated-within pid fd to n opens_it)
 
   pub kqueue-within : (pid fd : ℕ) → has_number pid fd opens ≡ true → Stays (plan_kqueue pid fd w)
-  unfolding plan_kqueue starts ends
+  unfolding plan_kqueue starts ends all_done
   kqueue-within pid fd there =
       let makes : Planned = Possible (record idle { born = Some (record { pid = pid; number = fd }) }) in
       unless_gone Stays refused w pid (if is_some (named_by pid fd w) then Impossible UsedDescriptor else makes)
-      (λ _. unless Stays refused w (is_some (named_by pid fd w)) UsedDescriptor makes
+      (λ live. unless Stays refused w (is_some (named_by pid fd w)) UsedDescriptor makes
       (λ _. record {
         opened = All-nil _;
         born = λ x is. (let same : record { pid = pid; number = fd } ≡ x = cc in ap (λ (p : Pair). has_number p.pid p.number opens) (sym same) ∙ there);
         process = λ other never. absurd (true≢false (sym never));
-        doings = λ has passes. All-nil _;
+        fresh = λ s none. absurd (none-some s none);
+        maker = λ x is. (let same : record { pid = pid; number = fd } ≡ x = cc in ap (λ (p : Pair). is_live p.pid w.processes) (sym same) ∙ live);
+        doings = λ has passes t absent. refl;
       }))
 
   -- ---- processes
@@ -267,20 +302,22 @@ module _ (opens numbers : List (ℕ × ℕ)) (targets : List Target) (w : World 
   exited-there pid other there is = ap (λ p. has_target (target.Process p) targets) (sym (eqb-true pid other is)) ∙ there
 
   pub proc-within : (pid : ℕ) → has_target (target.Process pid) targets ≡ true → Stays (plan_proc pid w)
-  unfolding plan_proc starts ends
+  unfolding plan_proc starts ends all_done
   proc-within pid there =
       let starts_one : Planned = Possible (record idle { started = Some (record { pid = pid; ignores = ignores_none }) }) in
       unless Stays refused w (was_used pid w.processes) UsedPid starts_one
-      (λ _. record {
+      (λ unused. record {
         opened = All-nil _;
         born = λ x none. absurd (no_number x none);
         process = λ other is. started-there pid other there is;
-        doings = λ has passes. All-nil _;
+        fresh = λ s is. ap (λ (x : Start). was_used x.pid w.processes) (sym (same_Some (record { pid = pid; ignores = ignores_none }) s is)) ∙ unused;
+        maker = λ x none. absurd (no_number x none);
+        doings = λ has passes t absent. refl;
       })
 
-  pub fork-within : (pid child : ℕ) → has_target (target.Process child) targets ≡ true → Stays (plan_fork pid child w)
+  pub fork-within : (next pid child : ℕ) → IsCountedWorld next w → has_target (target.Process child) targets ≡ true → Stays (plan_fork pid child w)
   unfolding plan_fork starts ends
-  fork-within pid child there =
+  fork-within next pid child counts there =
       let ds : List Descriptor = inherited pid child w.table in
       let forks : Planned = Possible (record idle {
         opened = ds;
@@ -290,14 +327,15 @@ module _ (opens numbers : List (ℕ × ℕ)) (targets : List Target) (w : World 
       }) in
       unless_gone Stays refused w pid (if was_used child w.processes then Impossible UsedPid else forks)
       (λ _. unless Stays refused w (was_used child w.processes) UsedPid forks
-      (λ _. record {
+      (λ unused. record {
         opened = All-map (λ (d : Descriptor). (has_number d.pid d.number opens || (child == d.pid)) ≡ true) (λ (d : Descriptor). record d { pid = child }) (inheritable (descriptors_of pid w.table))
             (every (λ (d : Descriptor). (has_number child d.number opens || (child == child)) ≡ true)
             (λ d. ap (λ b. has_number child d.number opens || b) (eq-eqb child child refl) ∙ or_true (has_number child d.number opens)) (inheritable (descriptors_of pid w.table)));
         born = λ x none. absurd (no_number x none);
         process = λ other is. started-there child other there is;
-        doings = λ has passes. all_held-accounted has w.objects (names_of ds)
-            (All-map (λ n. All (λ t. has t ≡ true) (targets_named (Some n))) (λ (d : Descriptor). d.named) ds passes.opened);
+        fresh = λ s is. ap (λ (x : Start). was_used x.pid w.processes) (sym (same_Some (record { pid = child; ignores = ignored_by (process_of pid w.processes) }) s is)) ∙ unused;
+        maker = λ x none. absurd (no_number x none);
+        doings = λ has passes t absent. same-inherited t next pid child w counts;
       }))
     where
       every : (P : Descriptor → Type 0) → ((d : Descriptor) → P d) → (ds : List Descriptor) → All P ds
@@ -319,13 +357,16 @@ module _ (opens numbers : List (ℕ × ℕ)) (targets : List Target) (w : World 
         opened = All-nil _;
         born = λ x none. absurd (no_number x none);
         process = λ other is. exited-there pid other there is;
-        doings = λ has passes. all_released-accounted has w.objects (names_of ds) (noted pid exit_note ∷ [])
-            (All-map (λ n. All (λ t. has t ≡ true) (targets_named (Some n))) (λ (d : Descriptor). d.named) ds
+        fresh = λ s none. absurd (none-some s none);
+        maker = λ x none. absurd (no_number x none);
+        doings = λ has passes t absent.
+            let tells = tells_file (release_hints (names_of ds) w.objects ++ noted pid exit_note ∷ []) in
+            same-released has t (names_of ds) w.objects (noted pid exit_note ∷ []) absent passes.told
+            (All-map (λ n. All (λ t. has t ≡ true) (targets_left tells (Some n))) (λ (d : Descriptor). d.named) ds
             (All-both (λ (d : Descriptor). has_pair d.pid d.number (pairs_of ds) ≡ true) (λ (d : Descriptor). named_among d.pid d.number w.table ≡ Some d.named)
-            (λ (d : Descriptor). All (λ t. has t ≡ true) (targets_named (Some d.named)))
-            (λ d shut found. subst (λ x. All (λ t. has t ≡ true) (targets_named x)) found (passes.closed d.pid d.number shut))
-            ds (pairs-there ds) (All-filter (λ (d : Descriptor). d.pid == pid) (λ (d : Descriptor). named_among d.pid d.number w.table ≡ Some d.named) w.table (named-rising w.table rising))))
-            passes.told;
+            (λ (d : Descriptor). All (λ t. has t ≡ true) (targets_left tells (Some d.named)))
+            (λ d shut found. subst (λ x. All (λ t. has t ≡ true) (targets_left tells x)) found (passes.closed d.pid d.number shut))
+            ds (pairs-there ds) (All-filter (λ (d : Descriptor). d.pid == pid) (λ (d : Descriptor). named_among d.pid d.number w.table ≡ Some d.named) w.table (named-rising w.table rising))));
       })
 
   -- ---- records that say something and do nothing
@@ -371,5 +412,5 @@ module _ (opens numbers : List (ℕ × ℕ)) (targets : List Target) (w : World 
   pub file-within : (place number : ℕ) (a : Act) → act_targets place a ≡ target.File number ∷ [] → has_target (target.File number) targets ≡ true → Stays (plan_act place [] a w)
   file-within place number a names there =
       act-within [] place a (All-nil _)
-      (λ has p _ passes. subst (λ ts. All (λ t. has t ≡ true) ts) (sym names)
+      (λ has p _ _ passes. subst (λ ts. All (λ t. has t ≡ true) ts) (sym names)
       (All-cons (λ t. has t ≡ true) (target.File number) [] (spoken-passes has number targets passes.spoken there) (All-nil _)))

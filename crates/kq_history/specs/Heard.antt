@@ -1,5 +1,5 @@
 -- What was heard of one record more: nothing of an impossible one.
-use Rattle.std.specs.Prelude.{◌≡◌, ℕ, ◌++◌, List, Result, Ok, Err}
+use Rattle.std.specs.Prelude.{◌≡◌, ℕ, Bool, ◌++◌, List, Result, Ok, Err}
 use Rattle.kq_model.specs.declared.event.Event.{Event}
 use Rattle.kq_model.specs.declared.why.Why.{Why}
 use Rattle.kq_model.specs.Objects.{counted}
@@ -7,18 +7,22 @@ use Rattle.kq_model.specs.World.{World, views_of}
 use Rattle.kq_process.specs.declared.effect.Effect.{Effect}
 use Rattle.kq_history.specs.declared.item.Item.{Item}
 use Rattle.kq_history.specs.declared.kqueues.Kqueues.{Kqueues}
+use Rattle.kq_history.specs.Kept.{heard_closes}
 use Rattle.kq_history.specs.Said.{said_items, AreHeard}
 use Rattle.kq_history.specs.Sayings.{born_of, call_by, clock_of, kqueue_of}
 
 -- ---- what it says, with the world before it
 
-abbrev pub AreSaidBy : Result (Unit {0}) Why → ℕ → Event → Effect → World counted → List Item → List Item → Type 0
-AreSaidBy (Err why) place e effect before old new = new ≡ old
-AreSaidBy (Ok done) place e effect before old new =
-    new ≡ old ++ said_items place effect.closed effect.hints (clock_of e before.now) (kqueue_of e before)
+-- where `silent` says whether its closes concern no kqueue
+abbrev pub AreSaidBy : Result (Unit {0}) Why → Bool → ℕ → Event → Effect → World counted → List Item → List Item
+    → Type 0
+AreSaidBy (Err why) silent place e effect before old new = new ≡ old
+AreSaidBy (Ok done) silent place e effect before old new =
+    new ≡ old ++ said_items place (heard_closes silent effect.closed) effect.hints (clock_of e before.now)
+    (kqueue_of e before)
 
-abbrev pub AreSaidNext : ℕ → Event → Effect → World counted → List Item → List Item → Type 0
-AreSaidNext place e effect before old new = AreSaidBy effect.verdict place e effect before old new
+abbrev pub AreSaidNext : Bool → ℕ → Event → Effect → World counted → List Item → List Item → Type 0
+AreSaidNext silent place e effect before old new = AreSaidBy effect.verdict silent place e effect before old new
 
 -- ---- the kqueue that it makes or calls, with the worlds before it and after it
 

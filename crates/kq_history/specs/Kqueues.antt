@@ -1,5 +1,6 @@
 -- The kqueues that a trace makes: by rising place, each with its owner and the sources of what concerns it.
-use Rattle.std.specs.Prelude.{◌≡◌, ◌≢◌, ◌<◌, ◌||◌, ℕ, false, List, [], ◌∷◌, length, slice_index, slice_index_or}
+use Rattle.std.specs.Prelude.{◌≡◌, ◌≢◌, ◌<◌, ◌==◌, ◌||◌, nat_eq, ℕ, false, List, [], ◌∷◌, length, slice_index, slice_index_or}
+use Rattle.std.specs.HashSet.{contains}
 use Rattle.std.specs.List.{list_any}
 use Rattle.kq_model.specs.declared.change.Change.{Change}
 use Rattle.kq_model.specs.Followers.{asks_to_follow}
@@ -46,3 +47,8 @@ pub record IsNamedAt (place : ℕ) (views : Views) (changes : List Change) (old 
       ≡ ((slice_index_or old.concerned.items index c).follows || list_any asks_to_follow changes)
   pub others : (index : ℕ) (c : Concerned) → slice_index old.places.items index ≢ place
       → slice_index_or new.concerned.items index c ≡ slice_index_or old.concerned.items index c
+
+-- the owner is one of those who made kqueues
+abbrev pub HasMaker : ℕ → Kqueues → Kqueues → Type 0
+HasMaker owner old new =
+    (pid : ℕ) → contains nat_eq new.owners pid ≡ ((owner == pid) || contains nat_eq old.owners pid)

@@ -6,6 +6,7 @@ pub mod Shelves
 pub mod Steps
 pub mod Log
 pub mod Sources
+pub mod Kept
 pub mod Kqueues
 pub mod Concerned
 pub mod Children

@@ -1,5 +1,6 @@
 -- What the records of a trace say to kqueues, as far as it was gone through.
-use Rattle.std.specs.Prelude.{◌≡◌, ◌<◌, ℕ, ◌+◌, List, [], ◌∷◌, ◌++◌, length, map, All, Option, Some, None}
+use Rattle.std.specs.Prelude.{◌≡◌, ◌<◌, ℕ, ◌+◌, nat_eq, Bool, List, [], ◌∷◌, ◌++◌, length, map, All, Option, Some, None}
+use Rattle.std.specs.HashSet.{contains}
 use Rattle.kq_model.specs.Births.{Birth}
 use Rattle.kq_model.specs.Clock.{Span}
 use Rattle.kq_model.specs.Close.{Pair}
@@ -19,10 +20,11 @@ use Rattle.kq_history.specs.declared.kqueues.Kqueues.{Kqueues}
 use Rattle.kq_history.specs.declared.log.Log.{Log}
 use Rattle.kq_history.specs.declared.said.Said.{Said}
 use Rattle.kq_history.specs.Items.{bare_items, has_source}
-use Rattle.kq_history.specs.Kqueues.{IsNamedAt, IsNew}
+use Rattle.kq_history.specs.Kept.{has_owner, is_kept, SaysAll}
+use Rattle.kq_history.specs.Kqueues.{HasMaker, IsNamedAt, IsNew}
 use Rattle.kq_history.specs.Log.{AreShelved}
 use Rattle.kq_history.specs.Sources.{AreKnown, named_sources}
-use Rattle.kq_history.specs.Traced.{Traced, births_of, moments_of, places_of}
+use Rattle.kq_history.specs.Traced.{Traced, births_of, moments_of, places_of, world_at_end}
 
 -- ---- one record
 
@@ -45,8 +47,9 @@ abbrev pub AreHeard : ℕ → Option Pair → Option Call → Views → Kqueues 
 AreHeard place (Some p) call views old new =
     (new.places.items ≡ old.places.items ++ place ∷ [])
     × ((c : Concerned) × IsNew place p.pid c × (new.concerned.items ≡ old.concerned.items ++ c ∷ []))
+    × HasMaker p.pid old new
 AreHeard place None (Some c) views old new =
-    (new.places.items ≡ old.places.items) × IsNamedAt c.kqueue views c.changes old new
+    (new.places.items ≡ old.places.items) × IsNamedAt c.kqueue views c.changes old new × (new.owners ≡ old.owners)
 AreHeard place None None views old new = new ≡ old
 
 -- ---- all records so far
@@ -70,18 +73,23 @@ AreNamedBy ms (b ∷ bs) (c ∷ cs) = IsNamedBy ms b c × AreNamedBy ms bs cs
 abbrev pub CallsBelow : ℕ → Moment → Type 0
 CallsBelow next m = (c : Call) → m.call ≡ Some c → c.kqueue < next
 
--- these, behind what came before them, are all that they say
+-- whose closes may concern a kqueue
+abbrev pub kept_by : Traced → ℕ → Bool
+kept_by t = is_kept (births_of t) (world_at_end t).processes
+
+-- these, behind what came before them, say all that they say
 abbrev pub AreAllSaid : List Item → Traced → List Item → Type 0
-AreAllSaid before t items = before ++ items ≡ bare_items (all_items (moments_of t))
+AreAllSaid before t items = SaysAll (kept_by t) (bare_items (all_items (moments_of t))) (before ++ items)
 
 -- the log has all that they say
 pub record IsLogged (t : Traced) (l : Log) : Type 0 where
-  pub items : l.items.items ≡ bare_items (all_items (moments_of t))
+  pub items : SaysAll (kept_by t) (bare_items (all_items (moments_of t))) l.items.items
   pub shelved : AreShelved l.items.items l.shelves.table
 
 -- these are their kqueues, with what concerns each
 pub record AreTheKqueues (t : Traced) (k : Kqueues) : Type 0 where
   pub births : k.places.items ≡ places_of t
+  pub owners : (pid : ℕ) → contains nat_eq k.owners pid ≡ has_owner pid (births_of t)
   pub concerned : AreNamedBy (moments_of t) (births_of t) k.concerned.items
   pub calls : All (CallsBelow (length t.events + 1)) (moments_of t)
 

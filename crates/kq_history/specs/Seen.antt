@@ -1,5 +1,5 @@
 -- What was seen of a world after each place; and when that is what a trace's worlds show.
-use Rattle.std.specs.Prelude.{◌≡◌, ◌≤◌, ◌++◌, ℕ, List, [], Option, None}
+use Rattle.std.specs.Prelude.{◌≡◌, ◌≤◌, ℕ, Bool, List, [], Option, None}
 use Rattle.std.specs.HashMap.{HashMap}
 use Rattle.kq_model.specs.declared.object.Named.{Named}
 use Rattle.kq_model.specs.declared.object.Target.{Target}
@@ -11,7 +11,7 @@ use Rattle.kq_history.specs.Keys.{pair_eq}
 use Rattle.kq_history.specs.Sights.{NotedViews, view_by}
 use Rattle.kq_history.specs.Timeline.{value_at}
 use Rattle.kq_history.specs.Timelines.{marks_at}
-use Rattle.kq_history.specs.Touched.{targets_named}
+use Rattle.kq_history.specs.Touched.{targets_left}
 
 -- what its marks give at a place, and of targets what was noted of them, with its sights behind that; before all of
 -- them the world was empty
@@ -22,11 +22,9 @@ seen_by n s place = record {
   now = value_at place 0 s.clock;
 }
 
--- the targets that a number names by its marks at a place, and in a world of these views
-abbrev pub named_around : {S : Type 0} → HashMap (ℕ × ℕ) (List (Mark (Option Named))) S → ℕ → Views → ℕ × ℕ
-    → List Target
-named_around table place after p =
-    targets_named (value_at place None (marks_at pair_eq table p)) ++ targets_named (after.descriptor p.0 p.1)
+-- of what a number names by its marks at a place, what may have ended
+abbrev pub left_by : {S : Type 0} → HashMap (ℕ × ℕ) (List (Mark (Option Named))) S → ℕ → Bool → ℕ × ℕ → List Target
+left_by table place tells p = targets_left tells (value_at place None (marks_at pair_eq table p))
 
 -- at every place what was seen is what these worlds show, whose clock is within its range
 pub record Shows (worlds seen : ℕ → Views) : Type 0 where

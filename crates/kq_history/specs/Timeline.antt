@@ -1,5 +1,6 @@
 -- A value that changes from place to place: what it was before all marks, and from each mark on what the mark says.
-use Rattle.std.specs.Prelude.{ℕ, nat_le, List, [], ◌∷◌, Bool, if◌then◌else◌, ◌≤◌, All}
+use Rattle.std.specs.Prelude.{◌≡◌, ℕ, nat_le, List, [], ◌∷◌, Bool, true, false, if◌then◌else◌, ◌≤◌, All}
+use Rattle.std.specs.List.Sorted.{IsPartitionPoint}
 use Rattle.kq_history.specs.declared.timeline.Mark.{Mark}
 
 module _ {V : Type 0} where
@@ -23,3 +24,9 @@ module _ {V : Type 0} where
   -- no mark is later
   abbrev pub IsUpTo : ℕ → List (Mark V) → Type 0
   IsUpTo place ms = All (λ (m : Mark V). m.place ≤ place) ms
+
+  -- so many marks are at the place or before it
+  abbrev pub HaveBegun : ℕ → ℕ → List (Mark V) → Type 0
+  HaveBegun place count ms =
+      IsPartitionPoint (λ (m : Mark V). nat_le m.place place ≡ true) (λ (m : Mark V). nat_le m.place place ≡ false) ms
+      count

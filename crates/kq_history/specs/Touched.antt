@@ -1,7 +1,7 @@
 -- What may be another one after a record: the numbers that it closed or opens, and those of a process that it
--- started; what these name before it and after it, whom it told, what it speaks of, and what the numbers that it
--- speaks of name after it.
-use Rattle.std.specs.Prelude.{◌≡◌, ℕ, ◌==◌, Bool, true, ◌&&◌, List, [], ◌∷◌, ◌++◌, map, Option, Some, None}
+-- started; whom it told, what it speaks of, what the numbers that it speaks of name after it, and what may have ended
+-- with those that it closed. A descriptor more alters nothing that is seen.
+use Rattle.std.specs.Prelude.{◌≡◌, ℕ, ◌==◌, Bool, true, false, ◌&&◌, List, [], ◌∷◌, ◌++◌, map, Option, Some, None, if◌then◌else◌}
 use Rattle.std.specs.List.{flat_map, list_any}
 use Rattle.kq_model.specs.declared.event.Event.{Event}
 use Rattle.kq_model.specs.declared.object.Named.{Named}
@@ -50,22 +50,39 @@ targets_named (Some (named.PipeWrite place)) = target.Pipe place ∷ []
 targets_named (Some (named.Open place file)) = target.Open place ∷ target.File file ∷ []
 targets_named (Some (named.Kqueue place)) = []
 
--- by a number, in both worlds
-abbrev pub targets_of : Views → Views → ℕ × ℕ → List Target
-targets_of before after p = targets_named (before.descriptor p.0 p.1) ++ targets_named (after.descriptor p.0 p.1)
-
 abbrev pub told_targets : List Posted → List Target
 told_targets hints = map (λ (p : Posted). p.0) hints
+
+unfoldable pub is_file : Target → Bool
+is_file (target.File number) = true
+is_file _ = false
+
+-- one of them is for a file
+abbrev pub tells_file : List Posted → Bool
+tells_file hints = list_any (λ (p : Posted). is_file p.0) hints
+
+-- of what a number named that is closed: a socket, and where a file is told, a description, which may have ended; of a
+-- pipe the end of an end is told
+abbrev pub targets_left : Bool → Option Named → List Target
+targets_left tells None = []
+targets_left tells (Some (named.Socket place)) = target.Socket place ∷ []
+targets_left tells (Some (named.PipeRead place)) = []
+targets_left tells (Some (named.PipeWrite place)) = []
+targets_left tells (Some (named.Open place file)) = if tells then target.Open place ∷ [] else []
+targets_left tells (Some (named.Kqueue place)) = []
+
+-- by a number, in the world before
+abbrev pub left_of : Bool → Views → ℕ × ℕ → List Target
+left_of tells before p = targets_left tells (before.descriptor p.0 p.1)
 
 -- by these numbers, in one world
 abbrev pub all_named : Views → List (ℕ × ℕ) → List Target
 all_named views numbers = flat_map (λ (p : ℕ × ℕ). targets_named (views.descriptor p.0 p.1)) numbers
 
--- besides those that the numbers name which it touches; a number that it speaks of and does not touch names the same
--- before it and after it
+-- besides what may have ended
 abbrev pub other_targets : Event → List Posted → Views → List Target
 other_targets e hints after = told_targets hints ++ (spoken_targets e ++ all_named after (spoken_numbers e))
 
 abbrev pub touched_targets : Event → List Posted → Views → Views → List (ℕ × ℕ) → List Target
 touched_targets e hints before after numbers =
-    flat_map (targets_of before after) numbers ++ other_targets e hints after
+    flat_map (left_of (tells_file hints) before) numbers ++ other_targets e hints after

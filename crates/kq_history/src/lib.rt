@@ -4,11 +4,13 @@
 
 mod answering;
 mod at;
+mod guesses;
 mod hearing;
 mod item;
 mod items;
 mod kqueues;
 mod log;
+mod looking;
 mod naming;
 mod noting;
 mod plain;
@@ -30,7 +32,9 @@ mod weave;
 
 pub use answering::Answering;
 pub use at::HistoryAt;
+pub use guesses::Guesses;
 pub use item::{Item, Source, What};
+pub use looking::Looking;
 pub use private::Private;
 pub use split::{Spent, Split};
 pub use splitting::Splitting;

@@ -1,4 +1,5 @@
-ghost use Rattle.std.specs.Prelude.{◌≡◌, ◌++◌, length, map, OnOk};
+ghost use Rattle.std.specs.Prelude.{◌≡◌, ◌++◌, nat_eq, length, map, OnOk};
+ghost use Rattle.std.specs.HashSet.{contains};
 ghost use Rattle.std.specs.List.Sorted.{IsStrictlyIncreasing};
 ghost use Rattle.kq_model.specs.Items.{clock_whats, Closed, Told};
 ghost use Rattle.kq_model.specs.Objects.{counted};
@@ -7,6 +8,7 @@ ghost use Rattle.kq_model.specs.World.{views_of};
 ghost use Rattle.kq_process.specs.Effects.{pairs_in};
 ghost use Rattle.kq_process.specs.World.{world_of};
 ghost use Rattle.kq_history.specs.Heard.{AreSaidNext};
+ghost use Rattle.kq_history.specs.Kept.{heard_closes, is_silent};
 ghost use Rattle.kq_history.specs.Said.{called_items, said_items, said_whats, AreHeard};
 ghost use Rattle.kq_history.specs.Sayings.{born_of, call_by, clock_of, kqueue_of};
 
@@ -24,22 +26,36 @@ pub struct Said {
     pub(crate) kqueues: Kqueues,
 }
 
-/// What is asked of the world before a record: the clock, and which kqueue the record calls.
+/// What is asked before a record: the clock, which kqueue the record calls, and whether its closes concern no kqueue.
 #[derive(Drop, Clone, Copy)]
 pub struct Before {
     pub clock: u64,
     pub kqueue: Option<u64>,
+    pub silent: bool,
 }
 
 impl Before {
-    pub fn of(event: &Event, world: &World) -> Self
+    pub fn of(event: &Event, world: &World, kqueues: &Kqueues) -> Self
         ensures clock { result.clock ≡ (world_of world.now).now }
         ensures kqueue { result.kqueue ≡ kqueue_of event.now (world_of world.now) }
+        ensures silent { result.silent ≡ is_silent event.now (contains nat_eq kqueues.now.owners) }
     {
         Before {
             clock: world.now() as u64,
             kqueue: called(event, world),
+            silent: is_silent(event, kqueues),
         }
+    }
+}
+
+/// Whether the closes of a record concern no kqueue: a process exits that made none. Its pid is not used again.
+#[tactic(auto, unfolding(crate::specs::Kept::is_silent))]
+fn is_silent(event: &Event, kqueues: &Kqueues) -> bool
+    ensures { result ≡ is_silent event.now (contains nat_eq kqueues.now.owners) }
+{
+    match event {
+        Event::Exit { pid, .. } => !kqueues.has_owner(*pid),
+        _ => false,
     }
 }
 
@@ -67,7 +83,7 @@ pub fn say(
 ) -> Result<(), Memory>
     ensures { OnOk result ((old : model.World counted) → before.clock ≡ old.now
         → before.kqueue ≡ kqueue_of event.now old
-        → AreSaidNext place event.now effect.now old items.old.list.items items.new.list.items) }
+        → AreSaidNext before.silent place event.now effect.now old items.old.list.items items.new.list.items) }
 {
     match effect.verdict {
         Err(_) => Ok(()),
@@ -84,12 +100,29 @@ fn say_record(
     before: Before,
 ) -> Result<(), Memory>
     ensures { OnOk result (items.new.list.items ≡ items.old.list.items
-        ++ said_items place effect.now.closed effect.now.hints (clock_of event.now before.clock) before.kqueue) }
+        ++ said_items place (heard_closes before.silent effect.now.closed) effect.now.hints
+        (clock_of event.now before.clock) before.kqueue) }
 {
-    push_closed(items, place, effect.closed.as_slice())?;
+    push_closes(items, place, effect.closed.as_slice(), before.silent)?;
     push_told(items, place, effect.hints.as_slice())?;
     push_clock(items, place, event, before.clock)?;
     push_call(items, place, before.kqueue)
+}
+
+/// Adds the closes of a record, unless they concern no kqueue.
+fn push_closes(
+    items: &mut Items,
+    place: u64,
+    closed: &[(u32, u32)],
+    silent: bool,
+) -> Result<(), Memory>
+    ensures { OnOk result (items.new.list.items
+        ≡ items.old.list.items ++ said_whats place (map Closed (pairs_in (heard_closes silent closed.now)))) }
+{
+    if silent {
+        return Ok(());
+    }
+    push_closed(items, place, closed)
 }
 
 fn push_closed(items: &mut Items, place: u64, closed: &[(u32, u32)]) -> Result<(), Memory>

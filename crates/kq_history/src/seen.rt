@@ -4,16 +4,16 @@ ghost use Rattle.kq_model.specs.Ticks.{last_moment};
 ghost use Rattle.kq_model.specs.Views as model;
 ghost use Rattle.kq_history.specs.Noted.{AreAllUpTo, IsNextWorld};
 ghost use Rattle.kq_history.specs.Keys.{pair_eq};
-ghost use Rattle.kq_history.specs.Seen.{named_around, IsBlank, seen_by, Shows};
+ghost use Rattle.kq_history.specs.Seen.{left_by, IsBlank, seen_by, Shows};
 ghost use Rattle.kq_history.specs.Sights.{NotedViews};
 ghost use Rattle.kq_history.specs.Timeline.{value_at};
 ghost use Rattle.kq_history.specs.Timelines.{marks_at, AreUpTo};
-ghost use Rattle.kq_history.specs.Touched.{has_number, targets_of, AreAmong};
+ghost use Rattle.kq_history.specs.Touched.{has_number, left_of, AreAmong};
 
 use crate::sights::Sights;
 use crate::timeline::Timeline;
 use crate::timelines::Timelines;
-use crate::touched::add_both;
+use crate::touched::add_left;
 use kq_filters::Views;
 use kq_model::{Memory, Named, Target};
 use std::alloc::Global;
@@ -40,13 +40,14 @@ impl Seen {
     }
 
     /// Notes the world after the record of a place: of the numbers that the record touched, where
-    /// they name something else; of the targets that it touched and of those that these numbers name
-    /// before it and after it, which it adds to the others; and of the clock. After Memory nothing is
+    /// they name something else; of the targets that it touched and of what may have ended of those that these numbers
+    /// named, which it adds to the others; and of the clock. `tells` is whether it told a file. After Memory nothing is
     /// known.
     pub fn note<V: Views>(
         &mut self,
         place: u64,
         numbers: &[(u32, u32)],
+        tells: bool,
         targets: &mut Vec<Target>,
         views: &V,
     ) -> Result<(), Memory>
@@ -55,11 +56,10 @@ impl Seen {
             → AreAllUpTo noted place self.new) }
         ensures shows { OnOk result ((noted : NotedViews) (worlds next : ℕ → model.Views)
             → IsNextWorld place (V.sees views.now) numbers.now
-            (flat_map (targets_of (seen_by noted self.old place) (V.sees views.now)) numbers.now
-            ++ targets.old.items) worlds next
+            (flat_map (left_of tells (seen_by noted self.old place)) numbers.now ++ targets.old.items) worlds next
             → Shows worlds (seen_by noted self.old) → Shows next (seen_by noted self.new)) }
     {
-        note_numbers(&mut self.numbers, place, numbers, targets, views)?;
+        note_numbers(&mut self.numbers, place, numbers, tells, targets, views)?;
         self.sights.add(place, targets.as_slice(), views)?;
         self.clock.note(place, 0, moment_of(views))?;
         Ok(())
@@ -74,11 +74,12 @@ fn moment_of<V: Views>(views: &V) -> u64
     views.now() as u64
 }
 
-/// What these numbers name, and the targets that they name before the place and after it.
+/// What these numbers name, and the targets that may have ended of those that they named before the place.
 fn note_numbers<V: Views>(
     timelines: &mut Timelines<(u32, u32), Option<Named>>,
     place: u64,
     numbers: &[(u32, u32)],
+    tells: bool,
     targets: &mut Vec<Target>,
     views: &V,
 ) -> Result<(), Memory>
@@ -90,13 +91,12 @@ fn note_numbers<V: Views>(
         then (V.sees views.now).descriptor pid number
         else value_at at None (marks_at pair_eq timelines.old.table (pid, number)))) }
     ensures named { OnOk result (AreAmong
-        (flat_map (named_around timelines.old.table place (V.sees views.now)) numbers.now ++ targets.old.items)
-        targets.new.items) }
+        (flat_map (left_by timelines.old.table place tells) numbers.now ++ targets.old.items) targets.new.items) }
 {
     for number in numbers {
         let named = views.descriptor(number.0, number.1);
         let had = timelines.note(*number, place, None, named)?;
-        add_both(targets, had, named)?;
+        add_left(targets, tells, had)?;
     }
     Ok(())
 }

@@ -2,12 +2,14 @@ ghost use Rattle.std.specs.Prelude.{◌≡◌, pos, IfOk};
 
 use crate::answering::Answering;
 use crate::at::HistoryAt;
+use crate::guesses::Guesses;
 use crate::item::Source;
+use crate::looking::Looking;
 use crate::private::Private;
 use crate::said::Said;
 use crate::splitting::Splitting;
 use crate::timeline::Timeline;
-use crate::timelines::Timelines;
+use crate::timelines::{Found, Timelines};
 use kq_model::{Event, Memory, Named, Row, Target, Trace, View};
 use std::alloc::Global;
 use std::marker::Model;
@@ -148,11 +150,36 @@ impl<'a> Split<'a> {
         HistoryAt { split: self, place }
     }
 
+    /// The same, for a kqueue that goes from place to place: a look at a target costs a constant where few marks came
+    /// since its last one.
+    pub fn looking<'g, 's>(&'s self, place: u64, guesses: &'g Guesses) -> Looking<'g, 's, 'a>
+        ensures split { result.split.now ≡ self.now }
+        ensures place { result.place ≡ place }
+    {
+        Looking {
+            split: self,
+            place,
+            guesses,
+        }
+    }
+
     /// What is seen of a target after a place.
     pub(crate) fn view(&self, place: u64, target: Target) -> Option<View>
         ensures { result ≡ (seen_at self.now place).view target }
     {
         self.views.at(target, place, None)
+    }
+
+    /// The same, and where it was found, of which one has a guess.
+    pub(crate) fn view_from(
+        &self,
+        place: u64,
+        target: Target,
+        guess: Found,
+    ) -> (Option<View>, Found)
+        ensures { result.0 ≡ (seen_at self.now place).view target }
+    {
+        self.views.at_from(target, place, None, guess)
     }
 
     /// What a number of a process names after a place.

@@ -1,5 +1,5 @@
-ghost use Rattle.std.specs.Prelude.{◌≡◌, ◌++◌, ◌∷◌, [], not, IfOk, OnOk, OnErr};
-ghost use Rattle.kq_history.specs.Timeline.{last_value, mark, marked, value_at, IsUpTo};
+ghost use Rattle.std.specs.Prelude.{◌≡◌, ◌≤◌, ◌++◌, ◌∷◌, [], true, not, ℕ, length, IfOk, OnOk, OnErr};
+ghost use Rattle.kq_history.specs.Timeline.{last_value, mark, marked, value_at, HaveBegun, IsUpTo};
 
 use kq_model::Memory;
 use std::alloc::Global;
@@ -7,6 +7,9 @@ use std::marker::Model;
 
 /// Most timelines have so many marks.
 const MARKS_OF_MOST: usize = 2;
+
+/// So many counts are tried from a guess on, before there is a search.
+const FEW_COUNTS: usize = 6;
 
 /// From this place on the value is another one.
 #[derive(Debug, Drop, Clone, Copy)]
@@ -103,10 +106,63 @@ impl<V> Timeline<V> {
         V: Copy + Drop,
         ensures { result ≡ value_at place before self.now }
     {
-        let count = self.marks.partition_point(|mark| mark.place <= place);
+        self.behind(self.count_at(place), before)
+    }
+
+    /// The same, and how many marks are at the place or before it, of which one has a guess. It costs a constant
+    /// where the guess is right or a little too small, else a search.
+    pub fn at_from(&self, place: u64, before: V, guess: usize) -> (V, usize)
+    where
+        V: Copy + Drop,
+        ensures { result.0 ≡ value_at place before self.now }
+    {
+        let count = self.count_from(place, guess);
+        (self.behind(count, before), count)
+    }
+
+    /// The value behind so many marks, else the value before all of them.
+    fn behind(&self, count: usize, before: V) -> V
+    where
+        V: Copy + Drop,
+        requires { count ≤ length self.now }
+        ensures { (place : ℕ) → HaveBegun place count self.now → result ≡ value_at place before self.now }
+    {
         if count == 0 {
             return before;
         }
         self.marks[count - 1].value
+    }
+
+    /// How many marks are at the place or before it.
+    fn count_at(&self, place: u64) -> usize
+        ensures within { result ≤ length self.now }
+        ensures begun { HaveBegun place result self.now }
+    {
+        self.marks.partition_point(|mark| mark.place <= place)
+    }
+
+    /// The same, where one has a guess.
+    fn count_from(&self, place: u64, guess: usize) -> usize
+        ensures within { result ≤ length self.now }
+        ensures begun { HaveBegun place result self.now }
+    {
+        for count in guess..guess.saturating_add(FEW_COUNTS) {
+            if self.have_begun(count, place) {
+                return count;
+            }
+        }
+        self.count_at(place)
+    }
+
+    /// Whether so many marks are at the place or before it.
+    fn have_begun(&self, count: usize, place: u64) -> bool
+        ensures within { result ≡ true → count ≤ length self.now }
+        ensures begun { result ≡ true → HaveBegun place count self.now }
+    {
+        let marks = self.marks.as_slice();
+        if count > marks.len() || (count > 0 && marks[count - 1].place > place) {
+            return false;
+        }
+        count == marks.len() || marks[count].place > place
     }
 }

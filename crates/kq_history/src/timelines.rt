@@ -1,18 +1,25 @@
-ghost use Rattle.std.specs.Prelude.{◌≡◌, ◌++◌, ◌&&◌, [], not, IfOk, OnOk};
+ghost use Rattle.std.specs.Prelude.{◌≡◌, ◌++◌, ◌&&◌, [], not, IfNone, IfOk, IfSome, OnOk};
 ghost use Rattle.kq_history.specs.Timeline.{last_value, marked, value_at};
 ghost use Rattle.kq_history.specs.Timelines.{marks_at, AreUpTo};
 
 use crate::timeline::Timeline;
+use indexmap::IndexMap;
 use kq_model::Memory;
 use std::alloc::Global;
-use std::collections::HashMap;
 use std::hash::Hash;
+
+/// Where the value of a key was found: at its timeline, behind so many marks.
+#[derive(Drop, Clone, Copy, Default)]
+pub struct Found {
+    pub line: usize,
+    pub count: usize,
+}
 
 /// A timeline for each key. Contracts see the marks of each, which are none for a key that was
 /// never marked.
 #[derive(Drop)]
 pub struct Timelines<K: Copy + Eq + Hash, V> {
-    pub(crate) table: HashMap<K, Timeline<V>>,
+    pub(crate) table: IndexMap<K, Timeline<V>>,
     alloc: Global,
 }
 
@@ -22,7 +29,7 @@ impl<K: Copy + Eq + Hash, V: Copy + Drop> Timelines<K, V> {
         ensures { (key : K) → marks_at K.eq result.table key ≡ [] }
     {
         Timelines {
-            table: HashMap::new(alloc),
+            table: IndexMap::new(alloc),
             alloc,
         }
     }
@@ -35,6 +42,34 @@ impl<K: Copy + Eq + Hash, V: Copy + Drop> Timelines<K, V> {
             Some(timeline) => timeline.at(place, before),
             None => before,
         }
+    }
+
+    /// The same, and where it was found, of which one has a guess. It costs a constant where the guess is right, or
+    /// a few marks behind, else two searches.
+    pub fn at_from(&self, key: K, place: u64, before: V, guess: Found) -> (V, Found)
+        ensures { result.0 ≡ value_at place before (marks_at K.eq self.now.table key) }
+    {
+        match self.find(key, guess.line) {
+            None => (before, guess),
+            Some((line, timeline)) => {
+                let (value, count) = timeline.at_from(place, before, guess.count);
+                (value, Found { line, count })
+            }
+        }
+    }
+
+    /// The timeline of a key, if it has one, and its number, of which one has a guess.
+    fn find(&self, key: K, guess: usize) -> Option<(usize, &Timeline<V>)>
+        ensures none { IfNone result (marks_at K.eq self.now.table key ≡ []) }
+        ensures some { IfSome result (λ p. p.1.now ≡ marks_at K.eq self.now.table key) }
+    {
+        if let Some((there, timeline)) = self.table.get_index(guess) {
+            if *there == key {
+                return Some((guess, timeline));
+            }
+        }
+        let (line, _, timeline) = self.table.get_full(&key)?;
+        Some((line, timeline))
     }
 
     /// From this place on a key has this value; what it had is returned, which is `before` where it

@@ -5,7 +5,8 @@ ghost use Rattle.kq_model.specs.World.{views_of};
 ghost use Rattle.kq_history.specs.Spoken.{file_targets, option_list, process_targets};
 ghost use Rattle.kq_history.specs.Spoken.{spoken_numbers, spoken_targets};
 ghost use Rattle.kq_history.specs.Touched.{all_named, keys_of, open_numbers, touched_numbers};
-ghost use Rattle.kq_history.specs.Touched.{other_targets, targets_named, told_targets, AreAmong};
+ghost use Rattle.kq_history.specs.Touched.{is_file, other_targets, targets_left, targets_named};
+ghost use Rattle.kq_history.specs.Touched.{tells_file, told_targets, AreAmong};
 ghost use Rattle.kq_process.specs.Processes.{descriptors_in};
 ghost use Rattle.kq_process.specs.World.{world_of};
 
@@ -35,7 +36,7 @@ impl Touched {
         }
     }
 
-    /// The numbers that this record touched, and the targets but those that these numbers name, in
+    /// The numbers that this record touched, and the targets but those that ended with numbers, in
     /// place of what another one did. The world is that after the record.
     pub fn fill(&mut self, event: &Event, effect: &Effect, world: &World) -> Result<(), Memory>
         ensures numbers { OnOk result (self.new.numbers.items
@@ -101,8 +102,8 @@ fn push_numbers(
     Ok(())
 }
 
-/// The targets of which something else may be seen after a record, besides those that the numbers
-/// name which it touched: whom it told, what it speaks of, and what its numbers name.
+/// The targets of which something else may be seen after a record, besides those that ended with
+/// numbers: whom it told, what it speaks of, and what its numbers name.
 fn put_targets(
     targets: &mut Vec<Target>,
     event: &Event,
@@ -141,19 +142,37 @@ fn add_by_number(
     }
 }
 
-/// Adds what filters may watch by a number that named one thing and names another.
-pub fn add_both(
-    targets: &mut Vec<Target>,
-    had: Option<Named>,
-    named: Option<Named>,
-) -> Result<(), Memory>
-    ensures { OnOk result (AreAmong (targets_named had ++ targets_named named ++ targets.old.items) targets.new.items) }
+/// Whether a file is told.
+pub fn tells_file(hints: &[(Target, Hint)]) -> bool
+    ensures { result ≡ tells_file hints.now }
 {
-    add_named(targets, had)?;
-    if had == named {
-        return Ok(());
+    hints.iter().any(|told| is_file(told.0))
+}
+
+#[tactic(auto, unfolding(crate::specs::Touched::is_file))]
+fn is_file(target: Target) -> bool
+    ensures { result ≡ is_file target }
+{
+    match target {
+        Target::File(_) => true,
+        _ => false,
     }
-    add_named(targets, named)
+}
+
+/// Adds what may have ended with a number that named this; `tells` is whether a file is told.
+pub fn add_left(targets: &mut Vec<Target>, tells: bool, had: Option<Named>) -> Result<(), Memory>
+    ensures { OnOk result (AreAmong (targets_left tells had ++ targets.old.items) targets.new.items) }
+{
+    match had {
+        Some(Named::Socket(place)) => add(targets, Target::Socket(place)),
+        Some(Named::Open { description, .. }) => {
+            if !tells {
+                return Ok(());
+            }
+            add(targets, Target::Open(description))
+        }
+        None | Some(Named::PipeRead(_) | Named::PipeWrite(_) | Named::Kqueue(_)) => Ok(()),
+    }
 }
 
 /// Adds what filters may watch by what a number names.

@@ -9,7 +9,7 @@ ghost use Rattle.kq_history.specs.Traced.{longer, Traced};
 ghost use Rattle.kq_history.specs.Tracked.{IsFollowed, IsNoted, IsTracked};
 
 use crate::seen::Seen;
-use crate::touched::Touched;
+use crate::touched::{Touched, tells_file};
 use kq_model::{Event, Memory};
 use kq_process::{Effect, World};
 
@@ -69,6 +69,7 @@ fn note(
     seen.note(
         place,
         touched.numbers.as_slice(),
+        tells_file(effect.hints.as_slice()),
         &mut touched.targets,
         world,
     )

@@ -60,7 +60,7 @@ impl Watching {
         ensures { OnOk result ((n : NotedViews) (before : List Item) (t : Traced) → length t.events + 1 ≡ place
             → IsWatchedSoFar n before t self.old → IsWatchedSoFar n before (longer t event.now) self.new) }
     {
-        let before_it = Before::of(event, &self.world);
+        let before_it = Before::of(event, &self.world, &self.kqueues);
         let world = &mut self.world;
         let effect = track(place, event, world, &mut self.seen, &mut self.touched)?;
         say(&mut self.items, place, event, &effect, before_it)?;

@@ -10,13 +10,10 @@ use crate::kept::take_step;
 use crate::machine::Machine;
 use crate::plays::{Draw, Enter, LookAtTicket, PassOn, Raise};
 use crate::rule::{LENGTH, SERVING, SharedTable, TICKET, TableSeat};
-use crate::waiting::Waiting;
+use crate::waiting::{Patience, Waiting};
 use crossbeam_utils::Backoff;
 use kq_model::Memory;
 use std::sync::Wait;
-
-// How many rounds a call spins before it sleeps.
-const SPINS: u32 = 7;
 
 // Draws the next ticket, unless all are drawn.
 pub fn draw<M: Machine, R: Wait>(
@@ -50,7 +47,7 @@ pub fn draw<M: Machine, R: Wait>(
     unreachable!()
 }
 
-// Waits for the turn of the ticket. It spins a little, and then sleeps until the turn is passed on.
+// Waits for the turn of the ticket.
 pub fn await_turn<M: Machine, R: Wait>(
     rt: &R,
     table: &SharedTable<M>,
@@ -63,27 +60,19 @@ pub fn await_turn<M: Machine, R: Wait>(
     ensures seat { IsSameSeat token.old token.new × IsSameView token.old.me.0 token.new.me.0 }
     ensures turn { HasTurn M.leads ticket token.new.me }
 {
-    let backoff = Backoff::new();
-    let mut rounds = 0u32;
+    let mut patience = Patience::new(waiting, ticket);
     for _ in rt.forever() {
-        let key = if rounds < SPINS {
-            None
-        } else {
-            Some(waiting.announce(ticket))
-        };
-        if table.load::<Enter<M>>(token, SERVING) == ticket {
+        let key = patience.announce();
+        let serving = table.load::<Enter<M>>(token, SERVING);
+        if serving == ticket {
             return;
         }
-        match key {
-            Some(key) => key.wait(rt),
-            None => backoff.spin(),
-        }
-        rounds = rounds.saturating_add(1);
+        patience.rest(rt, serving, key);
     }
     unreachable!()
 }
 
-// Takes the step, passes the turn on and wakes who has the next ticket. After `Memory` the history has
+// Takes the step, passes the turn on and wakes who has the next tickets. After `Memory` the history has
 // not got the call.
 pub fn take_turn<M: Machine>(
     table: &SharedTable<M>,

@@ -1,10 +1,19 @@
-//! Where tickets sleep until their turn comes. No proof sees a sleep or a wake. No wake is lost all the same: who
-//! waits announces it and then loads SERVING, and who passes the turn on stores SERVING and then wakes.
+//! How tickets wait until their turn comes. Those whose turn is near spin, and the others sleep. No proof sees a
+//! sleep or a wake. No wake is lost all the same: who waits announces it and then loads SERVING, and who passes the
+//! turn on stores SERVING and then wakes the ticket that has it.
+use crossbeam_utils::Backoff;
 use crossbeam_utils::sync::{EventCount, Key};
 use std::array;
+use std::sync::Wait;
 
 // How many slots there are.
 const SLOTS: usize = 64;
+
+// How many turns ahead a ticket is woken, so that it is awake when its own comes.
+const NEAR: u64 = 2;
+
+// How many rounds a ticket that is near spins before it sleeps: some 1,000 pauses.
+const SPINS: u32 = 20;
 
 /// The slots in which tickets sleep. Tickets that leave the same remainder share one: where one of them
 /// is woken the others look at the turn once more.
@@ -25,14 +34,58 @@ impl Waiting {
         &self.slots[(ticket % SLOTS as u64) as usize]
     }
 
-    /// Announces that the ticket waits. Look at the turn after it, and sleep on the key only where the
-    /// turn has not come. To drop the key takes the announcement back.
-    pub fn announce(&self, ticket: u64) -> Key<'_> {
-        self.slot(ticket).prepare_wait()
+    /// Wakes the ticket that has the turn now, and those whose turn is near. Call it after the turn was
+    /// passed on. It waits for nobody.
+    pub fn wake(&self, ticket: u64) {
+        for ahead in 0..NEAR {
+            self.slot(ticket.wrapping_add(ahead)).notify_all();
+        }
+    }
+}
+
+/// One ticket's wait. In each round `announce`, then look whose turn it is, then `rest`.
+#[derive(Drop)]
+pub struct Patience<'a> {
+    waiting: &'a Waiting,
+    ticket: u64,
+    backoff: Backoff,
+    // rounds that it spins before it sleeps
+    spins: u32,
+}
+
+impl<'a> Patience<'a> {
+    /// A wait that has not begun.
+    pub fn new(waiting: &'a Waiting, ticket: u64) -> Patience<'a> {
+        Patience {
+            waiting,
+            ticket,
+            backoff: Backoff::new(),
+            spins: SPINS,
+        }
     }
 
-    /// Wakes the ticket. Call it after the turn was passed on to it. It waits for nobody.
-    pub fn wake(&self, ticket: u64) {
-        self.slot(ticket).notify_all();
+    /// Announces that the ticket is going to sleep, where it has spun enough. To drop the key takes the
+    /// announcement back.
+    pub fn announce(&self) -> Option<Key<'a>> {
+        if self.spins > 0 {
+            return None;
+        }
+        Some(self.waiting.slot(self.ticket).prepare_wait())
+    }
+
+    /// Rests while `serving` has the turn: sleeps where that was announced, and else spins, or goes to sleep
+    /// in the next round where the turn is far.
+    pub fn rest<R: Wait>(&mut self, rt: &R, serving: u64, key: Option<Key<'a>>) {
+        match key {
+            Some(key) => {
+                key.wait(rt);
+                self.spins = SPINS;
+            }
+            None if self.ticket.wrapping_sub(serving) <= NEAR => {
+                self.backoff.spin();
+                self.spins = self.spins.saturating_sub(1);
+            }
+            None => self.spins = 0,
+        }
     }
 }

@@ -1,12 +1,13 @@
 -- Parts of a report that are put together.
-use Rattle.std.proofs.Common.{Result, Ok, ◌≡◌, List, [], ◌∷◌, ◌++◌, refl, sym, ap, ap₂, subst, ◌∙◌, append_assoc, append-nil}
+use Rattle.std.proofs.Common.{Result, Ok, ◌≡◌, ◌+◌, ◌≤◌, List, [], ◌∷◌, ◌++◌, length, refl, sym, ap, ap₂, subst, ◌∙◌, append_assoc, append-nil, length-append, arith}
 use Rattle.std.specs.Prelude.{flat_map}
 use Rattle.std.specs.List.{AllZip}
 use Rattle.kq_model.specs.declared.memory.Memory.{Memory}
 use Rattle.kq_model.specs.declared.row.Row.{Row}
+use Rattle.kq_model.specs.Report.{call_count}
 use Rattle.kq_merge.specs.Parts.{AreWritten, IsWritten}
-use Rattle.kq_merge.specs.Written.{Written, with_part, written}
-use Rattle.kq_merge.proofs.WrittenRows.{written-behind}
+use Rattle.kq_merge.specs.Written.{Written, nothing_written, with_part, written}
+use Rattle.kq_merge.proofs.WrittenRows.{calls-in-rows, nothing_is, written-behind}
 
 -- What was put together so far was written of the first rows, and the parts ahead were of the others.
 pub record IsPutTogether (rows : List Row) (text : Written) (ahead : List (Result Written Memory)) : Type 0 where
@@ -16,13 +17,13 @@ pub record IsPutTogether (rows : List Row) (text : Written) (ahead : List (Resul
   pub done : text ≡ written before
   pub rest : AreWritten behind ahead
 
-pub nothing_yet : (rows later : List Row) (text : Written) (ahead : List (Result Written Memory)) → text ≡ written rows → AreWritten later ahead
-    → IsPutTogether (rows ++ later) text ahead
-nothing_yet rows later text ahead done all = record {
-  before = rows;
-  behind = later;
+pub nothing_yet : (rows : List Row) (text : Written) (ahead : List (Result Written Memory)) → text ≡ nothing_written → AreWritten rows ahead
+    → IsPutTogether rows text ahead
+nothing_yet rows text ahead none all = record {
+  before = [];
+  behind = rows;
   cut = refl;
-  done = done;
+  done = none ∙ nothing_is;
   rest = all;
 }
 
@@ -45,6 +46,14 @@ pub put_behind : (rows : List Row) (text part : Written) (ahead : List (Result W
     → IsPutTogether rows (with_part text part) ahead
 put_behind rows text part ahead so_far =
     part_behind rows text so_far.before so_far.behind part ahead so_far.rest.0 so_far.cut so_far.done so_far.rest.1 so_far.rest.2
+
+-- there are no more calls than rows
+pub few_calls : (rows : List Row) (text part : Written) (ahead : List (Result Written Memory)) → IsPutTogether rows text (Ok part ∷ ahead)
+    → text.calls + part.calls ≤ length rows
+few_calls rows text part ahead so_far =
+    let next = put_behind rows text part ahead so_far in
+    let calls : text.calls + part.calls ≡ call_count next.before = ap (λ (w : Written). w.calls) next.done in
+    omega (arith, calls, calls-in-rows next.before, ap length next.cut, length-append next.before next.behind)
 
 -- with no part ahead, all rows are written
 no_part : (parts : List (List Row)) → AllZip IsWritten parts [] → flat_map (λ part. part) parts ≡ []

@@ -24,6 +24,18 @@ calls-in-line at (Events es) = some-line (row_data at (codes "events") (events_d
 calls-in-line at (Failed e) = some-line (row_data at (codes "failed") (natural (error_number e)))
 calls-in-line at (Impossible why) = search rules
 
+one_call : (r : Reply) → calls_in r ≤ 1
+unfolding calls_in
+one_call Done = search rules
+one_call (Events es) = search rules
+one_call (Failed e) = search rules
+one_call (Impossible why) = search rules
+
+pub calls-in-rows : (rows : List Row) → call_count rows ≤ length rows
+unfolding call_count
+calls-in-rows [] = search rules
+calls-in-rows (row ∷ rows) = omega (arith, one_call row.reply, calls-in-rows rows)
+
 pub events-in-calls : (r : Reply) (n : ℕ) → n ≡ events_in r → n < 18446744073709551616 → n ≤ calls_in r * 18446744073709551616
 unfolding calls_in events_in
 events-in-calls Done n is lt = omega (arith, is)

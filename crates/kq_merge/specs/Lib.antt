@@ -2,6 +2,5 @@ pub mod ByPlace
 pub mod EventsText
 pub mod Written
 pub mod Parts
-pub mod Rounds
 pub mod Merged
 pub mod AtPlaces

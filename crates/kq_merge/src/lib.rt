@@ -1,14 +1,13 @@
 //! The rows of many kqueues put in order by place, and the text of their report.
 #![tactic(auto)]
 
+mod by_place;
 mod merging;
-mod placing;
 mod report;
-mod rows_ahead;
-mod run;
+mod row_lists;
 
 pub use merging::merge;
 pub use report::{
-    ReportText, calls_in, events_in, put_counts, put_reply, report_by_place, report_text,
+    Pieces, ReportText, calls_in, events_in, put_counts, put_reply, report_by_place, report_text,
 };
-pub use rows_ahead::Merging;
+pub use row_lists::RowLists;

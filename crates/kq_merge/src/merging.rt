@@ -1,19 +1,18 @@
 //! The rows of many kqueues, in order by place.
 
-ghost use Rattle.std.specs.List.{All};
+ghost use Rattle.std.specs.Prelude.{◌≡◌, ◌++◌, IfOk, OnOk};
+ghost use Rattle.std.specs.List.{All, flat_map};
 ghost use Rattle.std.specs.List.Sorted.{IsPermutation};
-ghost use Rattle.std.specs.Prelude.{IfOk};
 ghost use Rattle.kq_merge.specs.ByPlace.{IsOnlyOrder, NeverFall, rows_in};
 
-use crate::rows_ahead::Merging;
+use crate::row_lists::RowLists;
 use kq_model::{Memory, Row, Rows};
 use std::alloc::Global;
 
 /// All rows of these kqueues and the plain rows, each once, by place. The rows of each kqueue, and
 /// the plain ones, stand by place already. Rows of kqueues move; the plain ones are copied.
 ///
-/// Where no place stands twice, their order is the only one by rising place, and no two rows are compared. Each row
-/// moves to its place and out of it.
+/// They are sorted. A report needs no rows in order: [`crate::report_by_place`] moves and sorts none.
 pub fn merge(alloc: Global, kqueues: Vec<Rows>, plain: &[Row]) -> Result<Vec<Row>, Memory>
     requires kqueues { All (λ kqueue. NeverFall kqueue.rows) kqueues.items }
     requires plain { NeverFall plain.now }
@@ -21,6 +20,21 @@ pub fn merge(alloc: Global, kqueues: Vec<Rows>, plain: &[Row]) -> Result<Vec<Row
     ensures by_place { IfOk result (λ rows. NeverFall rows.items) }
     ensures only { IfOk result (λ rows. IsOnlyOrder (rows_in kqueues.items plain.now) rows.items) }
 {
-    let rows = Merging::of(alloc, kqueues, plain)?.into_rows(alloc)?;
+    let RowLists { kqueues, mut plain } = RowLists::of(alloc, kqueues, plain)?;
+    let mut rows = joined(alloc, kqueues)?;
+    rows.append(&mut plain).map_err(|_| Memory)?;
+    rows.sort_unstable_by_key(|row| row.at);
+    Ok(rows)
+}
+
+/// The rows of these kqueues, one list behind the other.
+fn joined(alloc: Global, kqueues: Vec<Rows>) -> Result<Vec<Row>, Memory>
+    ensures { IfOk result (λ rows. rows.items ≡ flat_map (λ k. k.rows) kqueues.items) }
+{
+    let mut rows = Vec::new(alloc);
+    for kqueue in kqueues {
+        let mut list = kqueue.rows.into_vec();
+        rows.append(&mut list).map_err(|_| Memory)?;
+    }
     Ok(rows)
 }

@@ -8,7 +8,7 @@ ghost use Rattle.kq_history.specs.Traced.{event_at};
 ghost use Rattle.kq_replay.specs.Alone.{after_item, after_items, arrived, called, gone_on, heard, unborn};
 ghost use Rattle.kq_replay.specs.Recorded.{IsCallOf, IsClockOf, IsRecorded};
 
-use kq_history::{Item, Split, What};
+use kq_history::{Guesses, Item, Split, What};
 use kq_kevent::Kq;
 use kq_model::{Event, Hint, Memory, Reply, Row, Series, Target};
 use std::marker::Model;
@@ -26,6 +26,7 @@ pub struct Alone<'s, 'a> {
     /// The hints that came there, which are heard together.
     told: Vec<(Target, Hint)>,
     rows: Vec<Row>,
+    guesses: Guesses,
 }
 
 impl<'s, 'a> Model for Alone<'s, 'a> {
@@ -47,19 +48,21 @@ impl<'s, 'a> Model for Alone<'s, 'a> {
 }
 
 impl<'s, 'a> Alone<'s, 'a> {
-    /// A kqueue of this process, before the first record, with room for the rows of so many calls.
-    pub fn new(split: &'s Split<'a>, owner: u32, calls: usize) -> Result<Self, Memory>
+    /// A kqueue of this process, before the first record, which goes over these items later.
+    pub fn new(split: &'s Split<'a>, owner: u32, items: &[Item]) -> Result<Self, Memory>
         ensures { IfOk result (λ a. a ≡ unborn split.now owner) }
     {
         let alloc = split.allocator();
         let version = split.version();
-        let rows = Vec::with_capacity(alloc, calls).map_err(|_| Memory)?;
+        let rows = Vec::with_capacity(alloc, calls_in(items)).map_err(|_| Memory)?;
+        let guesses = Guesses::new(alloc, items.len())?;
         Ok(Alone {
             split,
             place: 0,
             kq: Kq::in_version(alloc, owner, version),
             told: Vec::new(alloc),
             rows,
+            guesses,
         })
     }
 
@@ -120,7 +123,7 @@ impl<'s, 'a> Alone<'s, 'a> {
         if self.told.is_empty() {
             return Ok(());
         }
-        let views = self.split.at(self.place);
+        let views = self.split.looking(self.place, &self.guesses);
         self.kq.reserve_to_follow(self.told.as_slice())?;
         self.kq.notify(self.told.as_slice(), &views);
         self.told.clear();
@@ -190,7 +193,7 @@ impl<'s, 'a> Alone<'s, 'a> {
         let Event::Kevent { changes, room, .. } = event else {
             unreachable!();
         };
-        let views = self.split.at(self.place);
+        let views = self.split.looking(self.place, &self.guesses);
         let reply = self.kq.call(changes.as_slice(), *room, &views)?;
         put_row(&mut self.rows, self.place, reply)
     }
@@ -201,7 +204,7 @@ pub fn rows_alone(split: &Split, owner: u32, items: &[Item]) -> Result<Series<Ro
     requires { All (IsRecorded split.now) items.now }
     ensures { IfOk result (λ rows. rows ≡ (after_items items.now (unborn split.now owner)).rows) }
 {
-    let mut alone = Alone::new(split, owner, calls_in(items))?;
+    let mut alone = Alone::new(split, owner, items)?;
     alone.go_over(items)?;
     Ok(alone.into_rows())
 }

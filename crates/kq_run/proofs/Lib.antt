@@ -1,2 +1,3 @@
 pub mod LiveFaults
 pub mod ReplayedTraces
+pub mod PiecesWritten

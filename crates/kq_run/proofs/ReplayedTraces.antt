@@ -1,8 +1,6 @@
 -- The report of a trace whose kqueues were replayed alone, and its faults.
 use Rattle.std.proofs.Common.{◌≡◌, ◌∙◌, ℕ, ◌≤◌, ◌<◌, ◌⊎◌, List, length, Option, Some, Result, Ok, Err, IfErr, IfOk, MatchResult, ap, sym, subst, arith, ⊎_elim}
 use Rattle.std.proofs.lemmas.List.{length-map}
-use Rattle.std.proofs.lemmas.List.Elements.{All-weaker}
-use Rattle.std.specs.List.{All}
 use Rattle.std.specs.List.Sorted.{IsPermutation}
 use Rattle.std.proofs.lemmas.List.Sorted.{IsPermutation-refl, IsPermutation-sym, IsPermutation-trans}
 use Rattle.std.specs.Result.{IsErrAnd}
@@ -18,9 +16,9 @@ use Rattle.kq_model.specs.Report.{report, report_of}
 use Rattle.kq_model.specs.System.{rows}
 use Rattle.kq_model.proofs.Projection.{merged}
 use Rattle.kq_history.specs.Traced.{Traced, births_of, places_of, plain_rows_of}
-use Rattle.kq_merge.specs.ByPlace.{NeverFall, rows_in}
+use Rattle.kq_merge.specs.ByPlace.{rows_in}
 use Rattle.kq_merge.specs.Merged.{IsReportByPlace}
-use Rattle.kq_merge.proofs.Places.{never_fall, only_order}
+use Rattle.kq_merge.proofs.Places.{only_order}
 use Rattle.kq_replay.specs.Replayed.{AreReplayed}
 use Rattle.kq_trace.specs.declared.fault.TraceError.TheVariants as error
 use Rattle.kq_trace.specs.Blocks.{IsInputFault as IsTraceInputFault}
@@ -41,16 +39,9 @@ given P (Ok y) q x same at is =
     subst P one is
 given P (Err e) q x same at is = absurd same
 
--- ---- the rows, as a merge wants them and as it gives them
+-- ---- the rows, and their report
 
-pub kqueues_never_fall : (t : Traced) (kqueues : List Rows) → AreReplayed t kqueues → All (λ (one : Rows). NeverFall one.rows) kqueues
-kqueues_never_fall t kqueues are =
-    All-weaker (λ (one : Rows). Rise one.rows) (λ (one : Rows). NeverFall one.rows) (λ one rises. never_fall one.rows rises) kqueues are.rise
-
-pub plain_never_falls : (t : Traced) (kqueues : List Rows) → AreReplayed t kqueues → NeverFall (plain_rows_of t)
-plain_never_falls t kqueues are = never_fall (plain_rows_of t) are.plain
-
--- together they are the rows of the trace
+-- the rows of kqueues and the plain ones are together the rows of the trace
 pub rows_again : (t : Traced) (kqueues : List Rows) (found : List Row) → AreReplayed t kqueues → IsPermutation (rows_in kqueues (plain_rows_of t)) found
     → AreRowsOf t.version t.events found
 rows_again t kqueues found are same =
@@ -70,9 +61,6 @@ report_again version records events all text are counts (found, same, falls, is)
 rows_rise : (version : ℕ) (events : List Event) → Rise (rows version events)
 unfolding rows
 rows_rise version events = (merged listed objects.listed version events).1
-
-pub rows_never_fall : (version : ℕ) (events : List Event) → NeverFall (rows version events)
-rows_never_fall version events = never_fall (rows version events) (rows_rise version events)
 
 -- their report by place is that of the trace
 pub own_report : (version records : ℕ) (events : List Event) (text : List ℕ) → records ≡ length events

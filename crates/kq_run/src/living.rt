@@ -9,7 +9,7 @@ use crate::fault::Fault;
 use crate::workers::is_thread_count;
 use kq_gate::{Always, Gate, Open, Starts};
 use kq_live::Book;
-use kq_merge::{Merging, report_by_place};
+use kq_merge::{Pieces, RowLists, report_by_place};
 use kq_model::{Memory, Trace};
 use kq_serve::ServeError;
 use kq_trace::{read_trace_with, write_trace};
@@ -75,9 +75,9 @@ pub fn live_report<R: AllocGlobal + Threads + Wait + Sync>(
     rt: &R,
     bytes: &[u8],
     threads: u32,
-) -> Result<Vec<u8>, Fault>
+) -> Result<Pieces, Fault>
     ensures threads { IsErrOf result Fault.Usage ↔ ¬ IsThreadCount threads }
-    ensures report { IfOk result (λ text. IsLiveReport bytes.now threads text.items) }
+    ensures report { IfOk result (λ text. IsLiveReport bytes.now threads text) }
     ensures fault { IfErr result (IsLiveFault bytes.now threads) }
 {
     let book = book_of(rt, bytes, threads)?;
@@ -89,13 +89,13 @@ fn written<R: AllocGlobal + Threads + Sync>(
     rt: &R,
     book: &Book,
     threads: u32,
-) -> Result<Vec<u8>, Memory>
-    ensures { IfOk result (λ text. text.items ≡ report_of book.now.version book.now.events) }
+) -> Result<Pieces, Memory>
+    ensures { IfOk result (λ text. text ≡ report_of book.now.version book.now.events) }
 {
     let rows = book.rows()?;
     let records = book.len() as u64;
-    let rows = Merging::one(rt.alloc(), rows)?;
-    report_by_place(rt, rows, records, threads)
+    let rows = RowLists::one(rt.alloc(), rows);
+    report_by_place(rt, &rows, records, threads)
 }
 
 /// The canonical text of the trace of such a book.
@@ -103,12 +103,13 @@ pub fn book_text<R: AllocGlobal + Threads + Wait + Sync>(
     rt: &R,
     bytes: &[u8],
     threads: u32,
-) -> Result<Vec<u8>, Fault>
+) -> Result<Pieces, Fault>
     ensures threads { IsErrOf result Fault.Usage ↔ ¬ IsThreadCount threads }
-    ensures text { IfOk result (λ text. IsBookText bytes.now threads text.items) }
+    ensures text { IfOk result (λ text. IsBookText bytes.now threads text) }
     ensures fault { IfErr result (IsLiveFault bytes.now threads) }
 {
     let book = book_of(rt, bytes, threads)?;
     let trace = book.trace()?;
-    write_trace(rt.alloc(), &trace).map_err(|_| Fault::Memory)
+    let text = write_trace(rt.alloc(), &trace)?;
+    Ok(Pieces::one(rt.alloc(), text)?)
 }

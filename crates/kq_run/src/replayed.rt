@@ -9,7 +9,7 @@ use crate::splitter::Splitter;
 use crate::workers::threads_of;
 use kq_gate::{Gate, Starts};
 use kq_history::{Spent, Split};
-use kq_merge::Merging;
+use kq_merge::RowLists;
 use kq_model::{Series, Trace};
 use kq_replay::{RunFault, replay_all_with};
 use kq_trace::{Source, read_trace_into};
@@ -20,7 +20,7 @@ use std::thread::Threads;
 #[derive(Drop)]
 pub struct Replayed {
     pub trace: Trace,
-    pub rows: Merging,
+    pub rows: RowLists,
     pub spent: Spent,
 }
 
@@ -61,7 +61,7 @@ fn rows_of<R: AllocGlobal + Threads + Wait + Sync, G: Gate + Sync, S: Starts>(
     workers: u32,
     gate: &G,
     starts: &S,
-) -> Result<Merging, Fault>
+) -> Result<RowLists, Fault>
     requires { IsWorkerCount workers }
     ensures rows { IfOk result (AreRowsOf split.now.version split.now.events) }
     ensures fault { IfErr result (IsReplayFault split.now.version split.now.events workers) }
@@ -72,5 +72,5 @@ fn rows_of<R: AllocGlobal + Threads + Wait + Sync, G: Gate + Sync, S: Starts>(
         Err(RunFault::Memory) => return Err(Fault::Memory),
         Err(RunFault::Spawn) => return Err(Fault::Spawn),
     };
-    Ok(Merging::of(rt.alloc(), kqueues, split.plain_rows())?)
+    Ok(RowLists::of(rt.alloc(), kqueues, split.plain_rows())?)
 }

@@ -4,11 +4,9 @@ ghost use Rattle.kq_run.specs.Workers.{IsWorkerCount};
 
 use crate::fault::Fault;
 use crate::replayed::Replayed;
-use crate::workers::{is_worker_count, threads_of};
+use crate::workers::is_worker_count;
 use kq_gate::{Always, Gate, Open, Starts};
-use kq_history::Spent;
-use kq_merge::report_by_place;
-use kq_model::Trace;
+use kq_merge::{Pieces, report_by_place};
 use kq_trace::{Input, Lent, Source};
 use std::io::Read;
 use std::mem::forget;
@@ -50,49 +48,48 @@ pub fn replay_with<R: AllocGlobal + Threads + Wait + Sync, G: Gate + Sync, S: St
     if !is_worker_count(workers) {
         return Err(Fault::Usage);
     }
-    let (text, _) = report_of(rt, &mut Lent::new(bytes), workers, gate, starts)?;
-    Ok(text)
+    let (report, _) = report_of(rt, &mut Lent::new(bytes), workers, gate, starts)?;
+    Ok(report.joined(rt.alloc())?)
 }
 
 /// The report of the trace that an input has, which is no more bytes than so many, as [`replay`] gives it, by so many
 /// workers, 1 to 256. By two and more it is read while it comes. A read that fails, an interrupted one too, and an
 /// input of more bytes are [`Fault::Read`], whatever the trace.
 ///
-/// It is for a program that ends once the report is out: the trace and what the split kept are left to the end of the
-/// process, which gives all memory back at once.
+/// It is for a program that ends once the report is out: the trace, its rows and what the split kept are left to the
+/// end of the process, which gives all memory back at once.
 pub fn replay_input<R: AllocGlobal + Threads + Wait + Sync, I: Read + Send>(
     rt: &R,
     input: &mut I,
     limit: usize,
     workers: u32,
-) -> Result<Vec<u8>, Fault>
+) -> Result<Pieces, Fault>
     requires { IsWorkerCount workers }
     ensures report { IfOk result (λ text. (bytes : List ℕ) × Had (I.remaining input.old) limit bytes
-        × IsReport bytes text.items) }
+        × IsReport bytes text) }
     ensures fault { IfErr result (IsInputFault (I.remaining input.old) limit workers) }
 {
     let mut source = Input::new(input, limit);
-    let (text, left) = report_of(rt, &mut source, workers, &Open, &Always)?;
+    let (report, left) = report_of(rt, &mut source, workers, &Open, &Always)?;
     forget(left);
-    Ok(text)
+    Ok(report)
 }
 
-/// The report of the trace that a source has, by so many workers, 1 to 256, and what is left of the replay: the trace,
-/// and what the split kept. The gate is asked before each kqueue is replayed, and `starts` before each worker but the
-/// first is started.
+/// The report of the trace that a source has, by so many workers, 1 to 256, and the replay that it is of. The gate is
+/// asked before each kqueue is replayed, and `starts` before each worker but the first is started.
 fn report_of<R: AllocGlobal + Threads + Wait + Sync, I: Source + Send, G: Gate + Sync, S: Starts>(
     rt: &R,
     source: &mut I,
     workers: u32,
     gate: &G,
     starts: &S,
-) -> Result<(Vec<u8>, (Trace, Spent)), Fault>
+) -> Result<(Pieces, Replayed), Fault>
     requires { IsWorkerCount workers }
-    ensures report { IfOk result (λ r. IsReportFrom (I.ahead source.old) r.0.items) }
+    ensures report { IfOk result (λ r. IsReportFrom (I.ahead source.old) r.0) }
     ensures fault { IfErr result (IsSourceFault I.may_fail (I.ahead source.old) workers) }
 {
-    let Replayed { trace, rows, spent } = Replayed::of(rt, source, workers, gate, starts)?;
-    let records = trace.events.len() as u64;
-    let text = report_by_place(rt, rows, records, threads_of(workers))?;
-    Ok((text, (trace, spent)))
+    let replayed = Replayed::of(rt, source, workers, gate, starts)?;
+    let records = replayed.trace.events.len() as u64;
+    let report = report_by_place(rt, &replayed.rows, records, workers)?;
+    Ok((report, replayed))
 }

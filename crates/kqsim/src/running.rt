@@ -5,8 +5,8 @@ ghost use Rattle.kqsim.specs.Run.{EndsBy, IsInRange, IsOutput, IsReaderFault, Le
 
 use crate::order::Order;
 use kq_run::{
-    Fault, book_text, is_thread_count, is_worker_count, live_report, read_in, replay_input,
-    write_out,
+    Fault, Pieces, book_text, is_thread_count, is_worker_count, live_report, read_in, replay_input,
+    write_pieces,
 };
 use std::io::{Read, Write};
 use std::sync::Wait;
@@ -57,7 +57,7 @@ fn carry_out<R: AllocGlobal + Threads + Wait + Sync, I: Read + Send, O: Write>(
         return Err(Fault::Usage);
     }
     let text = output_of(rt, order, reader)?;
-    write_out(text.as_slice(), out)
+    write_pieces(&text, out)
 }
 
 /// Whether the order's number of workers or threads is in range.
@@ -75,10 +75,10 @@ fn output_of<R: AllocGlobal + Threads + Wait + Sync, I: Read + Send>(
     rt: &R,
     order: &Order,
     reader: &mut I,
-) -> Result<Vec<u8>, Fault>
+) -> Result<Pieces, Fault>
     requires { IsInRange order.now }
     ensures output { IfOk result (λ text. (bytes : List ℕ) × Had (I.remaining reader.old) most_bytes bytes
-        × IsOutput order.now bytes text.items) }
+        × IsOutput order.now bytes text) }
     ensures fault { IfErr result (IsReaderFault order.now (I.remaining reader.old)) }
 {
     match order {

@@ -4,7 +4,7 @@ use crate::watch::Watch;
 use anyhow::Context;
 use kq_gate::Open;
 use kq_history::Split;
-use kq_merge::{Merging, report_by_place};
+use kq_merge::{RowLists, report_by_place};
 use kq_replay::replay_all;
 use kq_trace::read_trace_with;
 use std::alloc::AllocError;
@@ -28,11 +28,13 @@ pub fn parts<R: AllocGlobal + Clock + CpuClock + Threads + Wait + Sync, O: Write
     watch.lap(rt, "split", times)?;
     let kqueues = replay_all(rt, &split, workers, &Open)?;
     watch.lap(rt, "replay", times)?;
-    let rows = Merging::of(rt.alloc(), kqueues, split.plain_rows()).map_err(|_| AllocError)?;
+    let rows = RowLists::of(rt.alloc(), kqueues, split.plain_rows()).map_err(|_| AllocError)?;
     watch.lap(rt, "merge", times)?;
     let records = trace.events.len() as u64;
-    let report = report_by_place(rt, rows, records, workers).map_err(|_| AllocError)?;
-    out.write_all(report.as_slice())?;
+    let report = report_by_place(rt, &rows, records, workers).map_err(|_| AllocError)?;
+    for piece in report.as_slice() {
+        out.write_all(piece.as_slice())?;
+    }
     watch.lap(rt, "write", times)?;
     Ok(())
 }

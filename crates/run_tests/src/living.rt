@@ -17,11 +17,11 @@ const THIRD_LINE: &str = "{\"fd\":9,\"op\":\"kqueue\",\"pid\":1}\n";
 
 #[test]
 fn one_thread_reports_what_a_replay_does(rt: HostRuntime) -> Result<(), Fail> {
-    assert_eq!(rt;
-        live_report(&rt, STORED.as_bytes(), 1)?.as_slice(),
-        REPORT.as_bytes()
-    );
-    let text = book_text(&rt, STORED.as_bytes(), 1)?;
+    let report = live_report(&rt, STORED.as_bytes(), 1)?.joined(rt.alloc());
+    let report = report.map_err(|_| "memory")?;
+    assert_eq!(rt; report.as_slice(), REPORT.as_bytes());
+    let text = book_text(&rt, STORED.as_bytes(), 1)?.joined(rt.alloc());
+    let text = text.map_err(|_| "memory")?;
     let mut lines = text
         .as_slice()
         .split_inclusive(|byte| *byte == b'\n')

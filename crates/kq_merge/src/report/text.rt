@@ -1,6 +1,6 @@
-ghost use Rattle.std.specs.Prelude.{◌≡◌, ◌≤◌, ◌<◌, ◌^◌, ◌++◌, [], IfOk};
+ghost use Rattle.std.specs.Prelude.{◌≡◌, ◌≤◌, ◌<◌, ◌*◌, ◌^◌, ◌++◌, [], IfOk};
 ghost use Rattle.kq_model.specs.Report.{calls_in, events_in, last_line};
-ghost use Rattle.kq_merge.specs.Written.{nothing_written, with_part, with_reply};
+ghost use Rattle.kq_merge.specs.Written.{nothing_written, with_reply};
 
 use super::line::{put_counts, put_reply};
 use kq_model::{Memory, Reply};
@@ -62,19 +62,17 @@ impl ReportText {
         Ok(self)
     }
 
-    /// The text with the lines that were written of the rows behind it.
-    pub(crate) fn with_part(mut self, part: ReportText) -> Result<Self, Memory>
-        ensures { IfOk result (λ text. text ≡ with_part self part) }
+    /// Its lines, and how many calls and events they have.
+    pub(crate) fn into_parts(self) -> (Vec<u8>, u64, u128)
+        ensures parts { (result.0.items ≡ self.lines) × (result.1 ≡ self.calls) × (result.2 ≡ self.events) }
+        ensures few { result.2 ≤ result.1 * 2 ^ 64 }
     {
         let ReportText {
-            mut lines,
+            lines,
             calls,
             events,
-        } = part;
-        self.lines.append(&mut lines).map_err(|_| Memory)?;
-        self.calls += calls;
-        self.events += events;
-        Ok(self)
+        } = self;
+        (lines, calls, events)
     }
 
     /// The whole text, with the last line, which counts the calls and events of the rows, and the

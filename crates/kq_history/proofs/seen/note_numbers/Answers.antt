@@ -3,10 +3,10 @@ use Rattle.std.specs.List.{flat_map}
 use Rattle.std.proofs.lemmas.List.{take_more}
 use Rattle.kq_model.specs.declared.object.Named.{Named}
 use Rattle.kq_history.specs.Keys.{pair_eq}
-use Rattle.kq_history.specs.Seen.{named_around}
+use Rattle.kq_history.specs.Seen.{left_by}
 use Rattle.kq_history.specs.Timeline.{last_value, marked, value_at, IsUpTo}
 use Rattle.kq_history.specs.Timelines.{marks_at}
-use Rattle.kq_history.specs.Touched.{has_number, targets_named, AreAmong}
+use Rattle.kq_history.specs.Touched.{has_number, targets_left, AreAmong}
 use Rattle.kq_history.proofs.Following.{noted-more, settled, up_to-marked}
 use Rattle.kq_history.proofs.NamedTargets.{one-number-more}
 use Rattle.kq_history.proofs.NotedKeys.{any-more, same-number}
@@ -30,9 +30,7 @@ loop-number-preserved g c =
     ≡ marks_at pair_eq old other ++ marked (pair_eq p other && not same) place here = c.in_ok-had.ensures.noted in
     let up : IsUpTo place (marks_at pair_eq old p) = c.loop-number.invariant.up_to p in
     let up_here : place ≤ place = omega arith in
-    let added : AreAmong (targets_named c.in_ok-had.had ++ targets_named (after.descriptor p.0 p.1) ++ c.loop-number.targets.items) c.add_both.new.targets.items =
-    subst (λ (n : Option Named). AreAmong (targets_named c.in_ok-had.had ++ targets_named n ++ c.loop-number.targets.items) c.add_both.new.targets.items)
-    c.descriptor-named.ensures c.in_ok-add_both.ensures in
+    let added : AreAmong (targets_left c.args.tells c.in_ok-had.had ++ c.loop-number.targets.items) c.add_left.new.targets.items = c.in_ok-add_left.ensures in
     record {
       up_to = λ key. subst (IsUpTo place) (sym (put key))
           (up_to-marked (pair_eq p key && not same) place here (marks_at pair_eq old key) (c.loop-number.invariant.up_to key));
@@ -46,10 +44,10 @@ loop-number-preserved g c =
           (same-number after.descriptor p pid number here c.descriptor-named.ensures)
           ∙ ap (λ b. cond (b && leb place at) (after.descriptor pid number)
           (value_at at None (marks_at pair_eq start (pid, number)))) (sym (any-more (λ (x : ℕ × ℕ). pair_eq x (pid, number)) ns i (0, 0) below));
-      named = subst (λ xs. AreAmong (flat_map (named_around start place after) xs ++ c.args.targets.now.items) c.add_both.new.targets.items)
+      named = subst (λ xs. AreAmong (flat_map (left_by start place c.args.tells) xs ++ c.args.targets.now.items) c.add_left.new.targets.items)
           (sym (take_more ns i (0, 0) below))
-          (one-number-more (λ (q : ℕ × ℕ). value_at place None (marks_at pair_eq start q)) (λ (q : ℕ × ℕ). after.descriptor q.0 q.1)
-          (take i ns) p c.in_ok-had.had c.args.targets.now.items c.loop-number.targets.items c.add_both.new.targets.items
+          (one-number-more (targets_left c.args.tells) (λ (q : ℕ × ℕ). value_at place None (marks_at pair_eq start q))
+          (take i ns) p c.in_ok-had.had c.args.targets.now.items c.loop-number.targets.items c.add_left.new.targets.items
           c.loop-number.invariant.named added
           (λ fresh. c.in_ok-had.ensures.had ∙ sym (settled place place None (marks_at pair_eq old p) up up_here)
           ∙ c.loop-number.invariant.noted p.0 p.1 place

@@ -1,7 +1,7 @@
 use Rattle.std.proofs.Common.{◌≡◌, ◌&&◌, ◌++◌, ℕ, leb, cond, take, None}
 use Rattle.std.specs.List.{flat_map}
 use Rattle.kq_history.specs.Keys.{pair_eq}
-use Rattle.kq_history.specs.Seen.{named_around}
+use Rattle.kq_history.specs.Seen.{left_by}
 use Rattle.kq_history.specs.Timeline.{value_at}
 use Rattle.kq_history.specs.Timelines.{marks_at, AreUpTo}
 use Rattle.kq_history.specs.Touched.{has_number, AreAmong}
@@ -14,6 +14,6 @@ invariant-loop-number g l = record {
       ≡ cond (has_number pid number (take l.number-index l.numbers) && leb l.place at)
       ((g.V.Views.sees l.views).descriptor pid number)
       (value_at at None (marks_at pair_eq l.initial.timelines.table (pid, number)));
-  named : AreAmong (flat_map (named_around l.initial.timelines.table l.place (g.V.Views.sees l.views)) (take l.number-index l.numbers)
+  named : AreAmong (flat_map (left_by l.initial.timelines.table l.place l.tells) (take l.number-index l.numbers)
       ++ l.initial.targets.items) l.targets.items;
 }

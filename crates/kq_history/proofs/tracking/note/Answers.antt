@@ -1,4 +1,4 @@
-use Rattle.std.proofs.Common.{◌∙◌, ◌++◌, ℕ, List, OnOk, Result, Ok, Err, subst}
+use Rattle.std.proofs.Common.{◌∙◌, ◌++◌, ℕ, Bool, List, OnOk, Result, Ok, Err, ap, subst}
 use Rattle.std.specs.List.{flat_map}
 use Rattle.kq_model.specs.declared.object.Target.{Target}
 use Rattle.kq_model.specs.Views.{Views}
@@ -7,7 +7,7 @@ use Rattle.kq_process.specs.World.{world_of}
 use Rattle.kq_history.specs.Noted.{IsNextWorld}
 use Rattle.kq_history.specs.Seen.{seen_by, Shows}
 use Rattle.kq_history.specs.Sights.{NotedViews}
-use Rattle.kq_history.specs.Touched.{other_targets, targets_of, touched_numbers}
+use Rattle.kq_history.specs.Touched.{left_of, other_targets, tells_file, touched_numbers}
 use Rattle.kq_history.proofs.NamedTargets.{among-behind, next-among}
 use Rattle.kq_history.proofs.tracking.note.Goals as goal
 
@@ -24,14 +24,19 @@ returns-clause-noted c =
     let old = c.args.seen.now in
     let new = c.note.new.self in
     let others : List Target = other_targets e c.args.effect.now.hints after in
-    let named : NotedViews → List Target = λ n. flat_map (targets_of (seen_by n old place) after) numbers in
+    let tells = tells_file c.args.effect.now.hints in
+    let named : NotedViews → List Target = λ n. flat_map (left_of tells (seen_by n old place)) numbers in
     on_ok c.note.result
     (λ (shows : (n : NotedViews) (worlds next : ℕ → Views) → IsNextWorld place after numbers (named n ++ c.fill.new.self.targets.items) worlds next
     → Shows worlds (seen_by n old) → Shows next (seen_by n new)).
     λ (n : NotedViews) (worlds next : ℕ → Views) (is : IsNextWorld place after numbers (named n ++ others) worlds next).
     shows n worlds next (next-among place after numbers (named n ++ others) (named n ++ c.fill.new.self.targets.items) worlds next
     (among-behind (named n) others c.fill.new.self.targets.items c.in_ok-fill.ensures.targets) is))
-    (subst (λ (ns : List (ℕ × ℕ)). OnOk c.note.result ((n : NotedViews) (worlds next : ℕ → Views) → IsNextWorld place after ns
-    (flat_map (targets_of (seen_by n old place) after) ns ++ c.fill.new.self.targets.items) worlds next
+    (subst (λ (b : Bool). OnOk c.note.result ((n : NotedViews) (worlds next : ℕ → Views)
+    → IsNextWorld place after numbers (flat_map (left_of b (seen_by n old place)) numbers ++ c.fill.new.self.targets.items) worlds next
     → Shows worlds (seen_by n old) → Shows next (seen_by n new)))
-    (c.as_slice.ensures.value ∙ c.in_ok-fill.ensures.numbers) c.note.ensures.shows)
+    (c.tells_file.ensures ∙ ap tells_file c.as_slice-2.ensures)
+    (subst (λ (ns : List (ℕ × ℕ)). OnOk c.note.result ((n : NotedViews) (worlds next : ℕ → Views)
+    → IsNextWorld place after ns (flat_map (left_of c.tells_file.result (seen_by n old place)) ns ++ c.fill.new.self.targets.items) worlds next
+    → Shows worlds (seen_by n old) → Shows next (seen_by n new)))
+    (c.as_slice.ensures.value ∙ c.in_ok-fill.ensures.numbers) c.note.ensures.shows))

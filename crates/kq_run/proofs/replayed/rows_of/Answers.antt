@@ -1,19 +1,11 @@
--- Each kqueue's rows and the plain ones stand by place, and together they are the rows of the trace.
+-- Each kqueue's rows and the plain ones are together the rows of the trace.
 use Rattle.std.proofs.Common.{rules, ◌≡◌, sym, subst}
 use Rattle.std.specs.List.Sorted.{IsPermutation}
 use Rattle.std.proofs.lemmas.List.Sorted.{IsPermutation-refl}
 use Rattle.kq_history.specs.Traced.{plain_rows_of}
-use Rattle.kq_merge.specs.ByPlace.{NeverFall, rows_in}
-use Rattle.kq_run.proofs.ReplayedTraces.{kqueues_never_fall, plain_never_falls, rows_again}
+use Rattle.kq_merge.specs.ByPlace.{rows_in}
+use Rattle.kq_run.proofs.ReplayedTraces.{rows_again}
 use Rattle.kq_run.proofs.replayed.rows_of.Goals as goal
-
-pub of-requires-clause-kqueues : goal.of-requires-clause-kqueues
-of-requires-clause-kqueues g c = kqueues_never_fall c.args.split.now c.in-Ok.kqueues.items c.in-Ok.ensures.ok
-
-pub of-requires-clause-plain : goal.of-requires-clause-plain
-of-requires-clause-plain g c =
-    let are : c.plain_rows.result.now ≡ plain_rows_of c.args.split.now = search rules in
-    subst NeverFall (sym are) (plain_never_falls c.args.split.now c.in-Ok.kqueues.items c.in-Ok.ensures.ok)
 
 pub returns-clause-rows : goal.returns-clause-rows
 returns-clause-rows g c =

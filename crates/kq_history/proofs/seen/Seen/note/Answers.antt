@@ -8,7 +8,7 @@ use Rattle.kq_history.specs.Noted.{AreAllUpTo, IsNextWorld}
 use Rattle.kq_history.specs.Seen.{seen_by, Shows}
 use Rattle.kq_history.specs.Timeline.{last_value, marked, value_at, IsUpTo}
 use Rattle.kq_history.specs.Sights.{AreBetween, NotedViews, sights_of, view_by}
-use Rattle.kq_history.specs.Touched.{targets_of, AreAmong}
+use Rattle.kq_history.specs.Touched.{left_of, AreAmong}
 use Rattle.kq_history.proofs.Following.{shows-next, up_to-marked, value-noted}
 use Rattle.kq_history.proofs.NamedTargets.{next-among}
 use Rattle.kq_history.proofs.SightLemmas.{between-more, view_by-append, view_by-sights}
@@ -40,7 +40,7 @@ returns-clause-shows g c =
     let new : Seen = record { numbers = c.note_numbers.new.timelines; clock = c.note.new.self; sights = c.add.new.self } in
     let pushed : c.note.new.self ≡ old.clock ++ marked (not had) place now = c.in_ok-note.ensures.pushed in
     λ (n : NotedViews) (worlds next : ℕ → Views).
-    let among : List Target = flat_map (targets_of (seen_by n old place) after) numbers ++ c.args.targets.now.items in
+    let among : List Target = flat_map (left_of c.args.tells (seen_by n old place)) numbers ++ c.args.targets.now.items in
     let there : AreAmong among targets =
     subst (λ (ts : List Target). AreAmong among ts) (sym c.as_slice.ensures.value) c.in_ok-note_numbers.ensures.named in
     λ (is : IsNextWorld place after numbers among worlds next) (shows : Shows worlds (seen_by n old)).

@@ -8,7 +8,7 @@ returns-clause-watched c =
     λ (version : ℕ). record {
       tracked = first-tracked version c.in_ok-world.world c.new-seen.result c.in_ok-world.ensures.world c.in_ok-world.ensures.last c.new-seen.ensures;
       said = first-said version c.new-items.result.list.items c.new-items.ensures;
-      kqueues = first-kqueues version c.new-kqueues.result c.new-kqueues.ensures.places c.new-kqueues.ensures.concerned;
+      kqueues = first-kqueues version c.new-kqueues.result c.new-kqueues.ensures.places c.new-kqueues.ensures.concerned c.new-kqueues.ensures.owners;
       plain_is = c.new-plain.ensures.items ∙ first-plain version;
     }
 

@@ -39,4 +39,5 @@ returns c =
     (λ rows (n : NotedViews) (before : List Item) (t : Traced) (at : length t.events + 1 ≡ c.args.place) (so_far : IsWatchedSoFar n before t c.args.self.now).
     watching-next n before t c.args.event.now c.args.place c.args.self.now new c.in_ok-effect.effect c.of-before_it.result.clock
     c.of-before_it.result.kqueue at so_far (c.in_ok-effect.ensures.tracked n t at so_far.tracked) c.in_ok-effect.ensures.effect
-    c.of-before_it.ensures.clock c.of-before_it.ensures.kqueue c.in_ok-say.ensures c.in_ok-name_kqueue.ensures rows) c.put_plain.ensures
+    c.of-before_it.ensures.clock c.of-before_it.ensures.kqueue c.of-before_it.result.silent c.of-before_it.ensures.silent
+    c.in_ok-say.ensures c.in_ok-name_kqueue.ensures rows) c.put_plain.ensures

@@ -8,7 +8,7 @@ use Rattle.kq_merge.proofs.report.parts.parts_in.Goals as goal
 pub returns : goal.returns
 returns g c =
     let cut = c.par_chunks.ensures in
-    let size = max c.rows_each.result 1 in
+    let size = max c.places_each.result 1 in
     let some : 0 < size = omega arith in
     IfOk-then c.collect.result _ _ c.collect.ensures (λ v h.
     let chain = h.1 in
