@@ -2,6 +2,7 @@
 use Rattle.std.proofs.Common.{◌≡◌, ◌∙◌, ℕ, ◌+◌, List, [], ◌∷◌, ◌++◌, length, Option, None, Some, Result, Ok, Err, refl, sym, ap, ap₂, subst, arith, append_assoc, append-nil, length-append, IfErr, OnErr}
 use Rattle.std.specs.Io.KnownBytes.{Appends, IsAtEnd, Keeps}
 use Rattle.std.proofs.KnownBytes.{Appends-kept, Appends-nil, Appends-trans, Keeps-refl}
+use Rattle.std.specs.Result.{IsErrAnd}
 use Rattle.kq_input.specs.Unread.{IsLastLine, IsNextLine}
 use Rattle.kq_model.specs.declared.event.Event.{Event}
 use Rattle.kq_model.specs.declared.line_fault.LineFault.{LineFault}
@@ -15,6 +16,11 @@ use Rattle.kqstep.specs.Stepping.{Answer, Standing, after_line, answer_line, ans
 use Rattle.kqstep.specs.Stood.{IsAt, Stood}
 use Rattle.kqstep.proofs.AnswerLaws.{have_report}
 use Rattle.kqstep.proofs.LinesRead.{all_read, begins, line_read}
+
+-- an error that is passed on
+pub fault_passed : {A : Type 0} (r : Result A Fault) (fault : Fault) (P : Fault → Type 0) → IsErrAnd r (λ f. f ≡ fault) → P fault → IfErr r P
+fault_passed (Ok x) fault P is holds = tt
+fault_passed (Err f) fault P is holds = subst P (sym is) holds
 
 -- ---- before the first record
 

@@ -61,13 +61,34 @@ fn polled(kqueue: &mut Kq) -> Result<usize, Memory> {
     }
 }
 
+/// What is registered before room for a child was made, whether the parent is tracked, what is registered then, and
+/// how many events a poll returns.
+#[derive(Drop)]
+struct Seen {
+    before: (Option<u32>, usize),
+    tracks: bool,
+    after: (Option<u32>, usize),
+    events: usize,
+}
+
+fn reserved(alloc: Global) -> Result<Seen, Memory> {
+    let mut kqueue = following(alloc)?;
+    let before = registered(&kqueue, 2);
+    kqueue.reserve_fork(2)?;
+    Ok(Seen {
+        before,
+        tracks: kqueue.tracks(2),
+        after: registered(&kqueue, 2),
+        events: polled(&mut kqueue)?,
+    })
+}
+
 #[test]
 fn room_for_a_child_changes_nothing_else(rt: HostRuntime) -> Result<(), Fail> {
-    let mut kqueue = following(rt.alloc())?;
-    assert_eq!(rt; registered(&kqueue, 2), (Some(0x4000_0001), 1));
-    kqueue.reserve_fork(2)?;
-    assert!(rt; kqueue.tracks(2));
-    assert_eq!(rt; registered(&kqueue, 2), (Some(0x4000_0001), 1));
-    assert_eq!(rt; polled(&mut kqueue)?, 0);
+    let seen = reserved(rt.alloc())?;
+    assert_eq!(rt; seen.before, (Some(0x4000_0001), 1));
+    assert!(rt; seen.tracks);
+    assert_eq!(rt; seen.after, (Some(0x4000_0001), 1));
+    assert_eq!(rt; seen.events, 0);
     Ok(())
 }

@@ -119,6 +119,12 @@ fn verdict(alloc: Global, ident: u64) -> Result<Verdict, Memory> {
     Ok(verdict_of(&kqueue, outcome, &looked_at, key(ident), &NothingThere))
 }
 
+/// The event that a kevent has to return.
+fn pending(alloc: Global, ident: u64) -> Result<Result<Kevent, Absence>, Memory> {
+    let kqueue = three(alloc)?;
+    Ok(pending_event(&kqueue, key(ident), &NothingThere))
+}
+
 #[test]
 fn each_kevent_has_its_verdict(rt: HostRuntime) -> Result<(), Fail> {
     assert_eq!(rt; verdict(rt.alloc(), 2)?, Verdict::Returned);
@@ -127,10 +133,6 @@ fn each_kevent_has_its_verdict(rt: HostRuntime) -> Result<(), Fail> {
         verdict(rt.alloc(), 9)?,
         Verdict::Absent(Absence::NotRegistered)
     );
-    let kqueue = three(rt.alloc())?;
-    assert_eq!(rt;
-        pending_event(&kqueue, key(3), &NothingThere),
-        Ok(event(3, 8))
-    );
+    assert_eq!(rt; pending(rt.alloc(), 3)?, Ok(event(3, 8)));
     Ok(())
 }

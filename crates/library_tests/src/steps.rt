@@ -72,46 +72,85 @@ fn queued(alloc: Global, system: &System) -> Result<(Vec<u64>, usize), Memory> {
     }
 }
 
+/// What was seen of a call in two steps.
+#[derive(Drop)]
+struct TwoSteps {
+    /// The answer of the first step, if that was the whole call.
+    answer: Option<Reply>,
+    /// The idents in the queue between the steps, and how many keys a list of it has.
+    queued: (Vec<u64>, usize),
+    /// The idents of the events that the second step returned.
+    returned: Vec<u64>,
+    /// How many records were applied after each step.
+    applied: (u64, u64),
+}
+
+/// The call adds three user events and triggers them; between the steps the last ones are put first.
+fn reordered(alloc: Global, system: &mut System) -> Result<TwoSteps, Memory>
+    requires { system.old.applied ≡ 2 }
+{
+    let answer = system.begin_call(7, 3, &triggered([1, 2, 3]), 2)?;
+    let begun = system.applied();
+    system.put_first(7, 3, &[key(3), key(9), key(2), key(3)]);
+    let queued = queued(alloc, system)?;
+    let reply = system.read_events(7, 3, 2)?;
+    Ok(TwoSteps {
+        answer,
+        queued,
+        returned: idents(alloc, &reply)?,
+        applied: (begun, system.applied()),
+    })
+}
+
+fn reordered_call(alloc: Global) -> Result<TwoSteps, Memory> {
+    let mut system = with_kqueue(alloc)?;
+    reordered(alloc, &mut system)
+}
+
 #[test]
 fn a_call_goes_on_from_another_order(rt: HostRuntime) -> Result<(), Fail> {
-    let mut system = with_kqueue(rt.alloc())?;
-    let answer = system.begin_call(7, 3, &triggered([1, 2, 3]), 2)?;
-    assert!(rt; answer.is_none());
-    assert_eq!(rt; system.applied(), 3);
-    system.put_first(7, 3, &[key(3), key(9), key(2), key(3)]);
-    let (found, waiting) = queued(rt.alloc(), &system)?;
-    assert_eq!(rt; found.as_slice(), [3, 2, 1].as_slice());
-    assert_eq!(rt; waiting, 3);
-    let reply = system.read_events(7, 3, 2)?;
-    assert_eq!(rt; idents(rt.alloc(), &reply)?.as_slice(), [3, 2].as_slice());
-    assert_eq!(rt; system.applied(), 3);
+    let seen = reordered_call(rt.alloc())?;
+    assert!(rt; seen.answer.is_none());
+    assert_eq!(rt; seen.applied, (3, 3));
+    assert_eq!(rt; seen.queued.0.as_slice(), [3, 2, 1].as_slice());
+    assert_eq!(rt; seen.queued.1, 3);
+    assert_eq!(rt; seen.returned.as_slice(), [3, 2].as_slice());
     Ok(())
+}
+
+/// The answer of the first step of a call by process 7.
+fn begun(alloc: Global, fd: u32, changes: &[Change]) -> Result<Option<Reply>, Memory> {
+    let mut system = with_kqueue(alloc)?;
+    system.begin_call(7, fd, changes, 2)
 }
 
 #[test]
 fn a_call_with_entries_ends_with_its_changes(rt: HostRuntime) -> Result<(), Fail> {
-    let mut system = with_kqueue(rt.alloc())?;
     let mut changes = triggered([1, 2, 3]);
     changes[1].flags = EvFlags::DELETE;
-    let answer = system.begin_call(7, 3, &changes, 2)?;
+    let answer = begun(rt.alloc(), 3, &changes)?;
     assert!(rt; answer.is_some());
     let reply = answer.unwrap_or(Reply::Done);
     assert_eq!(rt; idents(rt.alloc(), &reply)?.as_slice(), [2].as_slice());
     Ok(())
 }
 
+/// What the second step of a call answers under a number that names nothing, whether there is a kqueue, and whether
+/// the process lives.
+fn read_of_none(alloc: Global) -> Result<(Reply, bool, bool), Memory> {
+    let mut system = with_kqueue(alloc)?;
+    let reply = system.read_events(7, 4, 2)?;
+    let is_there = system.kqueue(7, 4).is_some();
+    Ok((reply, is_there, system.world().is_live(7)))
+}
+
 #[test]
 fn a_call_of_no_kqueue_is_impossible(rt: HostRuntime) -> Result<(), Fail> {
-    let mut system = with_kqueue(rt.alloc())?;
-    let answer = system.begin_call(7, 4, &[], 2)?;
+    let answer = begun(rt.alloc(), 4, &[])?;
     assert!(rt; matches!(&answer, Some(Reply::Impossible(Why::NoDescriptor))));
-    assert!(rt;
-        matches!(
-            &system.read_events(7, 4, 2)?,
-            Reply::Impossible(Why::NoDescriptor)
-        )
-    );
-    assert!(rt; system.kqueue(7, 4).is_none());
-    assert!(rt; system.world().is_live(7));
+    let (reply, is_there, is_live) = read_of_none(rt.alloc())?;
+    assert!(rt; matches!(&reply, Reply::Impossible(Why::NoDescriptor)));
+    assert!(rt; !is_there);
+    assert!(rt; is_live);
     Ok(())
 }

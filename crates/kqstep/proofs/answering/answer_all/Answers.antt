@@ -5,7 +5,7 @@ use Rattle.std.specs.Io.KnownBytes.{Appends, prepend_known}
 use Rattle.kq_input.specs.Unread.{IsNextLine}
 use Rattle.kqstep.specs.Run.{LeavesBy}
 use Rattle.kqstep.specs.Stepping.{answer_line, answer_to, counts_line, read_next}
-use Rattle.kqstep.proofs.SoFar.{all_answered, by_header, end_cut, left_part, next_answered, next_cut, nothing_answered, opened, standing_of}
+use Rattle.kqstep.proofs.SoFar.{all_answered, by_header, end_cut, fault_passed, left_part, next_answered, next_cut, nothing_answered, opened, standing_of}
 use Rattle.kqstep.proofs.answering.answer_all.Goals as goal
 
 pub returns-in_default-clause-fault : goal.returns-in_default-clause-fault
@@ -44,7 +44,8 @@ returns-in_err-write_out-in-Ok-true-clause-fault g c =
     (sym said ∙ sym c.deref.ensures.value ∙ part.2) part.3 in
     let leaves : LeavesBy given before end c.in_err-write_out-in-Ok-true.field-0.0 =
     subst (LeavesBy given before end) (sym c.in_err-write_out-in-Ok-true.ensures.fault) wrote in
-    search (rules, leaves)
+    fault_passed c.from_residual-in_err-write_out-in-Ok-true.result c.in_err-write_out-in-Ok-true.field-0.0 (LeavesBy given before end)
+    c.from_residual-in_err-write_out-in-Ok-true.ensures.1 leaves
 
 pub returns-in-Ok-false-clause-all : goal.returns-in-Ok-false-clause-all
 returns-in-Ok-false-clause-all g c =
