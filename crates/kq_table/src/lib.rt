@@ -4,11 +4,13 @@
 mod keyed;
 mod order;
 mod place;
+mod placed;
 mod table;
 mod target_index;
 mod watch;
 
 pub use keyed::Keyed;
+pub use placed::{Place, Placed};
 pub use table::Table;
 pub use target_index::TargetIndex;
 pub use watch::Watch;

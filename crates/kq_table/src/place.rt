@@ -1,4 +1,4 @@
-ghost use Rattle.std.specs.Prelude.{◌≡◌, ◌+◌, ◌<◌, ◌≤◌, ◌^◌, None, Some, MatchOption, length, drop, slice_get, ◌∷◌};
+ghost use Rattle.std.specs.Prelude.{ℕ, ◌≡◌, ◌+◌, ◌<◌, ◌≤◌, ◌^◌, None, Some, MatchOption, length, drop, slice_get, ◌∷◌};
 ghost use Rattle.std.specs.Prelude.{IsTrue};
 ghost use Rattle.std.specs.HashMap.{Updates, spare};
 ghost use Rattle.std.specs.VecDeque.{deque_capacity};
@@ -6,6 +6,7 @@ ghost use Rattle.kq_table.specs.Rows.{find_row, HaveOwnKeys};
 ghost use Rattle.kq_table.specs.Slots.{standing, index_room, StandsIn, IsIndexed};
 
 use crate::Keyed;
+use crate::placed::Place;
 use std::collections::{HashMap, VecDeque};
 use std::hash::Hash;
 
@@ -14,6 +15,35 @@ use std::hash::Hash;
 pub(crate) struct Found<T> {
     pub(crate) slot: usize,
     pub(crate) row: T,
+}
+
+/// The row of a key with its slot, where it stands at this place.
+#[inline(always)]
+fn found_at<T: Keyed>(
+    slots: &VecDeque<Option<T>>,
+    base: usize,
+    place: usize,
+    key: T::Key,
+) -> Option<Found<T>>
+    ensures { MatchOption result
+        ((slot : ℕ) (row : T) → place ≡ base + slot → StandsIn T.Key.eq T.key_of key slots.now.items slot row → ⊥)
+        (λ found. (place ≡ base + found.slot) × StandsIn T.Key.eq T.key_of key slots.now.items found.slot found.row) }
+{
+    if place < base {
+        return None;
+    }
+    let slot = place - base;
+    if slots.len() <= slot {
+        return None;
+    }
+    let Some(row) = slots[slot] else {
+        return None;
+    };
+    if key == row.key() {
+        Some(Found { slot, row })
+    } else {
+        None
+    }
 }
 
 /// The row of a key with its slot.
@@ -32,20 +62,26 @@ pub(crate) fn slot_of<T: Keyed>(
     let Some(&place) = index.get(&key) else {
         return None;
     };
-    if place < base {
-        return None;
-    }
-    let slot = place - base;
-    if slots.len() <= slot {
-        return None;
-    }
-    let Some(row) = slots[slot] else {
-        return None;
-    };
-    if key == row.key() {
-        Some(Found { slot, row })
-    } else {
-        None
+    found_at(slots, base, place, key)
+}
+
+/// The row of a key with its slot. Where it stands at the guessed place, the index is not asked.
+#[inline(always)]
+pub(crate) fn slot_near<T: Keyed>(
+    slots: &VecDeque<Option<T>>,
+    base: usize,
+    index: &HashMap<T::Key, usize>,
+    guess: Place,
+    key: T::Key,
+) -> Option<Found<T>>
+    requires { IsIndexed T.Key.eq T.key_of slots.now.items base index.now }
+    ensures { MatchOption result
+        (find_row T.Key.eq T.key_of key (standing slots.now.items) ≡ None)
+        (λ found. StandsIn T.Key.eq T.key_of key slots.now.items found.slot found.row) }
+{
+    match found_at(slots, base, guess.number, key) {
+        Some(found) => Some(found),
+        None => slot_of(slots, base, index, key),
     }
 }
 

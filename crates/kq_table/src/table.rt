@@ -1,11 +1,13 @@
 ghost use Rattle.std.specs.Prelude.{◌≡◌, ◌<◌, ◌≤◌, ◌+◌, ◌++◌, ◌∷◌, ◌↔◌, [], None, IsTrue, OnOk, OnErr, MatchOption};
 ghost use Rattle.std.specs.Prelude.{length, max, map, filter, is_some, slice_get};
+ghost use Rattle.std.specs.Option.{option_map};
 ghost use Rattle.std.specs.Vec.{vec_len, vec_capacity};
 ghost use Rattle.kq_table.specs.Rows.{find_row, is_among, row_after, with_row, without_row, HaveOwnKeys};
 
 use crate::Keyed;
 use crate::order::{slots_of, take_keys};
-use crate::place::{first_from, make_place, note, slot_of, starts_empty};
+use crate::place::{first_from, make_place, note, slot_near, slot_of, starts_empty};
+use crate::placed::{Place, Placed};
 use kq_model::Memory;
 use std::alloc::Global;
 use std::collections::{HashMap, VecDeque};
@@ -117,6 +119,21 @@ impl<T: Keyed> Table<T> {
         Some(found.row)
     }
 
+    /// The row of a key with its place, where `modify_at` and `remove_at` find it without the index.
+    pub fn locate(&self, key: T::Key) -> Option<Placed<T>>
+        ensures { option_map (λ p. p.row) result ≡ find_row T.Key.eq T.key_of key self.now.rows }
+    {
+        let Some(found) = slot_of(&self.slots, self.base, &self.index, key) else {
+            return None;
+        };
+        Some(Placed {
+            row: found.row,
+            place: Place {
+                number: self.base + found.slot,
+            },
+        })
+    }
+
     /// Whether there is a row of a key.
     pub fn contains(&self, key: T::Key) -> bool
         ensures { result ≡ is_some (find_row T.Key.eq T.key_of key self.now.rows) }
@@ -181,6 +198,17 @@ impl<T: Keyed> Table<T> {
         }
     }
 
+    /// The same as `modify`. Where the row of the key stands at the guessed place, that is all that is
+    /// looked at.
+    pub fn modify_at(&mut self, guess: Place, row: T)
+        ensures rows { self.new.rows ≡ with_row T.Key.eq T.key_of row self.old.rows }
+        ensures room { self.new.room ≡ self.old.room }
+    {
+        if let Some(near) = slot_near(&self.slots, self.base, &self.index, guess, row.key()) {
+            self.slots[near.slot] = Some(row);
+        }
+    }
+
     /// Takes out the row of a key, where there is one. It gives its room back.
     pub fn remove(&mut self, key: T::Key) -> Option<T>
         ensures removed { result ≡ find_row T.Key.eq T.key_of key self.old.rows }
@@ -194,6 +222,22 @@ impl<T: Keyed> Table<T> {
         self.count -= 1;
         self.drop_empty_front();
         Some(found.row)
+    }
+
+    /// The same as `remove`. Where the row of the key stands at the guessed place, that is all that is
+    /// looked at.
+    pub fn remove_at(&mut self, guess: Place, key: T::Key) -> Option<T>
+        ensures removed { result ≡ find_row T.Key.eq T.key_of key self.old.rows }
+        ensures rows { self.new.rows ≡ without_row T.Key.eq T.key_of key self.old.rows }
+        ensures room { MatchOption result (self.new.room ≡ self.old.room) (λ _. self.new.room ≡ self.old.room + 1) }
+    {
+        let Some(near) = slot_near(&self.slots, self.base, &self.index, guess, key) else {
+            return None;
+        };
+        self.slots[near.slot] = None;
+        self.count -= 1;
+        self.drop_empty_front();
+        Some(near.row)
     }
 
     /// Takes out the first row. It gives its room back.
