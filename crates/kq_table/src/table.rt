@@ -119,7 +119,8 @@ impl<T: Keyed> Table<T> {
         Some(found.row)
     }
 
-    /// The row of a key with its place, where `modify_at` and `remove_at` find it without the index.
+    /// The row of a key with its place, where `find_at`, `modify_at` and `remove_at` find it without the
+    /// index.
     pub fn locate(&self, key: T::Key) -> Option<Placed<T>>
         ensures { option_map (λ p. p.row) result ≡ find_row T.Key.eq T.key_of key self.now.rows }
     {
@@ -132,6 +133,17 @@ impl<T: Keyed> Table<T> {
                 number: self.base + found.slot,
             },
         })
+    }
+
+    /// The same as `find`. Where the row of the key stands at the guessed place, that is all that is
+    /// looked at.
+    pub fn find_at(&self, guess: Place, key: T::Key) -> Option<T>
+        ensures { result ≡ find_row T.Key.eq T.key_of key self.now.rows }
+    {
+        let Some(near) = slot_near(&self.slots, self.base, &self.index, guess, key) else {
+            return None;
+        };
+        Some(near.row)
     }
 
     /// Whether there is a row of a key.

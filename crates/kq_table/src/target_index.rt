@@ -179,8 +179,8 @@ fn set_after<K: Copy + Eq + Hash, G: Copy>(
     let Some(key) = of else {
         return;
     };
-    if let Some(link) = links.find(key) {
-        links.modify(Link { after, ..link });
+    if let Some(link) = links.locate(key) {
+        links.modify_at(link.place, Link { after, ..link.row });
     }
 }
 
@@ -197,8 +197,8 @@ fn set_before<K: Copy + Eq + Hash, G: Copy>(
     let Some(key) = of else {
         return;
     };
-    if let Some(link) = links.find(key) {
-        links.modify(Link { before, ..link });
+    if let Some(link) = links.locate(key) {
+        links.modify_at(link.place, Link { before, ..link.row });
     }
 }
 
@@ -218,7 +218,7 @@ fn put_last<K: Copy, G: Copy + Eq + Hash>(
     ensures own_keys { HaveOwnKeys G.eq (λ e. e.target) ends.new.rows }
     ensures limit { length ends.new.rows + ends.new.room ≡ length ends.old.rows + ends.old.room }
 {
-    match ends.find(target) {
+    match ends.locate(target) {
         None => {
             ends.attach(Ends {
                 target,
@@ -228,8 +228,14 @@ fn put_last<K: Copy, G: Copy + Eq + Hash>(
             None
         }
         Some(found) => {
-            ends.modify(Ends { last: key, ..found });
-            Some(found.last)
+            ends.modify_at(
+                found.place,
+                Ends {
+                    last: key,
+                    ..found.row
+                },
+            );
+            Some(found.row.last)
         }
     }
 }
@@ -249,15 +255,15 @@ fn leave<K: Copy, G: Copy + Eq + Hash>(
     ensures own_keys { HaveOwnKeys G.eq (λ e. e.target) ends.new.rows }
     ensures limit { length ends.new.rows + ends.new.room ≡ length ends.old.rows + ends.old.room }
 {
-    let Some(found) = ends.find(target) else {
+    let Some(found) = ends.locate(target) else {
         return;
     };
     match (before, after) {
         (None, None) => {
-            let _ = ends.remove(target);
+            let _ = ends.remove_at(found.place, target);
         }
-        (None, Some(first)) => ends.modify(Ends { first, ..found }),
-        (Some(last), None) => ends.modify(Ends { last, ..found }),
+        (None, Some(first)) => ends.modify_at(found.place, Ends { first, ..found.row }),
+        (Some(last), None) => ends.modify_at(found.place, Ends { last, ..found.row }),
         (Some(_), Some(_)) => {}
     }
 }

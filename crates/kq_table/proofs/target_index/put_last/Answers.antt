@@ -22,8 +22,8 @@ returns-in-Some-clause-ends g c = λ other.
     let alike = g.G.PartialEq.eq in
     let rows = c.args.ends.now.rows in
     let at_target = find_row alike (λ (e : Ends g.row.K.Denot g.row.G.Denot). e.target) c.args.target rows in
-    ap (λ (es : List (Ends g.row.K.Denot g.row.G.Denot)). find_row alike (λ (e : Ends g.row.K.Denot g.row.G.Denot). e.target) other es) c.modify.ensures.rows
-    ∙ ends-modify alike g.met.G.Eq.laws c.args.target rows (record c.in-Some.found { last = c.args.key }) c.in-Some.found (sym c.in-Some.ensures) refl other
+    ap (λ (es : List (Ends g.row.K.Denot g.row.G.Denot)). find_row alike (λ (e : Ends g.row.K.Denot g.row.G.Denot). e.target) other es) c.modify_at.ensures.rows
+    ∙ ends-modify alike g.met.G.Eq.laws c.args.target rows (record c.in-Some.found.row { last = c.args.key }) c.in-Some.found.row (sym c.in-Some.ensures) refl other
     ∙ ap (λ o. cond (alike c.args.target other) (Some (joined c.args.target c.args.key o)) (find_row alike (λ (e : Ends g.row.K.Denot g.row.G.Denot). e.target) other rows)) c.in-Some.ensures
 
 pub returns-in-None-clause-own_keys : goal.returns-in-None-clause-own_keys
@@ -34,8 +34,8 @@ returns-in-None-clause-own_keys g c =
 
 pub returns-in-Some-clause-own_keys : goal.returns-in-Some-clause-own_keys
 returns-in-Some-clause-own_keys g c =
-    subst (λ (es : List (Ends g.row.K.Denot g.row.G.Denot)). HaveOwnKeys g.G.PartialEq.eq (λ (e : Ends g.row.K.Denot g.row.G.Denot). e.target) es) (sym c.modify.ensures.rows)
-    (HaveOwnKeys-with g.G.PartialEq.eq (λ (e : Ends g.row.K.Denot g.row.G.Denot). e.target) g.met.G.Eq.laws (record c.in-Some.found { last = c.args.key }) c.args.ends.now.rows c.requires.own_keys)
+    subst (λ (es : List (Ends g.row.K.Denot g.row.G.Denot)). HaveOwnKeys g.G.PartialEq.eq (λ (e : Ends g.row.K.Denot g.row.G.Denot). e.target) es) (sym c.modify_at.ensures.rows)
+    (HaveOwnKeys-with g.G.PartialEq.eq (λ (e : Ends g.row.K.Denot g.row.G.Denot). e.target) g.met.G.Eq.laws (record c.in-Some.found.row { last = c.args.key }) c.args.ends.now.rows c.requires.own_keys)
 
 pub returns-in-None-clause-limit : goal.returns-in-None-clause-limit
 returns-in-None-clause-limit g c =
@@ -46,6 +46,6 @@ returns-in-None-clause-limit g c =
 
 pub returns-in-Some-clause-limit : goal.returns-in-Some-clause-limit
 returns-in-Some-clause-limit g c =
-    let many = ap length c.modify.ensures.rows ∙ length-with_row g.G.PartialEq.eq (λ (e : Ends g.row.K.Denot g.row.G.Denot). e.target) g.met.G.Eq.laws (record c.in-Some.found { last = c.args.key }) c.args.ends.now.rows in
-    let room = c.modify.ensures.room in
+    let many = ap length c.modify_at.ensures.rows ∙ length-with_row g.G.PartialEq.eq (λ (e : Ends g.row.K.Denot g.row.G.Denot). e.target) g.met.G.Eq.laws (record c.in-Some.found.row { last = c.args.key }) c.args.ends.now.rows in
+    let room = c.modify_at.ensures.room in
     omega arith

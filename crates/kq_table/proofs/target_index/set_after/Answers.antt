@@ -9,13 +9,13 @@ returns-in_default-clause-rows g c =
     sym (ap (λ o. with_after g.K.PartialEq.eq o c.args.after c.args.links.now.rows) c.in_default.is
     ∙ map-none (λ (l : Link g.row.K.Denot g.row.G.Denot). l) (λ _. refl) c.args.links.now.rows)
 
-pub returns-in-Some-find-clause-rows : goal.returns-in-Some-find-clause-rows
-returns-in-Some-find-clause-rows g c =
-    c.modify.ensures.rows
-    ∙ with_row-marked g.K.PartialEq.eq g.met.K.Eq.laws (λ (l : Link g.row.K.Denot g.row.G.Denot). record l { after = c.args.after }) (λ _. refl) c.in-Some.key c.args.links.now.rows c.in-Some-find.link c.requires (sym c.in-Some-find.ensures)
+pub returns-in-Some-locate-clause-rows : goal.returns-in-Some-locate-clause-rows
+returns-in-Some-locate-clause-rows g c =
+    c.modify_at.ensures.rows
+    ∙ with_row-marked g.K.PartialEq.eq g.met.K.Eq.laws (λ (l : Link g.row.K.Denot g.row.G.Denot). record l { after = c.args.after }) (λ _. refl) c.in-Some.key c.args.links.now.rows c.in-Some-locate.link.row c.requires (sym c.in-Some-locate.ensures)
     ∙ ap (λ o. with_after g.K.PartialEq.eq o c.args.after c.args.links.now.rows) (sym c.in-Some.is)
 
-pub returns-in_default-find-clause-rows : goal.returns-in_default-find-clause-rows
-returns-in_default-find-clause-rows g c =
+pub returns-in_default-locate-clause-rows : goal.returns-in_default-locate-clause-rows
+returns-in_default-locate-clause-rows g c =
     sym (ap (λ o. with_after g.K.PartialEq.eq o c.args.after c.args.links.now.rows) c.in-Some.is
-    ∙ marked-away g.K.PartialEq.eq g.met.K.Eq.laws (λ (l : Link g.row.K.Denot g.row.G.Denot). record l { after = c.args.after }) (Some c.in-Some.key) c.args.links.now.rows (sym c.in_default-find.ensures))
+    ∙ marked-away g.K.PartialEq.eq g.met.K.Eq.laws (λ (l : Link g.row.K.Denot g.row.G.Denot). record l { after = c.args.after }) (Some c.in-Some.key) c.args.links.now.rows (sym c.in_default-locate.ensures))
