@@ -13,12 +13,13 @@ use Rattle.kq_model.specs.Kqueue.{HaveOwnKeys}
 use Rattle.kq_model.specs.Tallied.{Knote}
 use Rattle.kq_model.specs.Targets.{Posted, is_target, target_eq}
 use Rattle.kq_model.proofs.KeyLaws.{same_key}
-use Rattle.kq_model.proofs.KnoteLaws.{by_test, find_knote-none, find_knote-here, find_knote-later, find_knote-head, find_knote-tail, with_knote-absent}
+use Rattle.kq_model.proofs.KnoteLaws.{by_test, find_knote-none, find_knote-here, find_knote-later, find_knote-head, find_knote-tail, with_knote-absent, without_knote-absent}
 use Rattle.kq_model.proofs.SameTarget.{same_target}
 use Rattle.kq_knote.specs.Index.{watch_of, shares, is_shared, is_hinted, first_hinted, behind, IsHinted, IsOnly, KeepsTarget, keys_watching}
 use Rattle.kq_table.specs.declared.watch.Watch.{Watch}
 use Rattle.kq_table.specs.Links as links
 use Rattle.kq_table.specs.Rows.{find_row, rows_behind, without_row}
+use Rattle.kq_table.proofs.FoundLaws.{filter-swap}
 
 abbrev pub Watching : Type 0
 Watching = Watch Key (Option Target)
@@ -104,6 +105,28 @@ find-shared key (x ∷ ks) k found is =
     let rest = find-shared key ks k (sym (find_knote-later key x ks apart) ∙ found) is in
     by_test (λ b. find_knote key (cond b (x ∷ filter shares ks) (filter shares ks)) ≡ Some k) (shares x)
     (λ _. find_knote-later key x (filter shares ks) apart ∙ rest) (λ _. rest)) refl
+
+-- nor is a knote that shares none
+pub find-unshared : (key : Key) (ks : List Knote) (k : Knote) → HaveOwnKeys ks → find_knote key ks ≡ Some k → shares k ≡ false → find_knote key (filter shares ks) ≡ None
+unfolding find_knote
+find-unshared key [] k own found alone = absurd (none-some k found)
+find-unshared key (x ∷ ks) k own found alone =
+    by_test (λ b. key_eq key x.key ≡ b → find_knote key (cond (shares x) (x ∷ filter shares ks) (filter shares ks)) ≡ None) (key_eq key x.key)
+    (λ _ here.
+    let it : x ≡ k = same_Some x k (sym (find_knote-here key x ks here) ∙ found) in
+    let gone : find_knote key ks ≡ None = ap (λ key. find_knote key ks) (same_key key x.key here) ∙ own.0 in
+    ap (λ b. find_knote key (cond b (x ∷ filter shares ks) (filter shares ks))) (ap shares it ∙ alone)
+    ∙ find-shared_none key ks gone)
+    (λ _ apart.
+    let rest = find-unshared key ks k own.1 (sym (find_knote-later key x ks apart) ∙ found) alone in
+    by_test (λ b. find_knote key (cond b (x ∷ filter shares ks) (filter shares ks)) ≡ None) (shares x)
+    (λ _. find_knote-later key x (filter shares ks) apart ∙ rest) (λ _. rest)) refl
+
+-- so the index stays as it is without such a knote
+pub without-unshared : (key : Key) (ks : List Knote) (k : Knote) → HaveOwnKeys ks → find_knote key ks ≡ Some k → shares k ≡ false → filter shares ks ≡ filter shares (without_knote key ks)
+without-unshared key ks k own found alone =
+    sym (without_knote-absent key (filter shares ks) (find-unshared key ks k own found alone))
+    ∙ filter-swap (λ (n : Knote). not (key_eq key n.key)) shares ks
 
 -- one more knote that shares its target, and one that does not
 pub shared-push : (ks : List Knote) (k : Knote) → shares k ≡ true → map watch_of (filter shares ks) ++ watch_of k ∷ [] ≡ map watch_of (filter shares (ks ++ k ∷ []))

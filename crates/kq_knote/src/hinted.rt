@@ -1,9 +1,12 @@
-ghost use Rattle.std.specs.Prelude.{◌≡◌, ◌++◌, [], List, MatchOption, slice_get, true};
+ghost use Rattle.std.specs.Prelude.{◌≡◌, ◌++◌, [], List, MatchOption, slice_get, true, if◌then◌else◌};
+ghost use Rattle.kq_model.specs.Knote.{key_eq};
 ghost use Rattle.kq_model.specs.Tallied as tallied;
 ghost use Rattle.kq_knote.specs.Index.{IsHinted, IsOnly, behind, first_hinted, is_hinted, is_shared};
+ghost use Rattle.kq_table.specs.Rows.{without_row};
 
 use crate::{Knote, Knotes};
 use kq_model::{Hint, Key, Target};
+use kq_table::TargetIndex;
 
 /// Whether others may watch the same, so that records give hints for it.
 #[tactic(auto, unfolding(crate::specs::Index::is_shared))]
@@ -22,6 +25,17 @@ pub(crate) fn stays_whole(whole: bool, before: &Knote, after: &Knote) -> bool
     ensures { result ≡ true → (whole ≡ true) × (before.now.target ≡ after.now.target) }
 {
     whole && before.target == after.target
+}
+
+/// Takes a knote that has gone out of the index by target, which has none but those that share theirs.
+pub(crate) fn unwatch(index: &mut TargetIndex<Key, Option<Target>>, gone: &Knote)
+    ensures { index.new.watches ≡ (if is_shared gone.now.target
+        then without_row key_eq (λ w. w.key) gone.now.key index.old.watches
+        else index.old.watches) }
+{
+    if is_shared(gone.target) {
+        index.remove(gone.key);
+    }
 }
 
 /// Whether a knote watches one of the hinted targets.

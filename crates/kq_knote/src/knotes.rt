@@ -11,10 +11,10 @@ ghost use Rattle.kq_table.specs.Rows.{row_after};
 
 use crate::Knote;
 use crate::arming::{put_changed, put_new};
-use crate::hinted::{is_shared, stays_whole};
+use crate::hinted::{is_shared, stays_whole, unwatch};
 use kq_alarm::Alarms;
 use kq_model::{Filter, Key, Memory, Target};
-use kq_table::{Table, TargetIndex, Watch};
+use kq_table::{Place, Placed, Table, TargetIndex, Watch};
 use std::alloc::Global;
 use std::marker::Model;
 
@@ -137,6 +137,17 @@ impl Knotes {
         self.rows.find(key)
     }
 
+    /// The knote of a key with its place, where `modify_at` and `remove_at` find it without a search.
+    pub fn locate(&self, key: Key) -> Option<Placed<Knote>>
+        ensures knote { option_map (λ p. p.row) result ≡ find_knote key self.now.knotes }
+
+        // The same of knotes that keep all that they heard.
+        ensures model { (ms : List (model.Knote listed)) → self.now.knotes ≡ tallied_knotes ms
+            → option_map (λ p. p.row) result ≡ option_map tallied_knote (find_knote key ms) }
+    {
+        self.rows.locate(key)
+    }
+
     /// The knote that was registered first.
     pub fn first(&self) -> Option<Knote>
         ensures { result ≡ slice_get self.now.knotes 0 }
@@ -191,14 +202,29 @@ impl Knotes {
         ensures model { (ms : List (model.Knote listed)) (m : model.Knote listed) → self.old.knotes ≡ tallied_knotes ms
             → knote ≡ tallied_knote m → self.new.knotes ≡ tallied_knotes (with_knote m ms) }
     {
-        let Some(before) = self.rows.find(knote.key) else {
+        if let Some(found) = self.locate(knote.key) {
+            self.modify_at(found.place, knote);
+        }
+    }
+
+    /// The same as `modify`. Where the knote of the key stands at the guessed place, that is all that is
+    /// looked at.
+    pub fn modify_at(&mut self, guess: Place, knote: Knote)
+        ensures knotes { self.new.knotes ≡ with_knote knote self.old.knotes }
+        ensures room { self.new.room ≡ self.old.room }
+
+        // The same of knotes that keep all that they heard.
+        ensures model { (ms : List (model.Knote listed)) (m : model.Knote listed) → self.old.knotes ≡ tallied_knotes ms
+            → knote ≡ tallied_knote m → self.new.knotes ≡ tallied_knotes (with_knote m ms) }
+    {
+        let Some(before) = self.rows.find_at(guess, knote.key) else {
             return;
         };
         let first = knote.first_after(self.since);
         self.soonest = self.soonest.min(first);
         self.alarmed = put_changed(&before, self.since, &mut self.alarms, self.alarmed, first);
         self.whole = stays_whole(self.whole, &before, &knote);
-        self.rows.modify(knote);
+        self.rows.modify_at(guess, knote);
     }
 
     /// Takes out the knote of a key, where there is one. It gives its room back.
@@ -213,8 +239,30 @@ impl Knotes {
             → (result ≡ option_map tallied_knote (find_knote key ms))
             × (self.new.knotes ≡ tallied_knotes (without_knote key ms)) }
     {
-        self.index.remove(key);
-        self.rows.remove(key)
+        let Some(found) = self.locate(key) else {
+            return None;
+        };
+        self.remove_at(found.place, key)
+    }
+
+    /// The same as `remove`. Where the knote of the key stands at the guessed place, no search by key is made
+    /// for it.
+    pub fn remove_at(&mut self, guess: Place, key: Key) -> Option<Knote>
+        ensures removed { result ≡ find_knote key self.old.knotes }
+        ensures knotes { self.new.knotes ≡ without_knote key self.old.knotes }
+        ensures room { MatchOption result (self.new.room ≡ self.old.room) (λ _. self.new.room ≡ self.old.room + 1) }
+        ensures limit { length self.new.knotes + self.new.room ≡ length self.old.knotes + self.old.room }
+
+        // The same of knotes that keep all that they heard.
+        ensures model { (ms : List (model.Knote listed)) → self.old.knotes ≡ tallied_knotes ms
+            → (result ≡ option_map tallied_knote (find_knote key ms))
+            × (self.new.knotes ≡ tallied_knotes (without_knote key ms)) }
+    {
+        let Some(knote) = self.rows.remove_at(guess, key) else {
+            return None;
+        };
+        unwatch(&mut self.index, &knote);
+        Some(knote)
     }
 
     /// Takes out the READ, WRITE and VNODE knotes of a descriptor number: three keys at most. They
