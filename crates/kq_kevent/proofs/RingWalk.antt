@@ -193,9 +193,8 @@ module _ (from to moment : ℕ) (wanted : Kqueue) where
 
 -- ---- one that rings
 
-pub rung-stands : (from to : ℕ) (k r : Knote) (ks : List Knote) → r ≡ rung from to k → find_knote k.key ks ≡ Some k → StandsFor r ks
+pub rung-stands : (from to : ℕ) (k r : Knote) (ks : List Knote) → r ≡ rung from to k → find_knote k.key ks ≡ Some k → StandsFor k r ks
 rung-stands from to k r ks is there = record {
-  before = k;
   there = ap (λ (n : Knote). find_knote n.key ks) is ∙ ap (λ key. find_knote key ks) (rung-key from to k) ∙ there;
   target = sym (ap (λ (n : Knote). n.target) is ∙ rung_times-target (ticks_of from to k) k);
   active = λ idle. rung_times-idle (ticks_of from to k) k (sym (ap (λ (n : Knote). n.active) is) ∙ idle);

@@ -12,8 +12,9 @@ use Rattle.kq_model.specs.Kqueue.{AreOnce, HaveOwnKeys, is_waiting, IsSound, emp
 use Rattle.kq_model.specs.Registration.{queue_for, is_restart, with_made, with_removed, with_modified}
 use Rattle.kq_model.specs.Tallied.{Knote, Kqueue}
 use Rattle.kq_model.proofs.KeyLaws.{same_key, key_eq-refl, key_eq-sym, has_key-without_same, has_key-without_other}
-use Rattle.kq_model.proofs.KnoteLaws.{by_test, found_or, find_knote-none, find_knote-here, find_knote-later, find_knote-append, find_knote-with_same, find_knote-with_other, find_knote-without_same, find_knote-without_other, HaveOwnKeys-append, HaveOwnKeys-with, HaveOwnKeys-without}
-use Rattle.kq_kevent.proofs.QueueLaws.{has_key-queue_for_same, has_key-queue_for_other, AreOnce-queue_for, AreOnce-without}
+use Rattle.kq_model.proofs.KnoteLaws.{by_test, found_or, find_knote-none, find_knote-here, find_knote-later, find_knote-append, find_knote-with_same, find_knote-with_other, find_knote-without_same, find_knote-without_other, HaveOwnKeys-append, HaveOwnKeys-with, HaveOwnKeys-without, without_knote-absent}
+use Rattle.kq_kevent.proofs.QueueLaws.{has_key-queue_for_same, has_key-queue_for_other, AreOnce-queue_for, AreOnce-without, without_key-absent}
+use Rattle.kq_kevent.proofs.RegisterLaws.{same_kqueue}
 use Rattle.kq_knote.proofs.CountLaws.{length-keys}
 
 pub waiting-none : is_waiting {h = tallying} None ≡ false
@@ -35,6 +36,12 @@ IsSound-empty = record {
 pub IsSound-absent : (kq : Kqueue) → IsSound kq → (key : Key) → find_knote key kq.knotes ≡ None
     → has_key key kq.queue ≡ false
 IsSound-absent kq sound key absent = sound.waiting key ∙ ap is_waiting absent ∙ waiting-none
+
+-- so taking one out that is not there changes nothing
+pub removed-absent : (kq : Kqueue) → IsSound kq → (key : Key) → find_knote key kq.knotes ≡ None → kq ≡ with_removed key kq
+removed-absent kq sound key absent =
+    sym (same_kqueue (without_knote key kq.knotes) (without_key key kq.queue) kq (without_knote-absent key kq.knotes absent)
+    (without_key-absent key kq.queue (IsSound-absent kq sound key absent)))
 
 -- that of a knote is there exactly where the knote is active and enabled
 pub waiting-present : (kq : Kqueue) → IsSound kq → (key : Key) (k : Knote) → find_knote key kq.knotes ≡ Some k

@@ -127,20 +127,18 @@ heard_along-active [] k = refl
 heard_along-active (hint ∷ hints) k = heard_along-active hints (after_hint hint k) ∙ after_hint-active hint k
 
 pub told-stands : (posted : List Posted) (key : Key) (ks : List Knote) (k : Knote) (t : Telling) → t ≡ told_all posted (telling k false false)
-    → find_knote key ks ≡ Some k → StandsFor t.knote ks
+    → find_knote key ks ≡ Some k → StandsFor k t.knote ks
 told-stands posted key ks k t is found =
     let hints = hints_for k posted in
     let knote : t.knote ≡ heard_along hints k = ap (λ (x : Telling). x.knote) (is ∙ told-all posted k false false) in
     record {
-      before = k;
       there = ap (λ (n : Knote). find_knote n.key ks) knote ∙ ap (λ at. find_knote at ks) (heard_along-key hints k ∙ sym (find_knote-key key ks k found)) ∙ found;
       target = sym (ap (λ (n : Knote). n.target) knote ∙ heard_along-target hints k);
       active = λ idle. sym (ap (λ (n : Knote). n.active) knote ∙ heard_along-active hints k) ∙ idle;
     }
 
-pub looked-stands : (seen : Option Seen) (k next : Knote) (ks : List Knote) → next ≡ activated seen k → StandsFor k ks → StandsFor next ks
-looked-stands seen k next ks is stands = record {
-  before = stands.before;
+pub looked-stands : (seen : Option Seen) (before k next : Knote) (ks : List Knote) → next ≡ activated seen k → StandsFor before k ks → StandsFor before next ks
+looked-stands seen before k next ks is stands = record {
   there = ap (λ (n : Knote). find_knote n.key ks) is ∙ ap (λ at. find_knote at ks) (activated-key seen k) ∙ stands.there;
   target = stands.target ∙ sym (ap (λ (n : Knote). n.target) is ∙ activated-target seen k);
   active = λ idle. stands.active (activated-active seen k (sym (ap (λ (n : Knote). n.active) is) ∙ idle));

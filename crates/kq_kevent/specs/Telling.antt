@@ -18,9 +18,8 @@ unfoldable pub told_all : List Posted → Telling → Telling
 told_all [] t = t
 told_all (p ∷ posted) t = told_all posted (told_one p t)
 
--- The knote is one of these after something was made of it: it watches what it watched, and is active if it was.
-pub record StandsFor (knote : Knote) (knotes : List Knote) : Type 0 where
-  pub before : Knote
+-- The knote is this one of them after something was made of it: it watches what it watched, and is active if it was.
+pub record StandsFor (before knote : Knote) (knotes : List Knote) : Type 0 where
   pub there : find_knote knote.key knotes ≡ Some before
   pub target : before.target ≡ knote.target
   pub active : knote.active ≡ false → before.active ≡ false

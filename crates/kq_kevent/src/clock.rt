@@ -14,6 +14,7 @@ ghost use Rattle.kq_kevent.specs.Ringing.{AreOutside, IsClocked, firsts_at, rung
 use crate::Kq;
 use kq_knote::Knote;
 use kq_model::Key;
+use kq_table::Placed;
 
 /// The last moment of the clock.
 const LAST_MOMENT: u64 = i64::MAX as u64;
@@ -129,10 +130,10 @@ impl Kq {
         ensures room { self.new.room ≡ self.old.room }
         ensures limit { limit self.new ≡ limit self.old }
     {
-        let Some(knote) = self.knotes.get(key) else {
+        let Some(found) = self.knotes.locate(key) else {
             return;
         };
-        self.ring(knote, from, to);
+        self.ring(&found, from, to);
     }
 
     /// Notes when the next timer expires after the moment `since`, so that until then the clock need
@@ -218,23 +219,23 @@ impl Kq {
         ensures limit { limit self.new ≡ limit self.old }
     {
         if knote.first_after(from) == moment {
-            self.ring(knote, from, to);
+            self.ring_key(knote.key, from, to);
         }
     }
 
     /// A knote gets its expirations, and its key goes where it belongs.
-    fn ring(&mut self, knote: Knote, from: u64, to: u64)
-        requires there { find_knote knote.key self.old.kq.knotes ≡ Some knote }
+    fn ring(&mut self, found: &Placed<Knote>, from: u64, to: u64)
+        requires there { find_knote found.now.row.key self.old.kq.knotes ≡ Some found.now.row }
         requires ordered { from ≤ to }
         requires within { to ≤ last_moment }
-        ensures kq { self.new.kq ≡ with_rung from to knote self.old.kq }
+        ensures kq { self.new.kq ≡ with_rung from to found.now.row self.old.kq }
         ensures owner { self.new.owner ≡ self.old.owner }
         ensures version { self.new.version ≡ self.old.version }
         ensures room { self.new.room ≡ self.old.room }
         ensures limit { limit self.new ≡ limit self.old }
     {
-        let mut rung = knote;
+        let mut rung = found.row;
         rung.ring(from, to);
-        self.put_back(rung);
+        self.put_back(found, rung);
     }
 }

@@ -23,6 +23,7 @@ use kq_filters::{Heard, Views, hear, takes};
 use kq_knote::{Knote, Tally};
 use kq_model::notes::NOTE_TRACK;
 use kq_model::{Filter, Hint, Key, Memory, Target};
+use kq_table::Placed;
 
 /// A knote that is being told the hints of a record.
 #[derive(Debug, Drop, Clone, Copy)]
@@ -343,19 +344,19 @@ impl Kq {
         ensures room { self.old.room ≤ self.new.room }
         ensures limit { limit self.new ≡ limit self.old }
     {
-        let Some(knote) = self.knotes.get(key) else {
+        let Some(found) = self.knotes.locate(key) else {
             return;
         };
-        let told = tell_all(knote, hints);
+        let told = tell_all(found.row, hints);
         if told.any {
-            self.leave(told.knote, told.done, views);
+            self.leave(&found, told.knote, told.done, views);
         }
     }
 
     /// What becomes of a knote that was told hints: it is gone, or is looked at and goes where it
     /// belongs.
-    fn leave<V: Views>(&mut self, told: Knote, done: bool, views: &V)
-        requires { StandsFor told self.old.kq.knotes }
+    fn leave<V: Views>(&mut self, found: &Placed<Knote>, told: Knote, done: bool, views: &V)
+        requires { StandsFor found.now.row told self.old.kq.knotes }
         ensures kq { self.new.kq ≡ with_noticed told (left_by (V.sees views.now) done told) self.old.kq }
         ensures owner { self.new.owner ≡ self.old.owner }
         ensures version { self.new.version ≡ self.old.version }
@@ -363,15 +364,15 @@ impl Kq {
         ensures limit { limit self.new ≡ limit self.old }
     {
         if done && told.has_nothing() {
-            self.unmake(told.key);
+            self.unmake_at(told.key, found);
         } else {
-            self.put_back(looked_at(views, told));
+            self.put_back(found, looked_at(views, told));
         }
     }
 
     /// Puts a knote in the place of the one of its key, and its key where it belongs.
-    pub(crate) fn put_back(&mut self, knote: Knote)
-        requires { StandsFor knote self.old.kq.knotes }
+    pub(crate) fn put_back(&mut self, found: &Placed<Knote>, knote: Knote)
+        requires { StandsFor found.now.row knote self.old.kq.knotes }
         ensures kq { self.new.kq
             ≡ record { knotes = with_knote knote self.old.kq.knotes; queue = queue_for knote self.old.kq.queue } }
         ensures owner { self.new.owner ≡ self.old.owner }
@@ -379,8 +380,9 @@ impl Kq {
         ensures room { self.new.room ≡ self.old.room }
         ensures limit { limit self.new ≡ limit self.old }
     {
-        let waits = self.queue.has(knote.key);
-        self.knotes.modify(knote);
+        // The queue holds just the knotes that are active and enabled, so it need not be asked.
+        let waits = found.row.is_waiting();
+        self.knotes.modify_at(found.place, knote);
         self.queue.place(&knote, waits);
     }
 }

@@ -95,6 +95,17 @@ impl Queue {
         self.keys.remove(key);
     }
 
+    /// Takes a key out of the queue, of which the caller knows whether it is there.
+    pub fn take_out_known(&mut self, key: Key, waits: bool)
+        requires { has_key key self.old.keys ≡ waits }
+        ensures keys { self.new.keys ≡ without_key key self.old.keys }
+        ensures capacity { self.new.capacity ≡ self.old.capacity }
+    {
+        if waits {
+            self.take_out(key);
+        }
+    }
+
     /// Takes out the key at the front.
     pub fn take_front(&mut self) -> Option<Key>
         ensures keys { MatchOption result

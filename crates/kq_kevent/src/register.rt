@@ -21,6 +21,7 @@ use bitflags::Flags;
 use kq_filters::Views;
 use kq_knote::Knote;
 use kq_model::{Change, Errno, EvFlags, Filter, Key};
+use kq_table::Placed;
 
 /// Whether the flags have this one.
 pub(crate) fn asks(flags: EvFlags, flag: EvFlags) -> bool
@@ -56,7 +57,7 @@ impl Queue {
         ensures capacity { self.new.capacity ≡ self.old.capacity }
     {
         if !knote.enabled {
-            self.take_out(knote.key);
+            self.take_out_known(knote.key, waits);
         } else if knote.active && !waits {
             self.put_in(knote.key);
         }
@@ -183,8 +184,24 @@ impl Kq {
         ensures room { self.old.room ≤ self.new.room }
         ensures limit { limit self.new ≡ limit self.old }
     {
-        self.knotes.remove(key);
-        self.queue.take_out(key);
+        if let Some(found) = self.knotes.locate(key) {
+            self.unmake_at(key, &found);
+        }
+    }
+
+    /// Takes out the knote of a key, which was located.
+    pub(crate) fn unmake_at(&mut self, key: Key, found: &Placed<Knote>)
+        requires { find_knote key self.old.kq.knotes ≡ Some found.now.row }
+        ensures kq { self.new.kq ≡ with_removed key self.old.kq }
+        ensures owner { self.new.owner ≡ self.old.owner }
+        ensures version { self.new.version ≡ self.old.version }
+        ensures room { self.old.room ≤ self.new.room }
+        ensures limit { limit self.new ≡ limit self.old }
+    {
+        // The queue holds just the knotes that are active and enabled, so it need not be asked.
+        let waits = found.row.is_waiting();
+        self.knotes.remove_at(found.place, key);
+        self.queue.take_out_known(key, waits);
     }
 
     /// Lets a change modify the knote of its key.

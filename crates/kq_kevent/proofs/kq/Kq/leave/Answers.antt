@@ -1,5 +1,5 @@
 use Rattle.std.proofs.Common.{◌≡◌, ◌&&◌, false, sym, ap, ap₂, ◌∙◌}
-use Rattle.kq_model.specs.Knote.{has_nothing}
+use Rattle.kq_model.specs.Knote.{find_knote, has_nothing}
 use Rattle.kq_model.specs.Look.{look}
 use Rattle.kq_model.specs.Registration.{with_removed}
 use Rattle.kq_model.specs.Tallied.{Knote}
@@ -9,13 +9,16 @@ use Rattle.kq_kevent.proofs.kq.Kq.leave.Goals.{else-done-via-then-done+else-has_
 
 pub put_back-requires : goal.put_back-requires
 put_back-requires g c =
-    looked-stands (look (g.V.Views.sees c.args.views.now) c.args.told) c.args.told c.looked_at.result c.args.self.now.kq.knotes
+    looked-stands (look (g.V.Views.sees c.args.views.now) c.args.told) c.args.found.now.row c.args.told c.looked_at.result c.args.self.now.kq.knotes
     c.looked_at.ensures c.requires
+
+pub unmake_at-requires : goal.unmake_at-requires
+unmake_at-requires g c = ap (λ (k : Knote). find_knote k.key c.args.self.now.kq.knotes) c.told.view_is ∙ c.requires.there
 
 pub returns-then-has_nothing-clause-kq : goal.returns-then-has_nothing-clause-kq
 returns-then-has_nothing-clause-kq g c =
     let empty = sym c.has_nothing.ensures ∙ c.if-has_nothing.true in
-    c.unmake.ensures.kq ∙ ap (λ (n : Knote). with_removed n.key c.args.self.now.kq) c.told.view_is
+    c.unmake_at.ensures.kq ∙ ap (λ (k : Knote). with_removed k.key c.args.self.now.kq) c.told.view_is
     ∙ leave-gone (g.V.Views.sees c.args.views.now) c.args.done c.args.told c.args.self.now.kq c.if-done.true empty
 
 pub returns-else-done-clause-kq : goal.returns-else-done-clause-kq

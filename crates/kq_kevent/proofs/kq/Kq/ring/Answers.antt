@@ -7,7 +7,7 @@ use Rattle.kq_kevent.proofs.TurnLaws.{kqueue_of}
 use Rattle.kq_kevent.proofs.kq.Kq.ring.Goals as goal
 
 pub put_back-requires : goal.put_back-requires
-put_back-requires c = rung-stands c.args.from c.args.to c.args.knote c.ring.new.self c.args.self.now.kq.knotes c.ring.ensures c.requires.there
+put_back-requires c = rung-stands c.args.from c.args.to c.args.found.now.row c.ring.new.self c.args.self.now.kq.knotes c.ring.ensures c.requires.there
 
 pub returns-clause-kq : goal.returns-clause-kq
 returns-clause-kq c =
