@@ -7,13 +7,13 @@ use Rattle.kq_kevent.specs.declared.decide.Decision.TheVariants.{Refuse, Remove,
 
 abbrev pub decision_of : Decision → tallied.Decision
 decision_of (Refuse e) = registration.Refuse e
-decision_of Remove = registration.Remove
+decision_of (Remove found) = registration.Remove
 decision_of Make = registration.Make
-decision_of (Modify k) = registration.Modify k
+decision_of (Modify found) = registration.Modify found.row
 
--- a knote is made where there is none, and modified where it is there
+-- a knote is made where there is none, and modified or taken out where it is there
 abbrev pub IsAbout : Decision → Option tallied.Knote → Type 0
 IsAbout (Refuse e) present = Unit {0}
-IsAbout Remove present = Unit {0}
+IsAbout (Remove found) present = present ≡ Some found.row
 IsAbout Make present = present ≡ None
-IsAbout (Modify k) present = present ≡ Some k
+IsAbout (Modify found) present = present ≡ Some found.row

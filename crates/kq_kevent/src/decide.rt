@@ -1,4 +1,5 @@
 ghost use Rattle.std.specs.Prelude.{◌≡◌};
+ghost use Rattle.std.specs.Option.{option_map};
 ghost use Rattle.kq_model.specs.ChangedKnote.{key_of};
 ghost use Rattle.kq_model.specs.Knote.{find_knote};
 ghost use Rattle.kq_model.specs.Registration.{decided, decision};
@@ -11,18 +12,19 @@ use crate::register::asks;
 use kq_filters::Views;
 use kq_knote::Knote;
 use kq_model::{Change, Errno, EvFlags};
+use kq_table::Placed;
 
 /// What a change is to do.
 #[derive(Debug, Drop, Clone, Copy)]
 pub enum Decision {
     /// It is refused with this error.
     Refuse(Errno),
-    /// It takes out the knote of its key.
-    Remove,
+    /// It takes out this knote, which is that of its key.
+    Remove(Placed<Knote>),
     /// It makes the knote of its key.
     Make,
     /// It modifies this knote.
-    Modify(Knote),
+    Modify(Placed<Knote>),
 }
 
 /// Without a knote only ADD does something; with one DELETE removes it. ADD is refused where the
@@ -31,13 +33,14 @@ pub enum Decision {
 fn decided<V: Views>(
     owner: u32,
     version: u32,
-    present: Option<Knote>,
+    present: Option<Placed<Knote>>,
     change: &Change,
     views: &V,
 ) -> Decision
     ensures decided { decision_of result
-        ≡ decided (record { views = V.sees views.now; owner = owner; version = version }) present change.now }
-    ensures about { IsAbout result present }
+        ≡ decided (record { views = V.sees views.now; owner = owner; version = version })
+        (option_map (λ p. p.row) present) change.now }
+    ensures about { IsAbout result (option_map (λ p. p.row) present) }
 {
     match present {
         None => {
@@ -49,16 +52,16 @@ fn decided<V: Views>(
                 None => Decision::Make,
             }
         }
-        Some(knote) => {
+        Some(found) => {
             if asks(change.flags, EvFlags::DELETE) {
-                return Decision::Remove;
+                return Decision::Remove(found);
             }
             if !asks(change.flags, EvFlags::ADD) {
-                return Decision::Modify(knote);
+                return Decision::Modify(found);
             }
             match own_refusal(owner, version, false, change, views) {
                 Some(refused) => Decision::Refuse(refused),
-                None => Decision::Modify(knote),
+                None => Decision::Modify(found),
             }
         }
     }
@@ -83,7 +86,7 @@ impl Kq {
         decided(
             self.owner,
             self.version,
-            self.knotes.get(change.key()),
+            self.knotes.locate(change.key()),
             change,
             views,
         )

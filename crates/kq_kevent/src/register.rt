@@ -4,7 +4,7 @@ ghost use Rattle.kq_model.specs.Call.{number_of};
 ghost use Rattle.kq_model.specs.ChangedKnote.{key_of, made, modified};
 ghost use Rattle.kq_model.specs.Hearing.{listed};
 ghost use Rattle.kq_model.specs.Knote.{find_knote, has_key};
-ghost use Rattle.kq_model.specs.Kqueue.{is_waiting, AreOnce, Kqueue};
+ghost use Rattle.kq_model.specs.Kqueue.{AreOnce, Kqueue};
 ghost use Rattle.kq_model.specs.Recast.{tallied};
 ghost use Rattle.kq_model.specs.Registration.{register, queue_for, is_restart, with_made, with_removed, with_modified, without_restarted};
 ghost use Rattle.kq_model.specs.RegistrationLaws.{IsRegistered};
@@ -38,14 +38,6 @@ fn is_restart(change: &Change) -> bool
     matches!(change.filter, Filter::Timer) && asks(change.flags, EvFlags::ADD)
 }
 
-/// Whether a knote waits to be returned.
-#[tactic(auto, unfolding(kq_model::specs::Kqueue::is_waiting))]
-fn is_waiting(knote: &Knote) -> bool
-    ensures { result ≡ is_waiting (Some knote.now) }
-{
-    knote.active && knote.enabled
-}
-
 impl Queue {
     /// Keeps the key of a knote where it now belongs: out of the queue when disabled, and when it
     /// is to be returned at the back, unless it waits already, which the caller knows.
@@ -75,7 +67,7 @@ impl Queue {
         ensures capacity { self.new.capacity ≡ self.old.capacity }
     {
         if is_restart(change) {
-            self.take_out(knote.key);
+            self.take_out_known(knote.key, waits);
             self.place(knote, false);
         } else {
             self.place(knote, waits);
@@ -131,16 +123,16 @@ impl Kq {
     {
         match self.decide(change, views) {
             Decision::Refuse(error) => Some(error),
-            Decision::Remove => {
-                self.unmake(change.key());
+            Decision::Remove(found) => {
+                self.unmake_at(change.key(), &found);
                 None
             }
             Decision::Make => {
                 self.make(change, views);
                 None
             }
-            Decision::Modify(knote) => {
-                self.modify(knote, change, views);
+            Decision::Modify(found) => {
+                self.modify(&found, change, views);
                 None
             }
         }
@@ -205,24 +197,24 @@ impl Kq {
     }
 
     /// Lets a change modify the knote of its key.
-    fn modify<V: Views>(&mut self, present: Knote, change: &Change, views: &V)
-        requires present { find_knote (key_of change.now) self.old.kq.knotes ≡ Some present }
-        ensures kq { self.new.kq
-            ≡ with_modified change.now (modified (caller (V.sees views.now) self.old) change.now present) self.old.kq }
+    fn modify<V: Views>(&mut self, present: &Placed<Knote>, change: &Change, views: &V)
+        requires present { find_knote (key_of change.now) self.old.kq.knotes ≡ Some present.now.row }
+        ensures kq { self.new.kq ≡ with_modified change.now
+            (modified (caller (V.sees views.now) self.old) change.now present.now.row) self.old.kq }
         ensures owner { self.new.owner ≡ self.old.owner }
         ensures version { self.new.version ≡ self.old.version }
         ensures room { self.new.room ≡ self.old.room }
     {
         // The queue holds just the knotes that are active and enabled, so it need not be asked.
-        let waits = is_waiting(&present);
+        let waits = present.row.is_waiting();
         let moment = clock_of(views);
-        let mut knote = present;
+        let mut knote = present.row;
         knote.replace(change);
         knote.restart(change, self.version, moment);
         knote.control(change);
         knote.switch(change);
         attend(views, &mut knote);
-        self.knotes.modify(knote);
+        self.knotes.modify_at(present.place, knote);
         self.queue.renew(change, &knote, waits);
     }
 }

@@ -13,69 +13,71 @@ use crate::queue::Queue;
 use kq_filters::Views;
 use kq_knote::{Knote, Knotes};
 use kq_model::Kevent;
+use kq_table::Placed;
 
 /// What becomes of a knote, and of its key, once it was delivered: with ONESHOT it is deleted;
 /// else with CLEAR or DISPATCH it rests; else its key goes to the back.
 #[tactic(auto, unfolding(kq_model::specs::Retrieval::knotes_after, kq_model::specs::Retrieval::back_after, kq_model::specs::Retrieval::stays))]
-fn settle(knotes: &mut Knotes, queue: &mut Queue, delivered: &Knote)
+fn settle(knotes: &mut Knotes, queue: &mut Queue, delivered: &Placed<Knote>)
     requires own_keys { HaveOwnKeys knotes.old.knotes }
-    requires there { find_knote delivered.now.key knotes.old.knotes ≡ Some delivered.now }
-    requires absent { has_key delivered.now.key queue.old.keys ≡ false }
+    requires there { find_knote delivered.now.row.key knotes.old.knotes ≡ Some delivered.now.row }
+    requires absent { has_key delivered.now.row.key queue.old.keys ≡ false }
     requires capacity { length queue.old.keys < queue.old.capacity }
-    ensures knotes { knotes.new.knotes ≡ knotes_after delivered.now knotes.old.knotes }
-    ensures keys { queue.new.keys ≡ back_after delivered.now queue.old.keys }
+    ensures knotes { knotes.new.knotes ≡ knotes_after delivered.now.row knotes.old.knotes }
+    ensures keys { queue.new.keys ≡ back_after delivered.now.row queue.old.keys }
     ensures room { knotes.old.room ≤ knotes.new.room }
     ensures limit { length knotes.new.knotes + knotes.new.room ≡ length knotes.old.knotes + knotes.old.room }
     ensures capacity { queue.new.capacity ≡ queue.old.capacity }
 {
-    if delivered.oneshot {
-        knotes.remove(delivered.key);
-    } else if delivered.clear || delivered.dispatch {
-        let mut rested = *delivered;
+    let knote = delivered.row;
+    if knote.oneshot {
+        knotes.remove_at(delivered.place, knote.key);
+    } else if knote.clear || knote.dispatch {
+        let mut rested = knote;
         rested.rest();
-        knotes.modify(rested);
+        knotes.modify_at(delivered.place, rested);
     } else {
-        queue.put_in(delivered.key);
+        queue.put_in(knote.key);
     }
 }
 
 /// What becomes of a knote whose notice was delivered: it is taken back, and nothing else is reset, disabled or
 /// deleted; the knote is looked at again, and goes to the back or is not active.
 #[tactic(auto, unfolding(kq_model::specs::Retrieval::with_notice_told))]
-fn take_back<V: Views>(knotes: &mut Knotes, queue: &mut Queue, told: &Knote, views: &V)
-    requires there { find_knote told.now.key knotes.old.knotes ≡ Some told.now }
-    requires absent { has_key told.now.key queue.old.keys ≡ false }
+fn take_back<V: Views>(knotes: &mut Knotes, queue: &mut Queue, told: &Placed<Knote>, views: &V)
+    requires there { find_knote told.now.row.key knotes.old.knotes ≡ Some told.now.row }
+    requires absent { has_key told.now.row.key queue.old.keys ≡ false }
     requires capacity { length queue.old.keys < queue.old.capacity }
-    ensures kq { kqueue_of knotes.new.knotes queue.new.keys ≡ with_notice_told (without_notice told.now)
-        (kqueue_of knotes.old.knotes queue.old.keys) (look (V.sees views.now) (without_notice told.now)) }
+    ensures kq { kqueue_of knotes.new.knotes queue.new.keys ≡ with_notice_told (without_notice told.now.row)
+        (kqueue_of knotes.old.knotes queue.old.keys) (look (V.sees views.now) (without_notice told.now.row)) }
     ensures room { knotes.new.room ≡ knotes.old.room }
     ensures capacity { queue.new.capacity ≡ queue.old.capacity }
 {
-    let mut rest = *told;
+    let mut rest = told.row;
     rest.notice = None;
     if look_in(views, &rest).is_some() {
-        knotes.modify(rest);
+        knotes.modify_at(told.place, rest);
         queue.put_in(rest.key);
     } else {
         rest.active = false;
-        knotes.modify(rest);
+        knotes.modify_at(told.place, rest);
     }
 }
 
 /// What becomes of a knote that was delivered, by its notice if it had one.
 #[tactic(auto, unfolding(kq_model::specs::Retrieval::settled))]
-fn deliver<V: Views>(knotes: &mut Knotes, queue: &mut Queue, delivered: &Knote, views: &V)
+fn deliver<V: Views>(knotes: &mut Knotes, queue: &mut Queue, delivered: &Placed<Knote>, views: &V)
     requires own_keys { HaveOwnKeys knotes.old.knotes }
-    requires there { find_knote delivered.now.key knotes.old.knotes ≡ Some delivered.now }
-    requires absent { has_key delivered.now.key queue.old.keys ≡ false }
+    requires there { find_knote delivered.now.row.key knotes.old.knotes ≡ Some delivered.now.row }
+    requires absent { has_key delivered.now.row.key queue.old.keys ≡ false }
     requires capacity { length queue.old.keys < queue.old.capacity }
     ensures kq { kqueue_of knotes.new.knotes queue.new.keys
-        ≡ with_delivered (V.sees views.now) delivered.now (kqueue_of knotes.old.knotes queue.old.keys) }
+        ≡ with_delivered (V.sees views.now) delivered.now.row (kqueue_of knotes.old.knotes queue.old.keys) }
     ensures room { knotes.old.room ≤ knotes.new.room }
     ensures limit { length knotes.new.knotes + knotes.new.room ≡ length knotes.old.knotes + knotes.old.room }
     ensures capacity { queue.new.capacity ≡ queue.old.capacity }
 {
-    match delivered.notice {
+    match delivered.row.notice {
         None => settle(knotes, queue, delivered),
         Some(_) => take_back(knotes, queue, delivered, views),
     }
@@ -98,18 +100,19 @@ impl Kq {
         let Some(key) = self.queue.take_front() else {
             unreachable!();
         };
-        let Some(mut knote) = self.knotes.get(key) else {
+        let Some(found) = self.knotes.locate(key) else {
             unreachable!();
         };
-        match look_in(views, &knote) {
+        match look_in(views, &found.row) {
             None => {
-                knote.active = false;
-                self.knotes.modify(knote);
+                let mut idle = found.row;
+                idle.active = false;
+                self.knotes.modify_at(found.place, idle);
                 None
             }
             Some(seen) => {
-                deliver(&mut self.knotes, &mut self.queue, &knote, views);
-                Some(event_of(&knote, seen))
+                deliver(&mut self.knotes, &mut self.queue, &found, views);
+                Some(event_of(&found.row, seen))
             }
         }
     }

@@ -8,7 +8,7 @@ use Rattle.kq_kevent.proofs.retrieve.deliver.Goals as goal
 
 pub returns-in-Some-clause-limit : goal.returns-in-Some-clause-limit
 returns-in-Some-clause-limit g c =
-    let rest = without_notice c.args.delivered.now in
+    let rest = without_notice c.args.delivered.now.row in
     let kq = kqueue_of c.args.knotes.now.knotes c.args.queue.now.keys in
     omega (
       arith,

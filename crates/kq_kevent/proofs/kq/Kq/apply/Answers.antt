@@ -1,4 +1,5 @@
 use Rattle.std.proofs.Common.{sym, ap, ◌∙◌}
+use Rattle.kq_model.specs.Knote.{find_knote}
 use Rattle.kq_model.specs.Registration.{with_removed}
 use Rattle.kq_model.specs.Tallied.{Registered}
 use Rattle.kq_kevent.specs.Owned.{caller}
@@ -17,10 +18,13 @@ returns-in-Refuse-clause-error g c =
     ap (λ (r : Registered). r.error)
     (sym (register-refused by c.args.change.now c.args.self.now.kq c.in-Refuse.error c.in-Refuse.ensures.decision))
 
+pub unmake_at-requires : goal.unmake_at-requires
+unmake_at-requires g c = ap (λ key. find_knote key c.args.self.now.kq.knotes) c.key.ensures ∙ c.in-Remove.ensures.about
+
 pub returns-in-Remove-clause-kq : goal.returns-in-Remove-clause-kq
 returns-in-Remove-clause-kq g c =
     let by = caller (g.V.Views.sees c.args.views.now) c.args.self.now in
-    c.unmake.ensures.kq ∙ ap (λ key. with_removed key c.args.self.now.kq) c.key.ensures
+    c.unmake_at.ensures.kq ∙ ap (λ key. with_removed key c.args.self.now.kq) c.key.ensures
     ∙ ap (λ (r : Registered). r.kq)
     (sym (register-removed by c.args.change.now c.args.self.now.kq c.in-Remove.ensures.decision))
 
@@ -46,10 +50,10 @@ pub returns-in-Modify-clause-kq : goal.returns-in-Modify-clause-kq
 returns-in-Modify-clause-kq g c =
     let by = caller (g.V.Views.sees c.args.views.now) c.args.self.now in
     c.modify.ensures.kq ∙ ap (λ (r : Registered). r.kq)
-    (sym (register-modified by c.args.change.now c.args.self.now.kq c.in-Modify.knote c.in-Modify.ensures.decision))
+    (sym (register-modified by c.args.change.now c.args.self.now.kq c.in-Modify.found.row c.in-Modify.ensures.decision))
 
 pub returns-in-Modify-clause-error : goal.returns-in-Modify-clause-error
 returns-in-Modify-clause-error g c =
     let by = caller (g.V.Views.sees c.args.views.now) c.args.self.now in
     ap (λ (r : Registered). r.error)
-    (sym (register-modified by c.args.change.now c.args.self.now.kq c.in-Modify.knote c.in-Modify.ensures.decision))
+    (sym (register-modified by c.args.change.now c.args.self.now.kq c.in-Modify.found.row c.in-Modify.ensures.decision))

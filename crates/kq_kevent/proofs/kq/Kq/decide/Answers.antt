@@ -28,6 +28,6 @@ returns-clause-decision g c =
     let inside : Caller = record { views = views; owner = c.self.inside.owner; version = c.self.inside.version } in
     c.decided.ensures.decided
     ∙ ap (λ (p : Option Knote). decided inside p change)
-    (c.get.ensures.knote ∙ ap (λ key. find_knote key c.self.inside.knotes.knotes) c.key.ensures)
+    (c.locate.ensures.knote ∙ ap (λ key. find_knote key c.self.inside.knotes.knotes) c.key.ensures)
     ∙ ap (λ (v : OwnedKqueue). decided (caller views v) (find_knote (key_of change) v.kq.knotes) change) c.self.view_is
     ∙ sym (decision-opened (caller views c.args.self.now) (find_knote (key_of change) c.args.self.now.kq.knotes) change good opened)

@@ -20,12 +20,12 @@ renew-requires-clause-waits g c =
     let kq : Kqueue = record { knotes = c.self.inside.knotes.knotes; queue = c.self.inside.queue.keys } in
     let change = c.args.change.now in
     let found = ap (λ (v : OwnedKqueue). find_knote (key_of change) v.kq.knotes) c.self.view_is ∙ c.requires.present in
-    let is = modified-by by change c.args.present c.replace.new.self c.restart.new.self c.control.new.self c.switch.new.self
+    let is = modified-by by change c.args.present.now.row c.replace.new.self c.restart.new.self c.control.new.self c.switch.new.self
     c.attend.new.knote c.replace.ensures (c.restart.ensures by version c.clock_of-moment.ensures) c.control.ensures c.switch.ensures c.attend.ensures in
     let same : c.attend.new.knote.key ≡ key_of change = ap (λ (k : Knote). k.key) is
-    ∙ modified-key tallying by change c.args.present
-    ∙ sym (find_knote-key (key_of change) kq.knotes c.args.present found) in
-    waiting-present kq c.self.invariant.sound c.attend.new.knote.key c.args.present
+    ∙ modified-key tallying by change c.args.present.now.row
+    ∙ sym (find_knote-key (key_of change) kq.knotes c.args.present.now.row found) in
+    waiting-present kq c.self.invariant.sound c.attend.new.knote.key c.args.present.now.row
     (ap (λ key. find_knote key kq.knotes) same ∙ found) ∙ sym c.is_waiting-waits.ensures
 
 pub renew-requires-clause-room : goal.renew-requires-clause-room
@@ -37,8 +37,8 @@ renew-requires-clause-room g c = λ idle.
     let found = ap (λ (v : OwnedKqueue). find_knote (key_of change) v.kq.knotes) c.self.view_is ∙ c.requires.present in
     omega (
       arith,
-      length-queue_besides kq c.self.invariant.sound (key_of change) c.args.present found
-          (waiting-present kq c.self.invariant.sound (key_of change) c.args.present found ∙ sym c.is_waiting-waits.ensures ∙ idle),
+      length-queue_besides kq c.self.invariant.sound (key_of change) c.args.present.now.row found
+          (waiting-present kq c.self.invariant.sound (key_of change) c.args.present.now.row found ∙ sym c.is_waiting-waits.ensures ∙ idle),
       c.self.invariant.capacity,
     )
 
@@ -50,23 +50,23 @@ invariant_of-self g c =
     let change = c.args.change.now in
     let k = c.attend.new.knote in
     let found = ap (λ (v : OwnedKqueue). find_knote (key_of change) v.kq.knotes) c.self.view_is ∙ c.requires.present in
-    let is = modified-by by change c.args.present c.replace.new.self c.restart.new.self c.control.new.self c.switch.new.self
+    let is = modified-by by change c.args.present.now.row c.replace.new.self c.restart.new.self c.control.new.self c.switch.new.self
     c.attend.new.knote c.replace.ensures (c.restart.ensures by version c.clock_of-moment.ensures) c.control.ensures c.switch.ensures c.attend.ensures in
-    let same : k.key ≡ key_of change = ap (λ (k : Knote). k.key) is ∙ modified-key tallying by change c.args.present
-    ∙ sym (find_knote-key (key_of change) kq.knotes c.args.present found) in
+    let same : k.key ≡ key_of change = ap (λ (k : Knote). k.key) is ∙ modified-key tallying by change c.args.present.now.row
+    ∙ sym (find_knote-key (key_of change) kq.knotes c.args.present.now.row found) in
     record {
-      sound = IsSound-at c.modify.new.self.knotes c.renew.new.self.keys
-          (with_modified change k kq) c.modify.ensures.knotes
+      sound = IsSound-at c.modify_at.new.self.knotes c.renew.new.self.keys
+          (with_modified change k kq) c.modify_at.ensures.knotes
           c.renew.ensures.keys
-          (IsSound-modified kq change k c.args.present c.self.invariant.sound same
+          (IsSound-modified kq change k c.args.present.now.row c.self.invariant.sound same
           (ap (λ key. find_knote key kq.knotes) same ∙ found)
-          (λ stays idle. modified-active by change c.args.present stays (ap (λ (k : Knote). k.active) (sym is)
+          (λ stays idle. modified-active by change c.args.present.now.row stays (ap (λ (k : Knote). k.active) (sym is)
           ∙ idle)));
       capacity = omega (
         arith,
-        ap (length {A = Knote}) c.modify.ensures.knotes,
+        ap (length {A = Knote}) c.modify_at.ensures.knotes,
         length-with_knote k kq.knotes,
-        c.modify.ensures.room,
+        c.modify_at.ensures.room,
         c.renew.ensures.capacity,
         c.self.invariant.capacity,
       );
@@ -79,12 +79,12 @@ returns-clause-kq g c =
     let kq : Kqueue = record { knotes = c.self.inside.knotes.knotes; queue = c.self.inside.queue.keys } in
     let change = c.args.change.now in
     let k = c.attend.new.knote in
-    let is = modified-by by change c.args.present c.replace.new.self c.restart.new.self c.control.new.self c.switch.new.self
+    let is = modified-by by change c.args.present.now.row c.replace.new.self c.restart.new.self c.control.new.self c.switch.new.self
     c.attend.new.knote c.replace.ensures (c.restart.ensures by version c.clock_of-moment.ensures) c.control.ensures c.switch.ensures c.attend.ensures in
-    same_kqueue c.modify.new.self.knotes c.renew.new.self.keys (with_modified change k kq) c.modify.ensures.knotes
+    same_kqueue c.modify_at.new.self.knotes c.renew.new.self.keys (with_modified change k kq) c.modify_at.ensures.knotes
     c.renew.ensures.keys
     ∙ ap (λ k. with_modified change k kq) is
-    ∙ ap (λ (v : OwnedKqueue). with_modified change (modified by change c.args.present) v.kq) c.self.view_is
+    ∙ ap (λ (v : OwnedKqueue). with_modified change (modified by change c.args.present.now.row) v.kq) c.self.view_is
 
 pub renew-requires-clause-key : goal.renew-requires-clause-key
 renew-requires-clause-key g c =
@@ -93,10 +93,10 @@ renew-requires-clause-key g c =
     let kq : Kqueue = record { knotes = c.self.inside.knotes.knotes; queue = c.self.inside.queue.keys } in
     let change = c.args.change.now in
     let found = ap (λ (v : OwnedKqueue). find_knote (key_of change) v.kq.knotes) c.self.view_is ∙ c.requires.present in
-    let is = modified-by by change c.args.present c.replace.new.self c.restart.new.self c.control.new.self c.switch.new.self
+    let is = modified-by by change c.args.present.now.row c.replace.new.self c.restart.new.self c.control.new.self c.switch.new.self
     c.attend.new.knote c.replace.ensures (c.restart.ensures by version c.clock_of-moment.ensures) c.control.ensures c.switch.ensures c.attend.ensures in
-    ap (λ (k : Knote). k.key) is ∙ modified-key tallying by change c.args.present
-    ∙ sym (find_knote-key (key_of change) kq.knotes c.args.present found)
+    ap (λ (k : Knote). k.key) is ∙ modified-key tallying by change c.args.present.now.row
+    ∙ sym (find_knote-key (key_of change) kq.knotes c.args.present.now.row found)
 
 pub renew-requires-clause-once : goal.renew-requires-clause-once
 renew-requires-clause-once g c = c.self.invariant.sound.once

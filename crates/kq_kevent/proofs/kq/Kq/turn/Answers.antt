@@ -14,29 +14,29 @@ use Rattle.kq_kevent.proofs.TurnLaws.{kqueue_of, IsTurn, IsTurn-idle, IsTurn-del
 use Rattle.kq_kevent.proofs.TurnSound.{IsSound-with_idle, IsSound-with_delivered, front_present}
 use Rattle.kq_kevent.proofs.kq.Kq.turn.Goals as goal
 
-pub unreachable-requires-in_default-get : goal.unreachable-requires-in_default-get
-unreachable-requires-in_default-get g c =
+pub unreachable-requires-in_default-locate : goal.unreachable-requires-in_default-locate
+unreachable-requires-in_default-locate g c =
     let ks = c.self.inside.knotes.knotes in
     let sound = subst (λ (q : List Key). IsSound (kqueue_of ks q)) c.in-Some.ensures.keys c.self.invariant.sound in
-    front_present ks c.in-Some.key c.take_front.new.self.keys sound (sym c.in_default-get.ensures.knote)
+    front_present ks c.in-Some.key c.take_front.new.self.keys sound (sym c.in_default-locate.ensures.knote)
 
 pub invariant_of-self : goal.invariant_of-self
 invariant_of-self g c =
     let ks = c.self.inside.knotes.knotes in
     let rest = c.take_front.new.self.keys in
-    let k = c.in-Some-get.knote in
+    let k = c.in-Some-locate.found.row in
     let sound = subst (λ (q : List Key). IsSound (kqueue_of ks q)) c.in-Some.ensures.keys c.self.invariant.sound in
-    let knotes = c.modify.ensures.knotes ∙ ap (λ (n : Knote). with_knote (record n { active = false }) ks)
-    c.knote.view_is in
+    let knotes = c.modify_at.ensures.knotes ∙ ap (λ (n : Knote). with_knote (record n { active = false }) ks)
+    c.idle.view_is in
     record {
-      sound = IsSound-at c.modify.new.self.knotes rest (with_idle k (kqueue_of ks rest)) knotes refl
-          (IsSound-with_idle ks c.in-Some.key rest k sound (sym c.in-Some-get.ensures.knote));
+      sound = IsSound-at c.modify_at.new.self.knotes rest (with_idle k (kqueue_of ks rest)) knotes refl
+          (IsSound-with_idle ks c.in-Some.key rest k sound (sym c.in-Some-locate.ensures.knote));
       capacity = omega (
         arith,
         ap (length {A = Knote}) knotes,
         length-with_knote
             (record k { active = false }) ks,
-        c.modify.ensures.room,
+        c.modify_at.ensures.room,
         c.in-Some.ensures.capacity,
         c.self.invariant.capacity,
       );
@@ -47,7 +47,7 @@ deliver-requires-clause-absent g c =
     let ks = c.self.inside.knotes.knotes in
     let sound = subst (λ (q : List Key). IsSound (kqueue_of ks q)) c.in-Some.ensures.keys c.self.invariant.sound in
     ap (λ key. has_key key c.take_front.new.self.keys)
-    (sym (find_knote-key c.in-Some.key ks c.in-Some-get.knote (sym c.in-Some-get.ensures.knote))) ∙ sound.once.0
+    (sym (find_knote-key c.in-Some.key ks c.in-Some-locate.found.row (sym c.in-Some-locate.ensures.knote))) ∙ sound.once.0
 
 pub deliver-requires-clause-capacity : goal.deliver-requires-clause-capacity
 deliver-requires-clause-capacity g c =
@@ -64,12 +64,12 @@ pub invariant_of-self-in-Some-look_in : goal.invariant_of-self-in-Some-look_in
 invariant_of-self-in-Some-look_in g c =
     let ks = c.self.inside.knotes.knotes in
     let rest = c.take_front.new.self.keys in
-    let k = c.in-Some-get.knote in
+    let k = c.in-Some-locate.found.row in
     let sound = subst (λ (q : List Key). IsSound (kqueue_of ks q)) c.in-Some.ensures.keys c.self.invariant.sound in
     record {
       sound = IsSound-at c.deliver.new.knotes.knotes c.deliver.new.queue.keys
           (with_delivered (g.V.Views.sees c.args.views.now) k (kqueue_of ks rest)) (ap (λ (q : Kqueue). q.knotes) c.deliver.ensures.kq) (ap (λ (q : Kqueue). q.queue) c.deliver.ensures.kq)
-          (IsSound-with_delivered (g.V.Views.sees c.args.views.now) ks c.in-Some.key rest k sound (sym c.in-Some-get.ensures.knote));
+          (IsSound-with_delivered (g.V.Views.sees c.args.views.now) ks c.in-Some.key rest k sound (sym c.in-Some-locate.ensures.knote));
       capacity = omega (
         arith,
         c.deliver.ensures.limit,
@@ -84,34 +84,34 @@ returns-in-None-clause-kq g c =
     let views = g.V.Views.sees c.args.views.now in
     let ks = c.self.inside.knotes.knotes in
     let rest = c.take_front.new.self.keys in
-    let k = c.in-Some-get.knote in
-    let knotes = c.modify.ensures.knotes ∙ ap (λ (n : Knote). with_knote (record n { active = false }) ks)
-    c.knote.view_is in
-    (subst (λ (v : OwnedKqueue). IsTurn views v.kq (kqueue_of c.modify.new.self.knotes rest) None) c.self.view_is
-    (IsTurn-idle views (kqueue_of ks c.self.inside.queue.keys) (kqueue_of c.modify.new.self.knotes rest) c.in-Some.key
-    rest k c.in-Some.ensures.keys (sym c.in-Some-get.ensures.knote) (sym c.in-None.ensures)
-    (same_kqueue c.modify.new.self.knotes rest (with_idle k (kqueue_of ks rest)) knotes refl))).leaves
+    let k = c.in-Some-locate.found.row in
+    let knotes = c.modify_at.ensures.knotes ∙ ap (λ (n : Knote). with_knote (record n { active = false }) ks)
+    c.idle.view_is in
+    (subst (λ (v : OwnedKqueue). IsTurn views v.kq (kqueue_of c.modify_at.new.self.knotes rest) None) c.self.view_is
+    (IsTurn-idle views (kqueue_of ks c.self.inside.queue.keys) (kqueue_of c.modify_at.new.self.knotes rest) c.in-Some.key
+    rest k c.in-Some.ensures.keys (sym c.in-Some-locate.ensures.knote) (sym c.in-None.ensures)
+    (same_kqueue c.modify_at.new.self.knotes rest (with_idle k (kqueue_of ks rest)) knotes refl))).leaves
 
 pub returns-in-None-clause-event : goal.returns-in-None-clause-event
 returns-in-None-clause-event g c =
     let views = g.V.Views.sees c.args.views.now in
     let ks = c.self.inside.knotes.knotes in
     let rest = c.take_front.new.self.keys in
-    let k = c.in-Some-get.knote in
+    let k = c.in-Some-locate.found.row in
     (subst (λ (v : OwnedKqueue). IsTurn views v.kq (with_idle k (kqueue_of ks rest)) None) c.self.view_is
     (IsTurn-idle views (kqueue_of ks c.self.inside.queue.keys) (with_idle k (kqueue_of ks rest)) c.in-Some.key rest k
-    c.in-Some.ensures.keys (sym c.in-Some-get.ensures.knote) (sym c.in-None.ensures) refl)).gives
+    c.in-Some.ensures.keys (sym c.in-Some-locate.ensures.knote) (sym c.in-None.ensures) refl)).gives
 
 pub returns-in-Some-look_in-clause-kq : goal.returns-in-Some-look_in-clause-kq
 returns-in-Some-look_in-clause-kq g c =
     let views = g.V.Views.sees c.args.views.now in
     let ks = c.self.inside.knotes.knotes in
     let rest = c.take_front.new.self.keys in
-    let k = c.in-Some-get.knote in
+    let k = c.in-Some-locate.found.row in
     let next = kqueue_of c.deliver.new.knotes.knotes c.deliver.new.queue.keys in
     (subst (λ (v : OwnedKqueue). IsTurn views v.kq next (Some c.event_of.result)) c.self.view_is
     (IsTurn-delivered views (kqueue_of ks c.self.inside.queue.keys) next c.in-Some.key rest k c.in-Some-look_in.seen
-    c.event_of.result c.in-Some.ensures.keys (sym c.in-Some-get.ensures.knote) (sym c.in-Some-look_in.ensures)
+    c.event_of.result c.in-Some.ensures.keys (sym c.in-Some-locate.ensures.knote) (sym c.in-Some-look_in.ensures)
     c.deliver.ensures.kq c.event_of.ensures)).leaves
 
 pub returns-in-Some-look_in-clause-event : goal.returns-in-Some-look_in-clause-event
@@ -119,13 +119,13 @@ returns-in-Some-look_in-clause-event g c =
     let views = g.V.Views.sees c.args.views.now in
     let ks = c.self.inside.knotes.knotes in
     let rest = c.take_front.new.self.keys in
-    let k = c.in-Some-get.knote in
+    let k = c.in-Some-locate.found.row in
     let next = with_delivered views k (kqueue_of ks rest) in
     (subst (λ (v : OwnedKqueue). IsTurn views v.kq next (Some c.event_of.result)) c.self.view_is
     (IsTurn-delivered views (kqueue_of ks c.self.inside.queue.keys) next c.in-Some.key rest k c.in-Some-look_in.seen
-    c.event_of.result c.in-Some.ensures.keys (sym c.in-Some-get.ensures.knote) (sym c.in-Some-look_in.ensures)
+    c.event_of.result c.in-Some.ensures.keys (sym c.in-Some-locate.ensures.knote) (sym c.in-Some-look_in.ensures)
     refl c.event_of.ensures)).gives
 
 pub deliver-requires-clause-there : goal.deliver-requires-clause-there
 deliver-requires-clause-there g c =
-    found_here c.in-Some.key c.self.inside.knotes.knotes c.in-Some-get.knote (sym c.in-Some-get.ensures.knote)
+    found_here c.in-Some.key c.self.inside.knotes.knotes c.in-Some-locate.found.row (sym c.in-Some-locate.ensures.knote)

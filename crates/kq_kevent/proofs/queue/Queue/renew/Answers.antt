@@ -20,7 +20,7 @@ room_without key keys capacity false once fits absent room =
 pub place-requires-clause-waits : goal.place-requires-clause-waits
 place-requires-clause-waits c =
     let keys = c.args.self.now.keys in
-    ap (has_key c.args.knote.now.key) c.take_out.ensures.keys
+    ap (has_key c.args.knote.now.key) c.take_out_known.ensures.keys
     ∙ ap (λ (k : Knote). has_key c.args.knote.now.key (without_key k.key keys)) c.knote.view_is
     ∙ has_key-without_same c.args.knote.now.key keys
 
@@ -29,8 +29,8 @@ place-requires-clause-room c = λ _.
     let keys = c.args.self.now.keys in
     let key = c.args.knote.now.key in
     let left = room_without key keys c.args.self.now.capacity c.args.waits c.requires.once c.requires.fits c.requires.waits c.requires.room in
-    let gone = c.take_out.ensures.keys ∙ ap (λ (k : Knote). without_key k.key keys) c.knote.view_is in
-    omega (arith, left, ap (length {A = Key}) gone, c.take_out.ensures.capacity)
+    let gone = c.take_out_known.ensures.keys ∙ ap (λ (k : Knote). without_key k.key keys) c.knote.view_is in
+    omega (arith, left, ap (length {A = Key}) gone, c.take_out_known.ensures.capacity)
 
 pub returns-then-is_restart-clause-keys : goal.returns-then-is_restart-clause-keys
 returns-then-is_restart-clause-keys c =
@@ -38,7 +38,7 @@ returns-then-is_restart-clause-keys c =
     let k = c.args.knote.now in
     let restarts : is_restart c.args.change.now ≡ true = sym c.is_restart.ensures ∙ c.if-is_restart.true in
     c.place.ensures.keys
-    ∙ ap (queue_for k) (c.take_out.ensures.keys ∙ ap (λ (n : Knote). without_key n.key keys) c.knote.view_is
+    ∙ ap (queue_for k) (c.take_out_known.ensures.keys ∙ ap (λ (n : Knote). without_key n.key keys) c.knote.view_is
     ∙ ap (λ key. without_key key keys) c.requires.key)
     ∙ ap (λ b. queue_for k (cond b (without_key (key_of c.args.change.now) keys) keys)) (sym restarts)
 
