@@ -3,6 +3,7 @@ use Rattle.std.proofs.Common.{◌≡◌, Bool, true, false, cond, not, List, [],
 use Rattle.std.proofs.lemmas.Option.{none-some, same_Some}
 use Rattle.std.specs.Cmp.{IsEquivalence}
 use Rattle.std.specs.Option.{option_map}
+use Rattle.kq_table.specs.declared.placed.Place.{Place}
 use Rattle.kq_table.specs.declared.watch.Link.{Link}
 use Rattle.kq_table.specs.declared.watch.Ends.{Ends}
 use Rattle.kq_table.specs.Rows.{find_row, without_row, HaveOwnKeys}
@@ -59,16 +60,16 @@ module _ {K G : Type 0} (same : K → K → Bool) (laws : IsEquivalence same) (a
   last_of ends = option_map (λ (e : Ends K G). e.last) ends
 
   -- one more at the end of its target
-  joined-linked : (links : List (Link K G)) (o : Option (Ends K G)) (t : G) (new : Link K G) → HaveOwnKeys same key_of links → AreLinked None links → AreEnds o links
+  joined-linked : (links : List (Link K G)) (o : Option (Ends K G)) (t : G) (place : Place) (new : Link K G) → HaveOwnKeys same key_of links → AreLinked None links → AreEnds o links
       → new.before ≡ last_of o → new.after ≡ None
-      → AreLinked None (with_after same (last_of o) (Some new.key) links ++ new ∷ []) × AreEnds (Some (joined t new.key o)) (with_after same (last_of o) (Some new.key) links ++ new ∷ [])
-  joined-linked [] None t new own linked ended before after = ((before, after, tt), (refl, refl))
-  joined-linked [] (Some ends) t new own linked ended before after = absurd (none-some ends.first ended.0)
-  joined-linked (x ∷ links) None t new own linked ended before after = absurd (not_none ended)
+      → AreLinked None (with_after same (last_of o) (Some new.key) links ++ new ∷ []) × AreEnds (Some (joined t new.key place o)) (with_after same (last_of o) (Some new.key) links ++ new ∷ [])
+  joined-linked [] None t place new own linked ended before after = ((before, after, tt), (refl, refl))
+  joined-linked [] (Some ends) t place new own linked ended before after = absurd (none-some ends.first ended.0)
+  joined-linked (x ∷ links) None t place new own linked ended before after = absurd (not_none ended)
     where
       not_none : x ∷ links ≡ [] → ⊥
       not_none e = cc
-  joined-linked (x ∷ links) (Some ends) t new own linked ended before after = (
+  joined-linked (x ∷ links) (Some ends) t place new own linked ended before after = (
     AreLinked-append same laws None x links ends.last new own linked ended.1 before after,
     (
       ap Some (marked-key same laws (λ l. record l { after = Some new.key }) (λ _. refl) (Some ends.last) x) ∙ ended.0,
@@ -86,9 +87,9 @@ module _ {K G : Type 0} (same : K → K → Bool) (laws : IsEquivalence same) (a
           let found = last_key-found same laws y ls ends.last e in
           elsewhere links t s ends.last found.0 own (ap (find_row same key_of ends.last) is ∙ found.1) other
 
-  module _ (links : List (Link K G)) (ends more : List (Ends K G)) (t : G) (new : Link K G) (is : IsWoven same alike links ends) (absent : find_row same key_of new.key links ≡ None)
+  module _ (links : List (Link K G)) (ends more : List (Ends K G)) (t : G) (place : Place) (new : Link K G) (is : IsWoven same alike links ends) (absent : find_row same key_of new.key links ≡ None)
       (own_more : HaveOwnKeys alike target_of more) (target : new.target ≡ t) (before : new.before ≡ last_of (find_row alike target_of t ends)) (after : new.after ≡ None)
-      (ended : (s : G) → find_row alike target_of s more ≡ cond (alike t s) (Some (joined t new.key (find_row alike target_of t ends))) (find_row alike target_of s ends)) where
+      (ended : (s : G) → find_row alike target_of s more ≡ cond (alike t s) (Some (joined t new.key place (find_row alike target_of t ends))) (find_row alike target_of s ends)) where
     abbrev at_t : Option (Ends K G)
     at_t = find_row alike target_of t ends
 
@@ -116,9 +117,9 @@ module _ {K G : Type 0} (same : K → K → Bool) (laws : IsEquivalence same) (a
         ∙ append-nothing (with_after same last (Some new.key) (of_target alike s links))
         ∙ marked-away same laws (λ l. record l { after = Some new.key }) last (of_target alike s links) (last_of-away links at_t t s is.own_keys (is.ended t) e)
 
-    both : (s : G) → alike s t ≡ true → AreLinked None (with_after same last (Some new.key) (of_target alike s links) ++ new ∷ []) × AreEnds (Some (joined t new.key at_t)) (with_after same last (Some new.key) (of_target alike s links) ++ new ∷ [])
+    both : (s : G) → alike s t ≡ true → AreLinked None (with_after same last (Some new.key) (of_target alike s links) ++ new ∷ []) × AreEnds (Some (joined t new.key place at_t)) (with_after same last (Some new.key) (of_target alike s links) ++ new ∷ [])
     both s e =
-        joined-linked (of_target alike s links) at_t t new (HaveOwnKeys-filter same key_of laws (λ (l : Link K G). alike s l.target) links is.own_keys) (is.linked s)
+        joined-linked (of_target alike s links) at_t t place new (HaveOwnKeys-filter same key_of laws (λ (l : Link K G). alike s l.target) links is.own_keys) (is.linked s)
         (subst (λ o. AreEnds o (of_target alike s links)) (find_row-same alike target_of matches s t ends e) (is.ended s)) before after
 
     pub IsWoven-attach : IsWoven same alike (with_after same (last_of (find_row alike target_of t ends)) (Some new.key) links ++ new ∷ []) more
@@ -130,9 +131,9 @@ module _ {K G : Type 0} (same : K → K → Bool) (laws : IsEquivalence same) (a
           (λ _ e. subst (λ ls. AreLinked None ls) (sym (here s e)) (both s e).0)
           (λ _ e. subst (λ ls. AreLinked None ls) (sym (away s e)) (is.linked s)) refl;
       ended = λ s. by_test (λ b. alike s t ≡ b → AreEnds (find_row alike target_of s more) (of_target alike s (with_after same last (Some new.key) links ++ new ∷ []))) (alike s t)
-          (λ _ e. subst (λ o. AreEnds o (of_target alike s (with_after same last (Some new.key) links ++ new ∷ []))) (sym (ended s ∙ ap (λ b. cond b (Some (joined t new.key at_t)) (find_row alike target_of s ends)) (matches.symm t s ∙ e)))
-          (subst (λ ls. AreEnds (Some (joined t new.key at_t)) ls) (sym (here s e)) (both s e).1))
-          (λ _ e. subst (λ o. AreEnds o (of_target alike s (with_after same last (Some new.key) links ++ new ∷ []))) (sym (ended s ∙ ap (λ b. cond b (Some (joined t new.key at_t)) (find_row alike target_of s ends)) (matches.symm t s ∙ e)))
+          (λ _ e. subst (λ o. AreEnds o (of_target alike s (with_after same last (Some new.key) links ++ new ∷ []))) (sym (ended s ∙ ap (λ b. cond b (Some (joined t new.key place at_t)) (find_row alike target_of s ends)) (matches.symm t s ∙ e)))
+          (subst (λ ls. AreEnds (Some (joined t new.key place at_t)) ls) (sym (here s e)) (both s e).1))
+          (λ _ e. subst (λ o. AreEnds o (of_target alike s (with_after same last (Some new.key) links ++ new ∷ []))) (sym (ended s ∙ ap (λ b. cond b (Some (joined t new.key place at_t)) (find_row alike target_of s ends)) (matches.symm t s ∙ e)))
           (subst (λ ls. AreEnds (find_row alike target_of s ends) ls) (sym (away s e)) (is.ended s))) refl;
     }
 

@@ -3,6 +3,7 @@
 -- and `alike` whether two targets are.
 use Rattle.std.specs.Prelude.{◌≡◌, ◌≤◌, ◌+◌, ℕ, Bool, List, [], ◌∷◌, map, filter, length, Option, Some, None}
 use Rattle.std.specs.Prelude.{if◌then◌else◌}
+use Rattle.kq_table.specs.declared.placed.Place.{Place}
 use Rattle.kq_table.specs.declared.watch.Watch.{Watch}
 use Rattle.kq_table.specs.declared.watch.Link.{Link}
 use Rattle.kq_table.specs.declared.watch.Ends.{Ends}
@@ -79,10 +80,10 @@ module _ {K G : Type 0} where
   abbrev pub with_before : (K → K → Bool) → Option K → Option K → List (Link K G) → List (Link K G)
   with_before same key before links = map (marked same key (λ l. record l { before = before })) links
 
-  -- the ends after this key came last
-  abbrev pub joined : G → K → Option (Ends K G) → Ends K G
-  joined target key None = record { target = target; first = key; last = key }
-  joined target key (Some ends) = record ends { last = key }
+  -- the ends after this key came last; where it is the first, the place is where it is linked
+  abbrev pub joined : G → K → Place → Option (Ends K G) → Ends K G
+  joined target key place None = record { target = target; first = key; last = key; place = place }
+  joined target key place (Some ends) = record ends { last = key }
 
   -- the ends after a key left that had these before it and behind it
   abbrev pub left : Option K → Option K → Option (Ends K G) → Option (Ends K G)

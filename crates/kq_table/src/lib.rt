@@ -13,4 +13,4 @@ pub use keyed::Keyed;
 pub use placed::{Place, Placed};
 pub use table::Table;
 pub use target_index::TargetIndex;
-pub use watch::Watch;
+pub use watch::{Step, Watch, Watcher};

@@ -119,8 +119,8 @@ impl<T: Keyed> Table<T> {
         Some(found.row)
     }
 
-    /// The row of a key with its place, where `find_at`, `modify_at` and `remove_at` find it without the
-    /// index.
+    /// The row of a key with its place, where `find_at`, `locate_at`, `modify_at` and `remove_at` find it
+    /// without the index.
     pub fn locate(&self, key: T::Key) -> Option<Placed<T>>
         ensures { option_map (λ p. p.row) result ≡ find_row T.Key.eq T.key_of key self.now.rows }
     {
@@ -144,6 +144,30 @@ impl<T: Keyed> Table<T> {
             return None;
         };
         Some(near.row)
+    }
+
+    /// The same as `locate`. Where the row of the key stands at the guessed place, that is all that is
+    /// looked at.
+    pub fn locate_at(&self, guess: Place, key: T::Key) -> Option<Placed<T>>
+        ensures { option_map (λ p. p.row) result ≡ find_row T.Key.eq T.key_of key self.now.rows }
+    {
+        let Some(near) = slot_near(&self.slots, self.base, &self.index, guess, key) else {
+            return None;
+        };
+        Some(Placed {
+            row: near.row,
+            place: Place {
+                number: self.base + near.slot,
+            },
+        })
+    }
+
+    /// The place where the row that is attached next is to stand. It is a guess: where the empty slots are
+    /// dropped then, the rows come to stand elsewhere.
+    pub fn end(&self) -> Place {
+        Place {
+            number: self.base + self.slots.len(),
+        }
     }
 
     /// Whether there is a row of a key.

@@ -5,7 +5,8 @@ ghost use Rattle.std.specs.Vec.{vec_len, vec_capacity};
 ghost use Rattle.kq_table.specs.Rows.{find_row, row_after, rows_behind, without_row, HaveOwnKeys};
 ghost use Rattle.kq_table.specs.Links.{ends_at, keys_watching, joined, left, with_after, with_before};
 
-use crate::watch::{Ends, Link, Watch};
+use crate::placed::{Place, Placed};
+use crate::watch::{Ends, Link, Step, Watch, Watcher};
 use crate::{Keyed, Table};
 use kq_model::Memory;
 use std::alloc::Global;
@@ -89,6 +90,31 @@ impl<K: Copy + Eq + Hash, G: Copy + Eq + Hash> TargetIndex<K, G> {
         Some(ends.first)
     }
 
+    /// The first key that watches a target, for `step`.
+    pub fn first_watcher(&self, target: G) -> Option<Watcher<K>>
+        ensures { option_map (λ w. w.key) result ≡ slice_get (keys_watching G.eq target self.now.watches) 0 }
+    {
+        let Some(ends) = self.ends.find(target) else {
+            return None;
+        };
+        Some(Watcher {
+            key: ends.first,
+            place: ends.place,
+        })
+    }
+
+    /// The key that watches the same target next behind a watcher's, as `next_watching` gives it. Where
+    /// the guesses are right, no search by key is made.
+    pub fn step(&self, watcher: &Watcher<K>) -> Step<K>
+        ensures { let next = option_map (λ n. n.key) result.next in
+            MatchOption (find_row K.eq (λ w. w.key) watcher.now.key self.now.watches)
+            (next ≡ None)
+            (λ w. next ≡ slice_get (keys_watching G.eq w.target
+            (rows_behind K.eq (λ w. w.key) watcher.now.key self.now.watches)) 0) }
+    {
+        passed(&self.links, watcher)
+    }
+
     /// The key that watches the same target next behind a key; None where that is the last, or
     /// watches nothing.
     pub fn next_watching(&self, key: K) -> Option<K>
@@ -127,13 +153,25 @@ impl<K: Copy + Eq + Hash, G: Copy + Eq + Hash> TargetIndex<K, G> {
         ensures watches { self.new.watches ≡ self.old.watches ++ watch ∷ [] }
         ensures room { self.new.room + 1 ≡ self.old.room }
     {
-        let before = put_last(&mut self.ends, watch.target, watch.key);
+        self.attach_at(watch, Place::nowhere());
+    }
+
+    /// The same as `attach`, with a guess of where the caller keeps what the key is of, which `step` gives.
+    pub fn attach_at(&mut self, watch: Watch<K, G>, row: Place)
+        requires room { 0 < self.old.room }
+        requires absent { find_row K.eq (λ w. w.key) watch.key self.old.watches ≡ None }
+        ensures watches { self.new.watches ≡ self.old.watches ++ watch ∷ [] }
+        ensures room { self.new.room + 1 ≡ self.old.room }
+    {
+        let place = self.links.end();
+        let before = put_last(&mut self.ends, watch.target, watch.key, place);
         set_after(&mut self.links, before, Some(watch.key));
         self.links.attach(Link {
             key: watch.key,
             target: watch.target,
             before,
             after: None,
+            row,
         });
     }
 
@@ -153,6 +191,40 @@ impl<K: Copy + Eq + Hash, G: Copy + Eq + Hash> TargetIndex<K, G> {
             key: link.key,
             target: link.target,
         })
+    }
+}
+
+/// A key as a watcher, with a guess of where it is linked.
+fn watcher_of<K: Copy>(key: Option<K>, place: Place) -> Option<Watcher<K>>
+    ensures { option_map (λ w. w.key) result ≡ key }
+{
+    match key {
+        None => None,
+        Some(key) => Some(Watcher { key, place }),
+    }
+}
+
+/// What is known of a watcher. The next one is guessed to be linked behind it, as where the two were
+/// attached one behind the other.
+fn passed<K: Copy + Eq + Hash, G: Copy>(
+    links: &Table<Link<K, G>>,
+    watcher: &Watcher<K>,
+) -> Step<K>
+    ensures { let next = option_map (λ n. n.key) result.next in
+        MatchOption (find_row K.eq (λ l. l.key) watcher.now.key links.now.rows)
+        (next ≡ None)
+        (λ l. next ≡ l.after) }
+{
+    let Some(found) = links.locate_at(watcher.place, watcher.key) else {
+        return Step {
+            next: None,
+            row: Place::nowhere(),
+        };
+    };
+    let Placed { row: link, place } = found;
+    Step {
+        next: watcher_of(link.after, place.next()),
+        row: link.row,
     }
 }
 
@@ -202,18 +274,19 @@ fn set_before<K: Copy + Eq + Hash, G: Copy>(
     }
 }
 
-/// Makes a key the last that watches a target, and gives the one that was the last.
+/// Makes a key, which is linked at the place, the last that watches a target, and gives the one that was the last.
 fn put_last<K: Copy, G: Copy + Eq + Hash>(
     ends: &mut Table<Ends<K, G>>,
     target: G,
     key: K,
+    place: Place,
 ) -> Option<K>
     requires room { 0 < ends.old.room }
     requires own_keys { HaveOwnKeys G.eq (λ e. e.target) ends.old.rows }
     ensures last { result ≡ option_map (λ e. e.last) (ends_at G.eq target ends.old.rows) }
     ensures ends { (other : G) → ends_at G.eq other ends.new.rows
         ≡ (if G.eq target other
-        then Some (joined target key (ends_at G.eq target ends.old.rows))
+        then Some (joined target key place (ends_at G.eq target ends.old.rows))
         else ends_at G.eq other ends.old.rows) }
     ensures own_keys { HaveOwnKeys G.eq (λ e. e.target) ends.new.rows }
     ensures limit { length ends.new.rows + ends.new.room ≡ length ends.old.rows + ends.old.room }
@@ -224,6 +297,7 @@ fn put_last<K: Copy, G: Copy + Eq + Hash>(
                 target,
                 first: key,
                 last: key,
+                place,
             });
             None
         }
