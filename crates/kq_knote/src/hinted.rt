@@ -1,4 +1,5 @@
 ghost use Rattle.std.specs.Prelude.{◌≡◌, ◌++◌, [], List, MatchOption, slice_get, true, if◌then◌else◌};
+ghost use Rattle.std.specs.Option.{option_map};
 ghost use Rattle.kq_model.specs.Knote.{key_eq};
 ghost use Rattle.kq_model.specs.Tallied as tallied;
 ghost use Rattle.kq_knote.specs.Index.{IsHinted, IsOnly, behind, first_hinted, is_hinted, is_shared};
@@ -6,7 +7,7 @@ ghost use Rattle.kq_table.specs.Rows.{without_row};
 
 use crate::{Knote, Knotes};
 use kq_model::{Hint, Key, Target};
-use kq_table::TargetIndex;
+use kq_table::{Place, Step, TargetIndex, Watcher};
 
 /// Whether others may watch the same, so that records give hints for it.
 #[tactic(auto, unfolding(crate::specs::Index::is_shared))]
@@ -75,6 +76,26 @@ pub(crate) fn only_target(posted: &[(Target, Hint)]) -> Option<Target>
     Some(*first)
 }
 
+/// The key of a watcher.
+fn key_of(watcher: Option<Watcher<Key>>) -> Option<Key>
+    ensures { result ≡ option_map (λ w. w.key) watcher }
+{
+    match watcher {
+        None => None,
+        Some(watcher) => Some(watcher.key),
+    }
+}
+
+/// A key that a walk over the knotes found, as a watcher.
+fn watcher_of(key: Option<Key>) -> Option<Watcher<Key>>
+    ensures { option_map (λ w. w.key) result ≡ key }
+{
+    match key {
+        None => None,
+        Some(key) => Some(Watcher::unplaced(key)),
+    }
+}
+
 impl Knotes {
     /// The key of the first knote, in order of registration, that watches a hinted target. Where
     /// all hints are for one target, or there is none, this takes constant time; else a walk over the
@@ -82,13 +103,7 @@ impl Knotes {
     pub fn first_hinted(&self, posted: &[(Target, Hint)]) -> Option<Key>
         ensures { result ≡ first_hinted posted.now self.now.knotes }
     {
-        if is_nobody(posted) {
-            return None;
-        }
-        match only_target(posted) {
-            Some(target) if self.whole => self.index.first_watching(Some(target)),
-            _ => self.hinted_from(self.rows.first(), posted),
-        }
+        key_of(self.first_watcher(posted))
     }
 
     /// The key of the next such knote behind the one of a key, which is such a knote itself; in
@@ -97,9 +112,36 @@ impl Knotes {
         requires { IsHinted posted.now key self.now.knotes }
         ensures { result ≡ first_hinted posted.now (behind key self.now.knotes) }
     {
+        let watcher = Watcher::unplaced(key);
+        key_of(self.step(posted, &watcher).next)
+    }
+
+    /// The same as `first_hinted`, for `step`.
+    pub fn first_watcher(&self, posted: &[(Target, Hint)]) -> Option<Watcher<Key>>
+        ensures { option_map (λ w. w.key) result ≡ first_hinted posted.now self.now.knotes }
+    {
+        if is_nobody(posted) {
+            return None;
+        }
         match only_target(posted) {
-            Some(_) if self.whole => self.index.next_watching(key),
-            _ => self.hinted_from(self.rows.next_after(key), posted),
+            Some(target) if self.whole => self.index.first_watcher(Some(target)),
+            _ => watcher_of(self.hinted_from(self.rows.first(), posted)),
+        }
+    }
+
+    /// The key of the next such knote behind a watcher's, as `next_hinted` gives it, with a guess of the
+    /// place of the watcher's own knote.
+    pub fn step(&self, posted: &[(Target, Hint)], watcher: &Watcher<Key>) -> Step<Key>
+        requires { IsHinted posted.now watcher.now.key self.now.knotes }
+        ensures { option_map (λ w. w.key) result.next
+            ≡ first_hinted posted.now (behind watcher.now.key self.now.knotes) }
+    {
+        match only_target(posted) {
+            Some(_) if self.whole => self.index.step(watcher),
+            _ => Step {
+                next: watcher_of(self.hinted_from(self.rows.next_after(watcher.key), posted)),
+                row: Place::nowhere(),
+            },
         }
     }
 

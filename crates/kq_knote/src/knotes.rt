@@ -148,6 +148,18 @@ impl Knotes {
         self.rows.locate(key)
     }
 
+    /// The same as `locate`. Where the knote of the key stands at the guessed place, that is all that is
+    /// looked at.
+    pub fn locate_at(&self, guess: Place, key: Key) -> Option<Placed<Knote>>
+        ensures knote { option_map (λ p. p.row) result ≡ find_knote key self.now.knotes }
+
+        // The same of knotes that keep all that they heard.
+        ensures model { (ms : List (model.Knote listed)) → self.now.knotes ≡ tallied_knotes ms
+            → option_map (λ p. p.row) result ≡ option_map tallied_knote (find_knote key ms) }
+    {
+        self.rows.locate_at(guess, key)
+    }
+
     /// The knote that was registered first.
     pub fn first(&self) -> Option<Knote>
         ensures { result ≡ slice_get self.now.knotes 0 }
@@ -177,15 +189,17 @@ impl Knotes {
         let first = knote.first_after(self.since);
         self.soonest = self.soonest.min(first);
         self.alarmed = put_new(&mut self.alarms, self.alarmed, knote.key.ident, first);
+        let row = self.rows.end();
         self.rows.attach(knote);
         if !is_shared(knote.target) {
             return;
         }
         if self.whole && 0 < self.index.room() {
-            self.index.attach(Watch {
+            let watch = Watch {
                 key: knote.key,
                 target: knote.target,
-            });
+            };
+            self.index.attach_at(watch, row);
         } else {
             self.whole = false;
         }

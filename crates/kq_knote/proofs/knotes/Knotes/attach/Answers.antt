@@ -25,8 +25,8 @@ attach-requires-clause-absent c =
     ∙ ap (λ (v : Reserved). find_knote c.args.knote.key v.knotes) c.self.view_is
     ∙ c.requires.absent
 
-pub attach-requires-then-room-gt0-clause-absent : goal.attach-requires-then-room-gt0-clause-absent
-attach-requires-then-room-gt0-clause-absent c =
+pub attach_at-requires-clause-absent : goal.attach_at-requires-clause-absent
+attach_at-requires-clause-absent c =
     let ks = c.self.inside.rows.rows in
     let absent : find_knote c.args.knote.key ks ≡ None =
     ap (λ (v : Reserved). find_knote c.args.knote.key v.knotes) c.self.view_is ∙ c.requires.absent in
@@ -69,7 +69,7 @@ invariant_of-self-then-room-gt0 c =
     c.attach.ensures.rows in
     record {
       own_keys = subst HaveOwnKeys (sym c.attach.ensures.rows) (HaveOwnKeys-append ks c.args.knote c.self.invariant.own_keys absent);
-      watches = λ whole. c.attach-then-room-gt0.ensures.watches
+      watches = λ whole. c.attach_at.ensures.watches
           ∙ ap (λ (k : Knote). c.self.inside.index.watches ++ watch_of k ∷ []) c.knote-2.view_is
           ∙ ap (λ (ws : List Watching). ws ++ watch_of c.args.knote ∷ []) (c.self.invariant.watches whole)
           ∙ shared-push ks c.args.knote shared

@@ -8,18 +8,18 @@ use Rattle.kq_knote.specs.Reserved.{Reserved}
 use Rattle.kq_knote.proofs.IndexLaws.{first-only}
 use Rattle.kq_knote.proofs.TargetLaws.{alike-target}
 use Rattle.kq_knote.proofs.WalkLaws.{hinted-none}
-use Rattle.kq_knote.proofs.knotes.Knotes.first_hinted.Goals as goal
+use Rattle.kq_knote.proofs.knotes.Knotes.first_watcher.Goals as goal
 
 pub returns-in-Some : goal.returns-in-Some
 returns-in-Some c =
-    c.first_watching.ensures
+    c.first_watcher.ensures
     ∙ first-only key_equal.eq-value.it (λ a b. search rules) (option_eq target_equal.eq-value.it) alike-target c.args.posted.now c.in-Some.target c.in-Some.ensures
     c.self.inside.rows.rows c.self.inside.index.watches (c.self.invariant.watches c.if-self.true)
     ∙ ap (λ (v : Reserved). first_hinted c.args.posted.now v.knotes) c.self.view_is
 
 pub returns-in_default : goal.returns-in_default
 returns-in_default c =
-    c.hinted_from.ensures [] c.args.self.now.knotes refl
+    c.watcher_of.ensures ∙ c.hinted_from.ensures [] c.args.self.now.knotes refl
     (c.first.ensures.first ∙ ap (λ (v : Reserved). slice_get v.knotes 0) c.self.view_is)
 
 pub returns-then-is_nobody : goal.returns-then-is_nobody
