@@ -23,7 +23,7 @@ use kq_filters::{Heard, Views, hear, takes};
 use kq_knote::{Knote, Tally};
 use kq_model::notes::NOTE_TRACK;
 use kq_model::{Filter, Hint, Key, Memory, Target};
-use kq_table::Placed;
+use kq_table::{Place, Placed};
 
 /// A knote that is being told the hints of a record.
 #[derive(Debug, Drop, Clone, Copy)]
@@ -309,13 +309,14 @@ impl Kq {
         ensures room { self.old.room ≤ self.new.room }
         ensures limit { limit self.new ≡ limit self.old }
     {
-        let mut next = self.knotes.first_hinted(hints);
+        let mut next = self.knotes.first_watcher(hints);
         for _step in 0..self.knotes.len() {
-            let Some(key) = next else {
+            let Some(watcher) = next else {
                 return;
             };
-            next = self.knotes.next_hinted(hints, key);
-            self.notice(key, hints, views);
+            let met = self.knotes.step(hints, &watcher);
+            next = met.next;
+            self.notice(met.row, watcher.key, hints, views);
         }
     }
 
@@ -329,12 +330,12 @@ impl Kq {
         ensures limit { limit self.new ≡ limit self.old }
     {
         for key in keys {
-            self.notice(*key, hints, views);
+            self.notice(Place::nowhere(), *key, hints, views);
         }
     }
 
     /// The knote of a key hears the hints for it, is looked at and goes where it belongs.
-    fn notice<V: Views>(&mut self, key: Key, hints: &[(Target, Hint)], views: &V)
+    fn notice<V: Views>(&mut self, guess: Place, key: Key, hints: &[(Target, Hint)], views: &V)
         ensures kq { self.new.kq
             ≡ noticed_at (V.sees views.now) hints.now (find_knote key self.old.kq.knotes) self.old.kq }
         // Of every kqueue.
@@ -344,7 +345,7 @@ impl Kq {
         ensures room { self.old.room ≤ self.new.room }
         ensures limit { limit self.new ≡ limit self.old }
     {
-        let Some(found) = self.knotes.locate(key) else {
+        let Some(found) = self.knotes.locate_at(guess, key) else {
             return;
         };
         let told = tell_all(found.row, hints);

@@ -206,10 +206,7 @@ fn watcher_of<K: Copy>(key: Option<K>, place: Place) -> Option<Watcher<K>>
 
 /// What is known of a watcher. The next one is guessed to be linked behind it, as where the two were
 /// attached one behind the other.
-fn passed<K: Copy + Eq + Hash, G: Copy>(
-    links: &Table<Link<K, G>>,
-    watcher: &Watcher<K>,
-) -> Step<K>
+fn passed<K: Copy + Eq + Hash, G: Copy>(links: &Table<Link<K, G>>, watcher: &Watcher<K>) -> Step<K>
     ensures { let next = option_map (λ n. n.key) result.next in
         MatchOption (find_row K.eq (λ l. l.key) watcher.now.key links.now.rows)
         (next ≡ None)

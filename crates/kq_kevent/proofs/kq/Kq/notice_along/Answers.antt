@@ -1,11 +1,16 @@
 use Rattle.std.proofs.Common.{◌-◌, ◌+◌, Option, length, refl, sym, ap, ◌∙◌, subst, arith}
+use Rattle.std.specs.Option.{option_map}
 use Rattle.kq_model.specs.declared.key.Key.{Key}
 use Rattle.kq_model.specs.Hints.{notified}
 use Rattle.kq_model.specs.Kqueue.{HaveOwnKeys}
 use Rattle.kq_knote.specs.Index.{behind, first_hinted, IsHinted}
+use Rattle.kq_table.specs.declared.watch.Watcher.{Watcher}
 use Rattle.kq_kevent.specs.Owned.{OwnedKqueue}
 use Rattle.kq_kevent.proofs.NotifyLaws.{IsAt, walk-start, walk-stops, walk-ends, walk-hinted, walk-goes}
 use Rattle.kq_kevent.proofs.kq.Kq.notice_along.Goals as goal
+
+abbrev key_of : Watcher Key → Key
+key_of watcher = watcher.key
 
 pub loop-step-init : goal.loop-step-init
 loop-step-init g c =
@@ -13,24 +18,24 @@ loop-step-init g c =
     let hints = c.args.hints.now in
     let kq = c.args.self.now.kq in
     record {
-      at = walk-start views hints kq c.first_hinted-next.result (length kq.knotes - 0)
-          (c.first_hinted-next.ensures ∙ ap (λ (v : OwnedKqueue). first_hinted hints v.kq.knotes) c.self.view_is) (omega arith);
+      at = walk-start views hints kq (option_map key_of c.first_watcher-next.result) (length kq.knotes - 0)
+          (c.first_watcher-next.ensures ∙ ap (λ (v : OwnedKqueue). first_hinted hints v.kq.knotes) c.self.view_is) (omega arith);
       owner = refl;
       version = refl;
       reserved = omega arith;
       limit = refl;
     }
 
-pub next_hinted-next-requires : goal.next_hinted-next-requires
-next_hinted-next-requires g c =
+pub step-met-requires : goal.step-met-requires
+step-met-requires g c =
     let views = g.V.Views.sees c.args.views.now in
     let hints = c.args.hints.now in
     let wanted = notified views hints c.args.self.now.kq in
     let left = length c.args.self.now.kq.knotes - c.loop-step._step in
-    let at = subst (λ (o : Option Key). IsAt views hints wanted o left c.loop-step.self.kq) c.in-Some.is c.loop-step.invariant.at in
+    let at = subst (λ (o : Option (Watcher Key)). IsAt views hints wanted (option_map key_of o) left c.loop-step.self.kq) c.in-Some.is c.loop-step.invariant.at in
     let own = subst (λ (v : OwnedKqueue). HaveOwnKeys v.kq.knotes) c.self-in-loop-step.view_is c.self-in-loop-step.invariant.sound.own_keys in
-    subst (λ (v : OwnedKqueue). IsHinted hints c.in-Some.key v.kq.knotes) (sym c.self-in-loop-step.view_is)
-    (walk-hinted views hints wanted c.in-Some.key left c.loop-step.self.kq own at)
+    subst (λ (v : OwnedKqueue). IsHinted hints c.in-Some.watcher.key v.kq.knotes) (sym c.self-in-loop-step.view_is)
+    (walk-hinted views hints wanted c.in-Some.watcher.key left c.loop-step.self.kq own at)
 
 pub loop-step-preserved : goal.loop-step-preserved
 loop-step-preserved g c =
@@ -39,11 +44,11 @@ loop-step-preserved g c =
     let wanted = notified views hints c.args.self.now.kq in
     let left = length c.args.self.now.kq.knotes - c.loop-step._step in
     let fewer = length c.args.self.now.kq.knotes - (c.loop-step._step + 1) in
-    let at = subst (λ (o : Option Key). IsAt views hints wanted o left c.loop-step.self.kq) c.in-Some.is c.loop-step.invariant.at in
+    let at = subst (λ (o : Option (Watcher Key)). IsAt views hints wanted (option_map key_of o) left c.loop-step.self.kq) c.in-Some.is c.loop-step.invariant.at in
     let own = subst (λ (v : OwnedKqueue). HaveOwnKeys v.kq.knotes) c.self-in-loop-step.view_is c.self-in-loop-step.invariant.sound.own_keys in
     record {
-      at = walk-goes views hints wanted c.in-Some.key left c.loop-step.self.kq own at c.next_hinted-next.result fewer c.notice.new.self.kq (omega arith)
-          (c.next_hinted-next.ensures ∙ ap (λ (v : OwnedKqueue). first_hinted hints (behind c.in-Some.key v.kq.knotes)) c.self-in-loop-step.view_is)
+      at = walk-goes views hints wanted c.in-Some.watcher.key left c.loop-step.self.kq own at (option_map key_of c.step-met.result.next) fewer c.notice.new.self.kq (omega arith)
+          (c.step-met.ensures ∙ ap (λ (v : OwnedKqueue). first_hinted hints (behind c.in-Some.watcher.key v.kq.knotes)) c.self-in-loop-step.view_is)
           c.notice.ensures.kq;
       owner = c.notice.ensures.owner ∙ c.loop-step.invariant.owner;
       version = c.notice.ensures.version ∙ c.loop-step.invariant.version;
@@ -57,13 +62,13 @@ returns-in_default-clause-kq g c =
     let hints = c.args.hints.now in
     walk-stops views hints (notified views hints c.args.self.now.kq)
     (length c.args.self.now.kq.knotes - c.loop-step._step) c.loop-step.self.kq
-    (subst (λ (o : Option Key). IsAt views hints (notified views hints c.args.self.now.kq) o (length c.args.self.now.kq.knotes - c.loop-step._step) c.loop-step.self.kq)
+    (subst (λ (o : Option (Watcher Key)). IsAt views hints (notified views hints c.args.self.now.kq) (option_map key_of o) (length c.args.self.now.kq.knotes - c.loop-step._step) c.loop-step.self.kq)
     c.in_default.is c.loop-step.invariant.at)
 
 pub returns-clause-kq : goal.returns-clause-kq
 returns-clause-kq g c =
     let views = g.V.Views.sees c.args.views.now in
     let hints = c.args.hints.now in
-    walk-ends views hints (notified views hints c.args.self.now.kq) c.loop-step.next
+    walk-ends views hints (notified views hints c.args.self.now.kq) (option_map key_of c.loop-step.next)
     (length c.args.self.now.kq.knotes - c.loop-step._step) c.loop-step.self.kq
     (omega (arith, ap (λ (v : OwnedKqueue). length v.kq.knotes) c.self.view_is)) c.loop-step.invariant.at
