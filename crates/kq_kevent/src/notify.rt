@@ -329,8 +329,9 @@ impl Kq {
         ensures room { self.old.room ≤ self.new.room }
         ensures limit { limit self.new ≡ limit self.old }
     {
-        for key in keys {
-            self.notice(Place::nowhere(), *key, hints, views);
+        for (index, key) in keys.iter().enumerate() {
+            let guess = self.knotes.place_of(index);
+            self.notice(guess, *key, hints, views);
         }
     }
 

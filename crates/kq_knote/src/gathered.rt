@@ -4,6 +4,7 @@ ghost use Rattle.kq_knote.specs.Index.{AreHinted, hinted_keys};
 use crate::Knotes;
 use crate::hinted::{is_shared, only_target};
 use kq_model::{Hint, Key, Target};
+use kq_table::Place;
 use std::mem::replace;
 
 impl Knotes {
@@ -26,6 +27,14 @@ impl Knotes {
         }
         self.give_back(keys);
         None
+    }
+
+    /// A guess of where the knote stands whose key has this index in the list that `take_hinted` gave last.
+    pub fn place_of(&self, index: usize) -> Place {
+        match self.places.get(index) {
+            None => Place::nowhere(),
+            Some(slots) => self.rows.start().behind(*slots),
+        }
     }
 
     /// Takes back the list that `take_hinted` gave, so that its room serves the next record.

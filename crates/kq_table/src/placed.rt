@@ -15,12 +15,12 @@ impl Place {
         Place { number: usize::MAX }
     }
 
-    /// The place behind this one.
-    pub(crate) fn next(self) -> Self
-        ensures { result.number ≡ min usize.MAX (self.number + 1) }
+    /// The place so many slots behind this one.
+    pub fn behind(self, slots: usize) -> Self
+        ensures { result.number ≡ min usize.MAX (self.number + slots) }
     {
         Place {
-            number: self.number.saturating_add(1),
+            number: self.number.saturating_add(slots),
         }
     }
 }

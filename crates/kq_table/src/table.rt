@@ -162,6 +162,11 @@ impl<T: Keyed> Table<T> {
         })
     }
 
+    /// The place of the first slot. It goes on where the first row is taken out.
+    pub fn start(&self) -> Place {
+        Place { number: self.base }
+    }
+
     /// The place where the row that is attached next is to stand. It is a guess: where the empty slots are
     /// dropped then, the rows come to stand elsewhere.
     pub fn end(&self) -> Place {
@@ -199,7 +204,8 @@ impl<T: Keyed> Table<T> {
     }
 
     /// Puts keys into the order of their rows: the key of each row that is of one of them, once. What
-    /// stood in `places` is gone. It takes no memory, and time as a sort of the keys does.
+    /// stood in `places` is gone: there is then how many slots behind `start` each of these rows stands. It
+    /// takes no memory, and time as a sort of the keys does.
     pub fn put_in_order(&self, keys: &mut Vec<T::Key>, places: &mut Vec<usize>)
         requires { vec_len keys.old ≤ vec_capacity places.old }
         ensures keys { keys.new.items

@@ -135,13 +135,14 @@ impl<K: Copy + Eq + Hash, G: Copy + Eq + Hash> TargetIndex<K, G> {
             → found.new.items ≡ found.old.items ++ keys_watching G.eq target self.now.watches }
         ensures capacity { vec_capacity found.new ≡ vec_capacity found.old }
     {
-        let mut next = self.first_watching(target);
-        while let Some(key) = next {
+        let mut next = self.first_watcher(target);
+        while let Some(watcher) = next {
             if found.len() == found.capacity() {
                 return false;
             }
-            found.push_reserved(key);
-            next = after(&self.links, key);
+            found.push_reserved(watcher.key);
+            let met = passed(&self.links, &watcher);
+            next = met.next;
         }
         true
     }
@@ -220,7 +221,7 @@ fn passed<K: Copy + Eq + Hash, G: Copy>(links: &Table<Link<K, G>>, watcher: &Wat
     };
     let Placed { row: link, place } = found;
     Step {
-        next: watcher_of(link.after, place.next()),
+        next: watcher_of(link.after, place.behind(1)),
         row: link.row,
     }
 }

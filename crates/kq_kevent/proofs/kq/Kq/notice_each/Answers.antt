@@ -10,8 +10,8 @@ use Rattle.kq_kevent.proofs.kq.Kq.notice_each.Goals as goal
 abbrev no_key : Key
 no_key = record { ident = 0; filter = Read }
 
-pub loop-key-init : goal.loop-key-init
-loop-key-init g c = record {
+pub loop-index-init : goal.loop-index-init
+loop-index-init g c = record {
   among = keys-start (g.V.Views.sees c.args.views.now) c.args.hints.now c.args.self.now.kq c.args.keys.now c.requires;
   owner = refl;
   version = refl;
@@ -19,21 +19,21 @@ loop-key-init g c = record {
   limit = refl;
 }
 
-pub loop-key-preserved : goal.loop-key-preserved
-loop-key-preserved g c =
+pub loop-index-preserved : goal.loop-index-preserved
+loop-index-preserved g c =
     let views = g.V.Views.sees c.args.views.now in
     let hints = c.args.hints.now in
     let wanted = notified views hints c.args.self.now.kq in
     let keys = c.args.keys.now in
-    let i = c.loop-key.key-index in
+    let i = c.loop-index.index in
     record {
-      among = keys-go views hints wanted (get_or keys i no_key) (drop (i + 1) keys) c.loop-key.self.kq c.notice.ensures.own_keys
-          (subst (λ (ks : List Key). IsAmong views hints wanted ks c.loop-key.self.kq) (at_drop_more (λ ks. ks) keys i no_key (omega arith)) c.loop-key.invariant.among)
+      among = keys-go views hints wanted (get_or keys i no_key) (drop (i + 1) keys) c.loop-index.self.kq c.notice.ensures.own_keys
+          (subst (λ (ks : List Key). IsAmong views hints wanted ks c.loop-index.self.kq) (at_drop_more (λ ks. ks) keys i no_key (omega arith)) c.loop-index.invariant.among)
           c.notice.new.self.kq c.notice.ensures.kq;
-      owner = c.notice.ensures.owner ∙ c.loop-key.invariant.owner;
-      version = c.notice.ensures.version ∙ c.loop-key.invariant.version;
+      owner = c.notice.ensures.owner ∙ c.loop-index.invariant.owner;
+      version = c.notice.ensures.version ∙ c.loop-index.invariant.version;
       reserved = omega arith;
-      limit = c.notice.ensures.limit ∙ c.loop-key.invariant.limit;
+      limit = c.notice.ensures.limit ∙ c.loop-index.invariant.limit;
     }
 
 pub returns-clause-kq : goal.returns-clause-kq
@@ -41,5 +41,5 @@ returns-clause-kq g c =
     let views = g.V.Views.sees c.args.views.now in
     let hints = c.args.hints.now in
     let wanted = notified views hints c.args.self.now.kq in
-    keys-end views hints wanted c.loop-key.self.kq
-    (subst (λ (ks : List Key). IsAmong views hints wanted ks c.loop-key.self.kq) (at_drop_all (λ ks. ks) c.args.keys.now c.loop-key.key-index (omega arith)) c.loop-key.invariant.among)
+    keys-end views hints wanted c.loop-index.self.kq
+    (subst (λ (ks : List Key). IsAmong views hints wanted ks c.loop-index.self.kq) (at_drop_all (λ ks. ks) c.args.keys.now c.loop-index.index (omega arith)) c.loop-index.invariant.among)
