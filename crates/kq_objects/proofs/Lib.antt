@@ -1,4 +1,5 @@
 pub mod Making
+pub mod Standing
 pub mod Ready
 pub mod Notes
 pub mod Releasing
