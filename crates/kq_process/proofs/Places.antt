@@ -1,9 +1,6 @@
 -- Lists of pairs in rising order of their numbers: what a search finds, and what an edit there does.
-use Rattle.std.proofs.Common.{◌≡◌, ℕ, zero, suc, ◌<◌, ◌≤◌, ◌==◌, not, Bool, true, false, List, [], ◌∷◌, length, get_or, set, filter, if◌then◌else◌, Some, None, Result, Ok, Err, MatchResult, nat_lt, refl, sym, ap, subst, arith, ◌∙◌}
+use Rattle.std.proofs.Common.{◌≡◌, ℕ, zero, suc, ◌+◌, ◌<◌, ◌≤◌, ◌==◌, not, Bool, true, false, List, [], ◌∷◌, length, get_or, set, filter, if◌then◌else◌, Some, None, nat_lt, refl, sym, ap, subst, arith, ◌∙◌}
 use Rattle.std.specs.List.{AllByRecursion, insert, remove}
-use Rattle.std.specs.List.Sorted.{IsSearchInRange, IsBinarySearchResult, IsNonDecreasingBy}
-use Rattle.std.specs.Ordering.{nat_cmp, ordering_index}
-use Rattle.std.proofs.lemmas.Cmp.{ranked}
 use Rattle.std.proofs.lemmas.Bool.Decides.{nat_tests}
 use Rattle.kq_process.specs.Shelf.{lookup, put, without, AreRising, IsPlace, IsGap}
 
@@ -136,7 +133,7 @@ module _ {X : Type 0} where
   -- ---- at a place
 
   -- the pair at the index has the number
-  abbrev IsOf : ℕ → List (ℕ × X) → ℕ → Type 0
+  abbrev pub IsOf : ℕ → List (ℕ × X) → ℕ → Type 0
   IsOf n es i = (d : ℕ × X) → (get_or es i d).0 ≡ n
 
   -- what is before the place is lower
@@ -174,10 +171,10 @@ module _ {X : Type 0} where
 
   -- ---- at a gap
 
-  abbrev AreLower : ℕ → List (ℕ × X) → ℕ → Type 0
+  abbrev pub AreLower : ℕ → List (ℕ × X) → ℕ → Type 0
   AreLower n es i = (j : ℕ) (d : ℕ × X) → j < i → (get_or es j d).0 < n
 
-  abbrev AreHigher : ℕ → List (ℕ × X) → ℕ → Type 0
+  abbrev pub AreHigher : ℕ → List (ℕ × X) → ℕ → Type 0
   AreHigher n es i = (j : ℕ) (d : ℕ × X) → i ≤ j → j < length es → n < (get_or es j d).0
 
   gap-absent : (n : ℕ) (es : List (ℕ × X)) (i : ℕ) → i ≤ length es → AreLower n es i → AreHigher n es i
@@ -210,7 +207,7 @@ module _ {X : Type 0} where
       (λ j d after inside. higher (suc j) d (omega arith) (omega arith)) x)
       ∙ sym (put-later n x e es (lower 0 e (omega arith)))
 
-  -- ---- a binary search
+  -- ---- a search
 
   rising-at : (es : List (ℕ × X)) → AreRising es → (i j : ℕ) (d : ℕ × X) → i ≤ j → j < length es
       → (get_or es i d).0 ≤ (get_or es j d).0
@@ -219,12 +216,6 @@ module _ {X : Type 0} where
   rising-at (e ∷ es) rising zero (suc j) d le within = omega (arith, above-at e.0 es j d rising.0)
   rising-at (e ∷ es) rising (suc i) zero d le within = absurd (omega arith)
   rising-at (e ∷ es) rising (suc i) (suc j) d le within = rising-at es rising.1 i j d (omega arith) (omega arith)
-
-  comparisons-rise : (n : ℕ) (es : List (ℕ × X)) → AreRising es
-      → IsNonDecreasingBy (λ e. ordering_index (nat_cmp e.0 n)) es
-  comparisons-rise n es rising i j d le within =
-      let rises : (get_or es i d).0 ≤ (get_or es j d).0 = rising-at es rising i j d le within in
-      grind (arith, nat_tests)
 
   -- the place of the pair that has the number
   pub placed : (n : ℕ) (es : List (ℕ × X)) (i : ℕ) → AreRising es → i < length es → IsOf n es i → IsPlace n es i
@@ -238,18 +229,31 @@ module _ {X : Type 0} where
     without_rises = without-rises n es rising;
   }
 
-  -- a binary search ends at the number's place, or at the gap for it
-  pub searched : (n : ℕ) (es : List (ℕ × X)) → AreRising es → (r : Result ℕ ℕ) → IsSearchInRange r (length es)
-      → IsBinarySearchResult (λ e. nat_cmp e.0 n) es r → MatchResult r (IsPlace n es) (IsGap n es)
-  searched n es rising (Ok i) within equal = placed n es i rising within (λ d. ranked _ n _ (sym (equal d)))
-  searched n es rising (Err i) within parted =
-      let split = parted (comparisons-rise n es rising) in
-      let lower : AreLower n es i = λ j d before. ranked _ n _ (sym (split.0 j d (omega arith) before)) in
-      let higher : AreHigher n es i = λ j d after inside. ranked _ n _ (sym (split.1 j d after inside)) in
-      record {
-        within = within;
-        absent = gap-absent n es i within lower higher;
-        inserts = gap-inserts n es i within lower higher;
-        put_rises = λ x. put-rises n x es rising;
-        without_is = gap-without n es i within lower higher;
-      }
+  -- what is read within the list is the same, whatever would be read past its end
+  pub read-any : (es : List (ℕ × X)) (i : ℕ) (d f : ℕ × X) → i < length es → get_or es i d ≡ get_or es i f
+  read-any [] i d f within = absurd (omega arith)
+  read-any (e ∷ es) zero d f within = refl
+  read-any (e ∷ es) (suc i) d f within = read-any es i d f (omega arith)
+
+  -- what is before the index is lower than the number, and what is from there on is not
+  pub lower-after : (n : ℕ) (es : List (ℕ × X)) (i : ℕ) → AreRising es → i < length es
+      → ((d : ℕ × X) → (get_or es i d).0 < n) → AreLower n es (i + 1)
+  lower-after n es i rising within below j d before =
+      let le : j ≤ i = omega arith in
+      omega (arith, rising-at es rising j i d le within, below d)
+
+  pub higher-from : (n : ℕ) (es : List (ℕ × X)) (i : ℕ) → AreRising es → i < length es
+      → ((d : ℕ × X) → n < (get_or es i d).0) → AreHigher n es i
+  higher-from n es i rising within above j d after inside =
+      omega (arith, rising-at es rising i j d after inside, above d)
+
+  -- the gap for the number
+  pub gap : (n : ℕ) (es : List (ℕ × X)) (i : ℕ) → AreRising es → i ≤ length es → AreLower n es i → AreHigher n es i
+      → IsGap n es i
+  gap n es i rising within lower higher = record {
+    within = within;
+    absent = gap-absent n es i within lower higher;
+    inserts = gap-inserts n es i within lower higher;
+    put_rises = λ x. put-rises n x es rising;
+    without_is = gap-without n es i within lower higher;
+  }

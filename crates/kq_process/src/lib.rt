@@ -9,6 +9,7 @@ mod ignored;
 mod process;
 mod processes;
 mod records;
+mod search;
 mod seen;
 mod sharing;
 mod shelf;

@@ -3,6 +3,7 @@ ghost use Rattle.std.specs.Option.{option_copied, option_copied_mut};
 ghost use Rattle.kq_model.specs.ProcessPlans.{is_kqueue};
 ghost use Rattle.kq_process.specs.Shelf.{lookup, put, without, AreRising, IsPlace, IsGap};
 
+use crate::search::search;
 use kq_model::{Memory, Named};
 use std::alloc::Global;
 use std::marker::Model;
@@ -90,25 +91,12 @@ impl<T> Shelf<T> {
         }
     }
 
-    // The index of the number's pair, or where it would stand. Numbers mostly follow one another, so
-    // that a search is seldom needed.
+    // The index of the number's pair, or where it would stand.
     fn find(&self, number: u32) -> Result<usize, usize>
         ensures place { MatchResult result (IsPlace number self.now) (IsGap number self.now) }
         ensures rising { AreRising self.now }
     {
-        let guess = self.without_gaps(number);
-        if guess < self.entries.len() && self.entries[guess].0 == number {
-            return Ok(guess);
-        }
-        self.entries.binary_search_by_key(&number, |entry| entry.0)
-    }
-
-    // The index of the number's pair, if each number follows the one before it.
-    fn without_gaps(&self, number: u32) -> usize {
-        match self.entries.first() {
-            Some(first) => number.saturating_sub(first.0) as usize,
-            None => 0,
-        }
+        search(&self.entries, number)
     }
 }
 
