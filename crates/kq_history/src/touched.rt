@@ -8,6 +8,7 @@ ghost use Rattle.kq_history.specs.Touched.{all_named, keys_of, open_numbers, tou
 ghost use Rattle.kq_history.specs.Touched.{is_file, other_targets, targets_left, targets_named};
 ghost use Rattle.kq_history.specs.Touched.{tells_file, told_targets, AreAmong};
 ghost use Rattle.kq_process.specs.Processes.{descriptors_in};
+ghost use Rattle.kq_process.specs.Slots.{filled};
 ghost use Rattle.kq_process.specs.World.{world_of};
 
 use crate::spoken::{
@@ -92,12 +93,14 @@ fn push_open(
 fn push_numbers(
     numbers: &mut Vec<(u32, u32)>,
     pid: u32,
-    descriptors: &[(u32, Named)],
+    slots: &[(u32, Option<Named>)],
 ) -> Result<(), Memory>
-    ensures { OnOk result (numbers.new.items ≡ numbers.old.items ++ keys_of (descriptors_in pid descriptors.now)) }
+    ensures { OnOk result (numbers.new.items ≡ numbers.old.items ++ keys_of (descriptors_in pid (filled slots.now))) }
 {
-    for descriptor in descriptors {
-        numbers.push((pid, descriptor.0)).map_err(|_| Memory)?;
+    for slot in slots {
+        if slot.1.is_some() {
+            numbers.push((pid, slot.0)).map_err(|_| Memory)?;
+        }
     }
     Ok(())
 }

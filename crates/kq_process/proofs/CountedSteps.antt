@@ -1,24 +1,40 @@
 -- One step of the loops that hold or release descriptors one after the other.
-use Rattle.std.proofs.Common.{◌≡◌, ℕ, ◌+◌, ◌<◌, List, ◌∷◌, ◌++◌, length, get_or, drop, append_assoc, add-one, refl, ap}
-use Rattle.std.proofs.Math.Seq.{drop-cons}
+use Rattle.std.proofs.Common.{◌≡◌, ◌∙◌, ℕ, suc, ◌+◌, ◌<◌, List, [], ◌∷◌, ◌++◌, Option, Some, None, cond, length, get_or, drop, filter, append_assoc, refl, ap}
+use Rattle.std.specs.Option.{is_some}
 use Rattle.kq_model.specs.declared.object.Hint.{Hint}
 use Rattle.kq_model.specs.declared.object.Named.{Named}
-use Rattle.kq_model.specs.declared.object.Named.TheVariants.{Socket}
 use Rattle.kq_model.specs.declared.object.Target.{Target}
 use Rattle.kq_model.specs.Holding.{hold, release, release_hint, release_hints, option_list, all_held, all_released}
 use Rattle.kq_model.specs.Objects.{Objects, counted}
 use Rattle.kq_objects.specs.Holding.{CanHold, CanRelease}
-use Rattle.kq_process.specs.Counts.{CanHoldEach, CanReleaseEach, names_in}
+use Rattle.kq_process.specs.Counts.{CanHoldEach, CanReleaseEach}
+use Rattle.kq_process.specs.Slots.{entry_of, filled, with_entry}
+use Rattle.kq_process.proofs.Filled.{filled-next}
 
 -- what a read past the end would give
-abbrev pub nothing : ℕ × Named
-nothing = (0, Socket 0)
+abbrev pub nothing : ℕ × Option Named
+nothing = (0, None)
 
-pub next : (ds : List (ℕ × Named)) (i : ℕ) → i < length ds
-    → names_in (drop i ds) ≡ (get_or ds i nothing).1 ∷ names_in (drop (i + 1) ds)
-next ds i below =
-    let cons : drop i ds ≡ get_or ds i nothing ∷ drop (i + 1) ds = rw add-one (drop-cons ds i nothing below) in
-    ap names_in cons
+-- a slot that is full, with its pair first
+pub next-full : (ss : List (ℕ × Option Named)) (i : ℕ) → i < length ss → (n : Named) → (get_or ss i nothing).1 ≡ Some n
+    → filled (drop i ss) ≡ ((get_or ss i nothing).0, n) ∷ filled (drop (i + 1) ss)
+next-full ss i below n is =
+    filled-next ss i nothing below ∙ ap (λ o. entry_of (get_or ss i nothing).0 o ++ filled (drop (i + 1) ss)) is
+
+-- a slot that is empty
+pub next-empty : (ss : List (ℕ × Option Named)) (i : ℕ) → i < length ss → (get_or ss i nothing).1 ≡ None
+    → filled (drop i ss) ≡ filled (drop (i + 1) ss)
+next-empty ss i below is =
+    filled-next ss i nothing below ∙ ap (λ o. entry_of (get_or ss i nothing).0 o ++ filled (drop (i + 1) ss)) is
+
+pub count-full : (ss : List (ℕ × Option Named)) → length (filter (λ s. is_some s.1) ss) ≡ length (filled ss)
+count-full [] = refl
+count-full (s ∷ ss) = with_one s.0 s.1 (filter (λ s. is_some s.1) ss) (filled ss) (count-full ss)
+  where
+    with_one : (m : ℕ) (o : Option Named) (ts : List (ℕ × Option Named)) (es : List (ℕ × Named)) → length ts ≡ length es
+        → length (cond (is_some o) ((m, o) ∷ ts) ts) ≡ length (with_entry m o es)
+    with_one m None ts es rest = rest
+    with_one m (Some n) ts es rest = ap (λ k. suc k) rest
 
 module _ (n : Named) (ns all : List Named) (o o' : Objects counted) (is : all ≡ n ∷ ns) where
   pub hold-can : CanHoldEach all o → CanHold n o

@@ -1,5 +1,6 @@
 pub mod Places
 pub mod Puts
+pub mod Filled
 pub mod Pids
 pub mod Blocks
 pub mod Closing

@@ -1,4 +1,5 @@
 pub mod Shelf
+pub mod Slots
 pub mod Lends
 pub mod Processes
 pub mod Effects

@@ -5,52 +5,66 @@ ghost use Rattle.kq_model.specs.declared.object.Named.{Named as Name};
 ghost use Rattle.kq_objects.specs.Holding.{CanRelease};
 ghost use Rattle.kq_objects.specs.Objects.{objects_of};
 ghost use Rattle.kq_process.specs.Counts.{CanHoldEach, CanReleaseEach, names_in};
+ghost use Rattle.kq_process.specs.Slots.{filled};
 
 use kq_model::{Hint, Memory, Named, Target};
 use kq_objects::Objects;
 use std::alloc::Global;
 
-/// The numbers of these descriptors, each with the process's pid.
+/// How many of these slots are full.
+pub fn count(slots: &[(u32, Option<Named>)]) -> usize
+    ensures { result ≡ length (filled slots.now) }
+{
+    slots.iter().filter(|slot| slot.1.is_some()).count()
+}
+
+/// The numbers of the full slots, each with the process's pid.
 pub fn pairs(
     alloc: Global,
     pid: u32,
-    descriptors: &[(u32, Named)],
+    slots: &[(u32, Option<Named>)],
 ) -> Result<Vec<(u32, u32)>, Memory>
-    ensures { IfOk result (λ pairs. pairs.items ≡ map (λ (d : ℕ × Name). (pid, d.0)) descriptors.now) }
+    ensures { IfOk result (λ pairs. pairs.items ≡ map (λ (d : ℕ × Name). (pid, d.0)) (filled slots.now)) }
 {
-    let mut pairs = Vec::with_capacity(alloc, descriptors.len()).map_err(|_| Memory)?;
-    for descriptor in descriptors {
-        pairs.push((pid, descriptor.0)).map_err(|_| Memory)?;
+    let mut pairs = Vec::with_capacity(alloc, slots.len()).map_err(|_| Memory)?;
+    for slot in slots {
+        if slot.1.is_some() {
+            pairs.push((pid, slot.0)).map_err(|_| Memory)?;
+        }
     }
     Ok(pairs)
 }
 
-/// Each of these descriptors names its object too.
-pub fn hold_each(objects: &mut Objects, descriptors: &[(u32, Named)])
-    requires { CanHoldEach (names_in descriptors.now) (objects_of objects.old) }
-    ensures { objects_of objects.new ≡ all_held (names_in descriptors.now) (objects_of objects.old) }
+/// The descriptor of each full slot names its object too.
+pub fn hold_each(objects: &mut Objects, slots: &[(u32, Option<Named>)])
+    requires { CanHoldEach (names_in (filled slots.now)) (objects_of objects.old) }
+    ensures { objects_of objects.new ≡ all_held (names_in (filled slots.now)) (objects_of objects.old) }
 {
-    for descriptor in descriptors {
-        objects.hold(descriptor.1);
+    for slot in slots {
+        if let Some(named) = slot.1 {
+            objects.hold(named);
+        }
     }
 }
 
-/// Each of these descriptors names its object no longer. The hints go behind those that are there.
+/// The descriptor of each full slot names its object no longer. The hints go behind those that are there.
 pub fn release_each(
     objects: &mut Objects,
-    descriptors: &[(u32, Named)],
+    slots: &[(u32, Option<Named>)],
     hints: &mut Vec<(Target, Hint)>,
 )
-    requires can { CanReleaseEach (names_in descriptors.now) (objects_of objects.old) }
-    requires room { vec_len hints.old + length descriptors.now ≤ vec_capacity hints.old }
-    ensures objects { objects_of objects.new ≡ all_released (names_in descriptors.now) (objects_of objects.old) }
+    requires can { CanReleaseEach (names_in (filled slots.now)) (objects_of objects.old) }
+    requires room { vec_len hints.old + length (filled slots.now) ≤ vec_capacity hints.old }
+    ensures objects { objects_of objects.new ≡ all_released (names_in (filled slots.now)) (objects_of objects.old) }
     ensures hints { hints.new.items
-        ≡ hints.old.items ++ release_hints (names_in descriptors.now) (objects_of objects.old) }
-    ensures len { vec_len hints.new ≤ vec_len hints.old + length descriptors.now }
+        ≡ hints.old.items ++ release_hints (names_in (filled slots.now)) (objects_of objects.old) }
+    ensures len { vec_len hints.new ≤ vec_len hints.old + length (filled slots.now) }
     ensures capacity { vec_capacity hints.old ≤ vec_capacity hints.new }
 {
-    for descriptor in descriptors {
-        release_one(objects, descriptor.1, hints);
+    for slot in slots {
+        if let Some(named) = slot.1 {
+            release_one(objects, named, hints);
+        }
     }
 }
 

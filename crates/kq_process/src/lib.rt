@@ -4,6 +4,7 @@
 mod acts;
 mod applying;
 mod counting;
+mod descriptors;
 mod effect;
 mod ignored;
 mod process;

@@ -1,6 +1,5 @@
+use crate::descriptors::Descriptors;
 use crate::ignored::Ignored;
-use crate::shelf::Shelf;
-use kq_model::Named;
 
 /// A process, also once it has exited.
 #[derive(Drop)]
@@ -9,5 +8,5 @@ pub struct Process {
     pub exited: Option<u32>,
     pub ignored: Ignored,
     /// What its open descriptors name.
-    pub descriptors: Shelf<Named>,
+    pub descriptors: Descriptors,
 }

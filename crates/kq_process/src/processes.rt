@@ -6,7 +6,9 @@ ghost use Rattle.kq_model.specs.ProcessPlans.{descriptors_of, pairs_of, inherite
 ghost use Rattle.kq_model.specs.Processes.{was_used, is_live, process_of, ignores_none, ignored_by};
 ghost use Rattle.kq_model.specs.Processes.{with_process, without_process, with_disposition};
 ghost use Rattle.kq_model.specs.World.{process_view};
+ghost use Rattle.kq_process.specs.Slots.{filled};
 
+use crate::descriptors::Descriptors;
 use crate::ignored::Ignored;
 use crate::process::Process;
 use crate::shelf::Shelf;
@@ -80,17 +82,17 @@ impl Processes {
         ensures once { AreOnce (descriptor_there pid number result) (table_of self.now) }
     {
         let process = self.shelf.get(pid)?;
-        process.descriptors.get(number).copied()
+        process.descriptors.get(number)
     }
 
-    /// The open descriptors of a process, in rising order of their numbers; none where there is no
-    /// such process.
-    pub fn descriptors(&self, pid: u32) -> &[(u32, Named)]
-        ensures all { descriptors_in pid result.now ≡ descriptors_of pid (table_of self.now) }
+    /// The slots of a process's numbers, in rising order of these, where what is not open is empty;
+    /// none where there is no such process.
+    pub fn descriptors(&self, pid: u32) -> &[(u32, Option<Named>)]
+        ensures all { descriptors_in pid (filled result.now) ≡ descriptors_of pid (table_of self.now) }
         ensures once { AreOnce (descriptors_of pid (table_of self.now)) (table_of self.now) }
     {
         match self.shelf.get(pid) {
-            Some(process) => process.descriptors.entries(),
+            Some(process) => process.descriptors.slots(),
             None => &[],
         }
     }
@@ -106,7 +108,7 @@ impl Processes {
         let process = Process {
             exited: None,
             ignored: Ignored::nothing(),
-            descriptors: Shelf::new(self.alloc),
+            descriptors: Descriptors::new(self.alloc),
         };
         self.shelf.insert(pid, process)
     }
@@ -136,8 +138,8 @@ impl Processes {
         self.shelf.insert(child, process)
     }
 
-    /// A process exits: all its descriptors are closed, and given back in rising order.
-    pub fn exit(&mut self, pid: u32, status: u32) -> Shelf<Named>
+    /// A process exits: all its descriptors are closed, and given back.
+    pub fn exit(&mut self, pid: u32, status: u32) -> Descriptors
         requires { is_live pid (processes_of self.old) ≡ true }
         ensures processes { processes_of self.new
             ≡ without_process (Some (record { pid = pid; status = status })) (processes_of self.old) }
@@ -145,7 +147,7 @@ impl Processes {
             ≡ without_closed (pairs_of (descriptors_of pid (table_of self.old))) (table_of self.old) }
         ensures closed { descriptors_in pid result ≡ descriptors_of pid (table_of self.old) }
     {
-        let none = Shelf::new(self.alloc);
+        let none = Descriptors::new(self.alloc);
         let Some(process) = self.shelf.get_mut(pid) else {
             unreachable!()
         };

@@ -6,7 +6,7 @@ ghost use Rattle.kq_model.specs.ProcessPlans.{forked, plan_fork, plan_exit, name
 ghost use Rattle.kq_model.specs.Processes.{is_live};
 ghost use Rattle.kq_model.specs.World.{named_by, Possible};
 
-use crate::counting::{hold_each, pairs, release_each, release_one, say};
+use crate::counting::{count, hold_each, pairs, release_each, release_one, say};
 use crate::effect::Effect;
 use crate::state::State;
 use kq_model::notes::{NOTE_EXIT, NOTE_FORK};
@@ -49,14 +49,14 @@ impl State {
             return Ok(Effect::impossible(alloc, Why::UsedPid));
         }
         let hints = forked(alloc, pid, child)?;
-        let most = self.processes.descriptors(pid).len() as u64;
+        let most = count(self.processes.descriptors(pid)) as u64;
         let Some(_) = self.descriptors.checked_add(most) else {
             return Err(Memory);
         };
         self.processes.fork(pid, child)?;
         let copies = self.processes.descriptors(child);
         hold_each(&mut self.objects, copies);
-        self.descriptors += copies.len() as u64;
+        self.descriptors += count(copies) as u64;
         Ok(Effect::telling(alloc, hints))
     }
 
@@ -74,11 +74,11 @@ impl State {
         }
         let descriptors = self.processes.descriptors(pid);
         let closed = pairs(alloc, pid, descriptors)?;
-        let mut hints = Vec::with_capacity(alloc, descriptors.len() + 1).map_err(|_| Memory)?;
+        let mut hints = Vec::with_capacity(alloc, closed.len() + 1).map_err(|_| Memory)?;
         let gone = self.processes.exit(pid, status);
-        let entries = gone.entries();
-        release_each(&mut self.objects, entries, &mut hints);
-        self.descriptors -= entries.len() as u64;
+        let slots = gone.slots();
+        release_each(&mut self.objects, slots, &mut hints);
+        self.descriptors -= count(slots) as u64;
         say(&mut hints, (Target::Process(pid), Hint::Note(NOTE_EXIT)));
         Ok(Effect::done(closed, hints))
     }

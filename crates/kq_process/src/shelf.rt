@@ -1,10 +1,9 @@
 ghost use Rattle.std.specs.Prelude.{◌≡◌, ◌==◌, not, filter, [], None, Some, IfOk, OnOk, OnErr, MatchResult, length};
 ghost use Rattle.std.specs.Option.{option_copied, option_copied_mut};
-ghost use Rattle.kq_model.specs.ProcessPlans.{is_kqueue};
 ghost use Rattle.kq_process.specs.Shelf.{lookup, put, without, AreRising, IsPlace, IsGap};
 
 use crate::search::search;
-use kq_model::{Memory, Named};
+use kq_model::Memory;
 use std::alloc::Global;
 use std::marker::Model;
 
@@ -71,26 +70,6 @@ impl<T> Shelf<T> {
         &mut entry.1
     }
 
-    /// All pairs, in rising order of their numbers.
-    pub fn entries(&self) -> &[(u32, T)]
-        ensures all { result.now ≡ self.now }
-        ensures rising { AreRising self.now }
-    {
-        &self.entries
-    }
-
-    /// Takes out what stands under a number.
-    pub fn remove(&mut self, number: u32) -> Option<T>
-        ensures removed { result ≡ lookup number self.old }
-        ensures rest { self.new ≡ without number self.old }
-        ensures rising { AreRising self.old }
-    {
-        match self.find(number) {
-            Ok(index) => Some(self.entries.remove(index).1),
-            Err(_) => None,
-        }
-    }
-
     // The index of the number's pair, or where it would stand.
     fn find(&self, number: u32) -> Result<usize, usize>
         ensures place { MatchResult result (IsPlace number self.now) (IsGap number self.now) }
@@ -119,28 +98,4 @@ impl<T: Drop> Shelf<T> {
                 .map_err(|_| Memory),
         }
     }
-}
-
-impl Shelf<Named> {
-    /// Copies of the descriptors that a child of fork(2) has too: all but those of kqueues.
-    pub fn inheritable(&self, alloc: Global) -> Result<Self, Memory>
-        ensures copies { IfOk result (λ copies. copies ≡ filter (λ entry. not (is_kqueue entry.1)) self.now) }
-        ensures rising { AreRising self.now }
-    {
-        let entries = self
-            .entries
-            .iter()
-            .copied()
-            .filter(|entry| !is_kqueue(entry.1))
-            .collect(alloc)
-            .map_err(|_| Memory)?;
-        Ok(Shelf { entries })
-    }
-}
-
-#[tactic(auto, unfolding(kq_model::specs::ProcessPlans::is_kqueue))]
-fn is_kqueue(named: Named) -> bool
-    ensures { result ≡ is_kqueue named }
-{
-    matches!(named, Named::Kqueue(_))
 }

@@ -9,6 +9,7 @@ ghost use Rattle.kq_model.specs.Processes.{is_live};
 ghost use Rattle.kq_model.specs.World.{empty_world, named_by, seen_world, view_in, World as Kept};
 ghost use Rattle.kq_process.specs.Ordered.{IsRising-prop};
 ghost use Rattle.kq_process.specs.Processes.{descriptors_in};
+ghost use Rattle.kq_process.specs.Slots.{filled};
 ghost use Rattle.kq_process.specs.State.{state_of};
 
 use crate::effect::Effect;
@@ -117,10 +118,10 @@ impl World {
         self.state.processes.named(pid, number)
     }
 
-    /// The open descriptors of a process, each with its number, in rising order; none where there is
-    /// no such process.
-    pub fn descriptors(&self, pid: u32) -> &[(u32, Named)]
-        ensures { descriptors_in pid result.now ≡ descriptors_of pid (world_of self.now).table }
+    /// The slots of a process's numbers, in rising order of these; that of a number which was closed may be
+    /// there and empty. None where there is no such process.
+    pub fn descriptors(&self, pid: u32) -> &[(u32, Option<Named>)]
+        ensures { descriptors_in pid (filled result.now) ≡ descriptors_of pid (world_of self.now).table }
     {
         self.state.processes.descriptors(pid)
     }

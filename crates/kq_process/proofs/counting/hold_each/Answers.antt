@@ -1,38 +1,44 @@
-use Rattle.std.proofs.Common.{◌≡◌, ◌∙◌, ℕ, ◌<◌, ◌≤◌, ◌+◌, List, [], length, get_or, drop, sym, ap, arith}
+use Rattle.std.proofs.Common.{◌≡◌, ◌∙◌, ◌<◌, ◌≤◌, ◌+◌, ◌∷◌, List, [], length, drop, sym, ap, arith}
 use Rattle.std.proofs.lemmas.List.{drop_all}
-use Rattle.kq_model.specs.Holding.{all_held}
+use Rattle.kq_model.specs.Holding.{all_held, hold}
 use Rattle.kq_model.specs.declared.object.Named.{Named}
 use Rattle.kq_objects.specs.Objects.{objects_of}
 use Rattle.kq_process.specs.Counts.{names_in}
-use Rattle.kq_process.proofs.CountedSteps.{nothing, next, hold-can, hold-next, hold-rest}
+use Rattle.kq_process.specs.Slots.{filled}
+use Rattle.kq_process.proofs.CountedSteps.{next-empty, next-full, hold-next, hold-rest}
+use Rattle.kq_process.proofs.counting.hold_each.Goals.{in-Some, in_default}
 use Rattle.kq_process.proofs.counting.hold_each.Goals as goal
 
-pub hold-requires : goal.hold-requires
-hold-requires c =
-    let ds = c.args.descriptors.now in
-    let i = c.loop-descriptor.descriptor-index in
-    let below : i < length ds = omega arith in
-    hold-can (get_or ds i nothing).1 (names_in (drop (i + 1) ds)) (names_in (drop i ds)) (objects_of c.loop-descriptor.objects)
-    (objects_of c.loop-descriptor.objects) (next ds i below) c.loop-descriptor.invariant.can
-
-pub loop-descriptor-preserved : goal.loop-descriptor-preserved
-loop-descriptor-preserved c =
-    let ds = c.args.descriptors.now in
-    let i = c.loop-descriptor.descriptor-index in
-    let below : i < length ds = omega arith in
-    let n : Named = (get_or ds i nothing).1 in
-    record {
-      rest = hold-rest n (names_in (drop (i + 1) ds)) (names_in (drop i ds)) (objects_of c.loop-descriptor.objects)
-          (objects_of c.hold.new.self) (next ds i below) c.hold.ensures ∙ c.loop-descriptor.invariant.rest;
-      can = hold-next n (names_in (drop (i + 1) ds)) (names_in (drop i ds)) (objects_of c.loop-descriptor.objects)
-          (objects_of c.hold.new.self) (next ds i below) c.hold.ensures c.loop-descriptor.invariant.can;
-    }
+pub loop-slot-preserved : goal.loop-slot-preserved
+loop-slot-preserved c =
+    let ss = c.args.slots.now in
+    let i = c.loop-slot.slot-index in
+    let before = c.loop-slot.invariant in
+    let below : i < length ss = omega arith in
+    let left : List Named = names_in (filled (drop (i + 1) ss)) in
+    elim c.match-slot.branch [
+      | in-Some w ↦
+          let n = w.in-Some.named in
+          let next : names_in (filled (drop i ss)) ≡ n ∷ left = ap names_in (next-full ss i below n w.in-Some.is) in
+          let done : objects_of c.match-slot.objects ≡ hold n (objects_of c.loop-slot.objects) =
+          ap objects_of w.objects-is ∙ w.hold.ensures in
+          record {
+            rest = hold-rest n left _ (objects_of c.loop-slot.objects) _ next done ∙ before.rest;
+            can = hold-next n left _ (objects_of c.loop-slot.objects) _ next done before.can;
+          }
+      | in_default w ↦
+          let same : objects_of c.match-slot.objects ≡ objects_of c.loop-slot.objects = ap objects_of w.objects-is in
+          let next : names_in (filled (drop i ss)) ≡ left = ap names_in (next-empty ss i below w.in_default.is) in
+          record {
+            rest = rw same (ap (λ ns. all_held ns (objects_of c.loop-slot.objects)) (sym next) ∙ before.rest);
+            can = rw (same, ← next) before.can;
+          }
+    ]
 
 pub returns : goal.returns
 unfolding all_held
 returns c =
-    let past : length c.args.descriptors.now ≤ c.loop-descriptor.descriptor-index = omega arith in
-    let none : drop c.loop-descriptor.descriptor-index c.args.descriptors.now ≡ [] =
-    drop_all c.loop-descriptor.descriptor-index c.args.descriptors.now past in
-    ap (λ (ds : List (ℕ × Named)). all_held (names_in ds) (objects_of c.loop-descriptor.objects)) (sym none)
-    ∙ c.loop-descriptor.invariant.rest
+    let past : length c.args.slots.now ≤ c.loop-slot.slot-index = omega arith in
+    let none : drop c.loop-slot.slot-index c.args.slots.now ≡ [] = drop_all c.loop-slot.slot-index c.args.slots.now past in
+    ap (λ ss. all_held (names_in (filled ss)) (objects_of c.loop-slot.objects)) (sym none)
+    ∙ c.loop-slot.invariant.rest

@@ -9,7 +9,7 @@ pub returns-in-Some-clause-all : goal.returns-in-Some-clause-all
 returns-in-Some-clause-all c =
     let es = c.args.self.now.shelf in
     let rising : AreRising es = c.get.ensures.rising in
-    ap (descriptors_in c.args.pid) c.entries.ensures.all
+    ap (descriptors_in c.args.pid) c.slots.ensures
     ∙ exit_closed c.args.pid es rising c.in-Some.process.now c.in-Some.ensures.found
 
 pub returns-in-Some-clause-once : goal.returns-in-Some-clause-once

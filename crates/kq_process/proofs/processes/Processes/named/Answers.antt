@@ -9,7 +9,7 @@ pub returns-clause-named : goal.returns-clause-named
 returns-clause-named c =
     let es = c.args.self.now.shelf in
     let rising : AreRising es = c.get.ensures.rising in
-    c.copied.ensures ∙ c.get-2.ensures.found
+    c.get-2.ensures.found
     ∙ named_is c.args.pid es rising c.in_ok-process.process.now c.in_ok-process.ensures.found c.args.number
 
 pub returns-in_err-process-clause-named : goal.returns-in_err-process-clause-named
@@ -23,7 +23,7 @@ returns-clause-once c =
     let es = c.args.self.now.shelf in
     let rising : AreRising es = c.get.ensures.rising in
     once-number c.args.pid es rising c.in_ok-process.process.now c.in_ok-process.ensures.found c.get-2.ensures.rising
-    c.args.number _ (c.copied.ensures ∙ c.get-2.ensures.found)
+    c.args.number _ c.get-2.ensures.found
 
 pub returns-in_err-process-clause-once : goal.returns-in_err-process-clause-once
 returns-in_err-process-clause-once c = rw c.from_residual.ensures (once-none (table_in c.args.self.now.shelf))
