@@ -20,6 +20,7 @@ use Rattle.kq_model.specs.Limits.{most_file_size}
 use Rattle.kq_model.specs.Objects as model
 use Rattle.kq_model.specs.Sockets.{SocketState, is_socket_held, no_socket, socket_after}
 use Rattle.kq_objects.specs.declared.objects.Objects.{Objects}
+use Rattle.kq_objects.specs.Descriptions.{description_at, room_in}
 use Rattle.kq_objects.specs.Files.{file_at, room_on}
 use Rattle.kq_objects.specs.Fits.{FitsDescriptionAt, FitsFileAt, FitsPipeAt, FitsSocketAt, IsNote, IsPipeNote, made_description, made_file, opened_at, opened_on}
 use Rattle.kq_objects.specs.Objects.{objects_of, AllFit, sockets_made, pipes_made, descriptions_made, files_made, opened_in, spare_room, AreSocketNotes, IsRoomFor, IsReady, Room}
@@ -70,7 +71,7 @@ ready-socket o place r note = record { fits = (note.1, tt); room = room-none (To
 pub ready-pipe : (o : Objects) (place : ℕ) (r : PipeRecord) → IsPipeNote r (get nat_eq o.pipes.table place) → IsReady (ToPipe place r ∷ []) o
 ready-pipe o place r note = record { fits = (note.1, tt); room = room-none (ToPipe place r) o refl note.0 refl refl (λ number. refl) }
 
-pub ready-description : (o : Objects) (place : ℕ) (r : DescriptionRecord) → made_description r ≡ 0 → FitsDescriptionAt r (get nat_eq o.descriptions.table place)
+pub ready-description : (o : Objects) (place : ℕ) (r : DescriptionRecord) → made_description r ≡ 0 → FitsDescriptionAt r (description_at o.descriptions place)
     → IsReady (ToDescription place r ∷ []) o
 ready-description o place r none fits = record { fits = (fits, tt); room = room-none (ToDescription place r) o refl refl none refl (λ number. refl) }
 
@@ -114,8 +115,8 @@ opened_if : (here : Bool) (number n : ℕ) (o : Objects) → (here ≡ true → 
 opened_if true number n o same room = let e : room_on n o.files ≡ room_on number o.files = ap (λ q. room_on q o.files) (same refl) in omega arith
 opened_if false number n o same room = omega arith
 
-pub ready-open : (o : Objects) (place number : ℕ) (mode : Mode) (s : FileState) → get nat_eq o.descriptions.table place ≡ None
-    → file_at o.files number ≡ Some s → 0 < spare o.descriptions.table → 0 < room_on number o.files
+pub ready-open : (o : Objects) (place number : ℕ) (mode : Mode) (s : FileState) → description_at o.descriptions place ≡ None
+    → file_at o.files number ≡ Some s → 0 < room_in o.descriptions → 0 < room_on number o.files
     → IsReady (ToDescription place (description.Opened number mode) ∷ ToFile number (file.Opened place) ∷ []) o
 unfolding model.done
 ready-open o place number mode s none there room list = record {
@@ -173,7 +174,7 @@ ready-accept o place receive send listener r none note room =
 -- ---- a write, and a note
 
 reached_if : (nothing : Bool) (o : Objects) (place number bytes end : ℕ) (s : FileState)
-    → FitsDescriptionAt (description.Moved bytes) (get nat_eq o.descriptions.table place) → file_at o.files number ≡ Some s → end ≤ most_file_size
+    → FitsDescriptionAt (description.Moved bytes) (description_at o.descriptions place) → file_at o.files number ≡ Some s → end ≤ most_file_size
     → IsReady (ToDescription place (description.Moved bytes) ∷ (if nothing then [] else ToFile number (file.Reached end) ∷ [])) o
 unfolding model.done
 reached_if true o place number bytes end s fits there within = ready-description o place (description.Moved bytes) refl fits
@@ -183,7 +184,7 @@ reached_if false o place number bytes end s fits there within = record {
 }
 
 pub ready-write : (o : Objects) (place number bytes end : ℕ) (s : FileState)
-    → FitsDescriptionAt (description.Moved bytes) (get nat_eq o.descriptions.table place) → file_at o.files number ≡ Some s → end ≤ most_file_size
+    → FitsDescriptionAt (description.Moved bytes) (description_at o.descriptions place) → file_at o.files number ≡ Some s → end ≤ most_file_size
     → IsReady (ToDescription place (description.Moved bytes) ∷ reached number bytes end) o
 unfolding reached
 ready-write o place number bytes end s = reached_if (bytes == 0) o place number bytes end s

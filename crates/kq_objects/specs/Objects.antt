@@ -8,6 +8,7 @@ use Rattle.kq_model.specs.Objects as model
 use Rattle.kq_objects.specs.declared.error.PlanError.{PlanError}
 use Rattle.kq_objects.specs.declared.error.PlanError.TheVariants as plan_error
 use Rattle.kq_objects.specs.declared.objects.Objects.{Objects}
+use Rattle.kq_objects.specs.Descriptions.{description_at, room_in}
 use Rattle.kq_objects.specs.Files.{file_at, room_on}
 use Rattle.kq_objects.specs.Fits.{FitsSocketAt, FitsPipeAt, FitsDescriptionAt, FitsFileAt, made_socket, made_pipe}
 use Rattle.kq_objects.specs.Fits.{made_description, made_file, opened_at, IsNote}
@@ -17,7 +18,7 @@ abbrev pub objects_of : Objects → model.Objects model.counted
 objects_of o = record {
   socket = λ place. get nat_eq o.sockets.table place;
   pipe = λ place. get nat_eq o.pipes.table place;
-  description = λ place. get nat_eq o.descriptions.table place;
+  description = λ place. description_at o.descriptions place;
   file = λ number. file_at o.files number;
 }
 
@@ -74,7 +75,7 @@ abbrev pub spare_room : Objects → Room
 spare_room o = record {
   sockets = spare o.sockets.table;
   pipes = spare o.pipes.table;
-  descriptions = spare o.descriptions.table;
+  descriptions = room_in o.descriptions;
   files = spare o.files.table;
   on_file = λ number. room_on number o.files;
 }

@@ -1,12 +1,12 @@
 // The plans of the records about files by their numbers.
-ghost use Rattle.std.specs.Prelude.{◌≡◌, ◌≤◌, ◌∷◌, [], ◌++◌, nat_eq, None, Some, IfOk, IfSome, List};
-ghost use Rattle.std.specs.HashMap.{get};
+ghost use Rattle.std.specs.Prelude.{◌≡◌, ◌≤◌, ◌∷◌, [], ◌++◌, None, Some, IfOk, IfSome, List};
 ghost use Rattle.std.specs.Option.{option_map, option_copied};
 ghost use Rattle.kq_model.specs.FilePlans.{file_amount, noted, readable_each, extending, plan_file, present, plan_open};
 ghost use Rattle.kq_model.specs.FilePlans.{plan_truncate, sized, plan_note, deletion};
 ghost use Rattle.kq_model.specs.Limits.{most_file_size};
 ghost use Rattle.kq_model.specs.NoteBits.{bit_of};
 ghost use Rattle.kq_model.specs.declared.doing.Doing.{Doing};
+ghost use Rattle.kq_objects.specs.Descriptions.{description_at};
 ghost use Rattle.kq_objects.specs.Files.{file_at};
 ghost use Rattle.kq_objects.specs.Kept.{FileKept};
 ghost use Rattle.kq_objects.specs.Objects.{objects_of, IsPlanned, IsReady};
@@ -125,7 +125,7 @@ impl Objects {
         number: u32,
         mode: Mode,
     ) -> Result<Plan, PlanError>
-        requires { get nat_eq self.old.descriptions.table place ≡ None }
+        requires { description_at self.old.descriptions place ≡ None }
         ensures same { objects_of self.new ≡ objects_of self.old }
         ensures plan { IsPlanned result (plan_open place number mode (objects_of self.old)) }
         ensures ready { IfOk result (λ p. IsReady p.doings self.new) }

@@ -6,6 +6,7 @@ ghost use Rattle.kq_model.specs.Holding.{readers, writers, description_holders};
 ghost use Rattle.kq_model.specs.Objects.{all_done};
 ghost use Rattle.kq_model.specs.declared.object.Hint.TheVariants as hint;
 ghost use Rattle.kq_model.specs.declared.object.Named.TheVariants as named;
+ghost use Rattle.kq_objects.specs.Descriptions.{description_at};
 ghost use Rattle.kq_objects.specs.Files.{file_at};
 ghost use Rattle.kq_objects.specs.Holding.{CanHold, CanRelease};
 ghost use Rattle.kq_objects.specs.Objects.{objects_of};
@@ -115,9 +116,9 @@ impl Objects {
 
     #[tactic(auto, unfolding(kq_model::specs::Holding::release, kq_model::specs::Holding::release_doings, kq_model::specs::Holding::left, kq_model::specs::Holding::leaving, kq_model::specs::Holding::close_hint, kq_model::specs::Objects::all_done))]
     fn release_description(&mut self, place: u64) -> Option<(Target, Hint)>
-        requires { pos 1 ≤ℤ description_holders (get nat_eq self.old.descriptions.table place) }
+        requires { pos 1 ≤ℤ description_holders (description_at self.old.descriptions place) }
         ensures done { (number : ℕ) → objects_of self.new ≡ release (named.Open place number) (objects_of self.old) }
-        ensures hint { result ≡ close_hint (get nat_eq self.old.descriptions.table place) }
+        ensures hint { result ≡ close_hint (description_at self.old.descriptions place) }
     {
         let Some(description) = self.descriptions.get(place) else {
             return None;

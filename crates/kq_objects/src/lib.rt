@@ -5,6 +5,7 @@ mod by_place;
 mod carrying;
 mod description;
 mod description_plans;
+mod descriptions;
 mod error;
 mod file;
 mod file_plans;

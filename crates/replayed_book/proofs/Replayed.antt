@@ -1,8 +1,9 @@
 -- The rows of kqueues that were replayed alone, and the plain ones, stand by place, as a merge wants them; and what it
 -- gives are the rows of the trace.
-use Rattle.std.proofs.Common.{◌≡◌, List}
+use Rattle.std.proofs.Common.{◌≡◌, List, Result, Ok, Err, IfErr}
 use Rattle.std.proofs.lemmas.List.Elements.{All-weaker}
 use Rattle.std.specs.List.{All}
+use Rattle.std.specs.Result.{IsErrAnd}
 use Rattle.kq_model.specs.declared.row.Row.{Row}
 use Rattle.kq_model.specs.declared.rows.Rows.{Rows}
 use Rattle.kq_model.specs.OwnedRows.{Rise}
@@ -11,6 +12,7 @@ use Rattle.kq_history.specs.Traced.{Traced, plain_rows_of}
 use Rattle.kq_merge.specs.ByPlace.{IsOnlyOrder, NeverFall, rows_in}
 use Rattle.kq_merge.proofs.Places.{never_fall}
 use Rattle.kq_replay.specs.Replayed.{AreReplayed}
+use Rattle.kq_replay.specs.declared.RunFault.{RunFault}
 
 pub kqueues_never_fall : (t : Traced) (kqueues : List Rows) → AreReplayed t kqueues
     → All (λ (one : Rows). NeverFall one.rows) kqueues
@@ -24,3 +26,8 @@ plain_never_falls t kqueues are = never_fall (plain_rows_of t) are.plain
 pub rows_again : (t : Traced) (kqueues : List Rows) (merged : List Row) → AreReplayed t kqueues
     → IsOnlyOrder (rows_in kqueues (plain_rows_of t)) merged → merged ≡ rows t.version t.events
 rows_again t kqueues merged are only = only (rows t.version t.events) are.whole are.ordered
+
+-- want of memory says nothing of the number of workers
+pub memory_is_no_count : {A : Type 0} (r : Result A RunFault) (P : Type 0) → IsErrAnd r (λ f. f ≡ RunFault.Memory) → IfErr r (λ f. f ≡ RunFault.Workers → P)
+memory_is_no_count (Ok x) P is = tt
+memory_is_no_count (Err f) P is = λ workers. absurd (cc)

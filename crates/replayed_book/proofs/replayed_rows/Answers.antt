@@ -4,7 +4,7 @@ use Rattle.kq_model.specs.declared.row.Row.{Row}
 use Rattle.kq_model.specs.System.{rows}
 use Rattle.kq_history.specs.Traced.{Traced, plain_rows_of}
 use Rattle.kq_merge.specs.ByPlace.{IsOnlyOrder, NeverFall, rows_in}
-use Rattle.replayed_book.proofs.Replayed.{kqueues_never_fall, plain_never_falls, rows_again}
+use Rattle.replayed_book.proofs.Replayed.{kqueues_never_fall, memory_is_no_count, plain_never_falls, rows_again}
 use Rattle.replayed_book.proofs.replayed_rows.Goals as goal
 
 pub merge-requires-clause-kqueues : goal.merge-requires-clause-kqueues
@@ -28,3 +28,7 @@ returns-clause-rows g c =
     let trace = c.in_ok-trace.ensures in
     rows_again split kqueues merged c.in_ok-kqueues.ensures.ok only
     ∙ (ap (λ (t : Traced). rows t.version t.events) c.in_ok-split.ensures ∙ ap₂ rows trace.0 trace.1)
+
+pub returns-in_err-merged-clause-fault : goal.returns-in_err-merged-clause-fault
+returns-in_err-merged-clause-fault g c =
+    memory_is_no_count c.from_residual-in_err-merged.result _ c.from_residual-in_err-merged.ensures.1
