@@ -1,6 +1,6 @@
 //! What a call returned, and why it did not return the others.
 
-ghost use Rattle.std.specs.Prelude.{◌^◌, ◌<◌};
+ghost use Rattle.std.specs.Prelude.{◌^◌, ◌<◌, ◌-◌};
 
 use crate::history::{Followed, History};
 use crate::story::{Story, event_at, story_before};
@@ -17,6 +17,13 @@ use std::alloc::Global;
 struct Told {
     verdict: Verdict,
     knote: Option<Knote>,
+}
+
+/// What a call answers, and what became of each kevent in it.
+#[derive(Drop)]
+struct CallEnd {
+    reply: Reply,
+    told: Vec<Told>,
 }
 
 /// What became of each kevent of a kqueue in the call at a place; none where the record there is no call.
@@ -56,30 +63,49 @@ fn call_text(
     let keys = keys_at(alloc, trace, at, call, changes)?;
     let all = History::new(alloc, call.pid, call.fd, keys.as_slice())?;
     let mut story = story_before(alloc, trace, &[], &[], at, all)?;
+    let ended = ended(alloc, &mut story, keys.as_slice(), call, changes)?;
+    text_of(alloc, at, call, &story.history, &ended)
+}
+
+/// The call with its answer, and each kevent with its verdict and what it went through.
+fn text_of(
+    alloc: Global,
+    at: u64,
+    call: Call,
+    history: &History,
+    ended: &CallEnd,
+) -> Result<Vec<u8>, Memory> {
     let mut out = Vec::new(alloc);
     put(&mut out, "the call at ")?;
     put_place(&mut out, at)?;
     put(&mut out, ": room ")?;
     put_number(&mut out, call.room)?;
     put(&mut out, "\n  answer  ")?;
+    put_reply(&mut out, &ended.reply)?;
+    put(&mut out, "\n")?;
+    for (followed, one) in history.followed.iter().zip(&ended.told) {
+        put_told(&mut out, followed, one)?;
+    }
+    Ok(out)
+}
+
+/// Carries out a call, and tells what became of these kevents.
+fn ended(
+    alloc: Global,
+    story: &mut Story<'_>,
+    keys: &[Key],
+    call: Call,
+    changes: &[Change],
+) -> Result<CallEnd, Memory>
+    requires { story.old.system.applied < 2 ^ 31 - 1 }
+{
     let begun = story.begin(call, changes)?;
-    let told = all_told(
-        alloc,
-        &story,
-        keys.as_slice(),
-        call,
-        outcome_of(&begun, call),
-    )?;
+    let told = all_told(alloc, story, keys, call, outcome_of(&begun, call))?;
     let reply = match begun {
         Some(reply) => reply,
         None => story.read(call, None)?,
     };
-    put_reply(&mut out, &reply)?;
-    put(&mut out, "\n")?;
-    for (followed, one) in story.history.followed.iter().zip(&told) {
-        put_told(&mut out, followed, one)?;
-    }
-    Ok(out)
+    Ok(CallEnd { reply, told })
 }
 
 /// How a call goes on that began so.
