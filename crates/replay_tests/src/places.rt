@@ -228,7 +228,7 @@ fn assert_now(rt: &impl Abort, history: &HistoryAt, world: &World) {
 }
 
 /// What was seen after a place is what the world says then.
-pub fn assert_seen(rt: &impl Abort, split: &Split, place: u64, world: &World) {
+fn assert_seen(rt: &impl Abort, split: &Split, place: u64, world: &World) {
     let history = split.at(place);
     for pid in 0..5 {
         for number in 0..14 {
@@ -246,7 +246,7 @@ pub fn assert_seen(rt: &impl Abort, split: &Split, place: u64, world: &World) {
 }
 
 /// The world before the first record.
-pub fn unborn(alloc: Global) -> Result<World, Memory>
+fn unborn(alloc: Global) -> Result<World, Memory>
     ensures { IfOk result (λ world. last_of world ≡ 0) }
 {
     World::new(alloc)
@@ -262,7 +262,7 @@ fn step(world: &mut World, place: u64, event: &Event) -> Result<bool, Memory>
 }
 
 /// The world goes over the records, and is what was seen after each. Returns how many are impossible.
-pub fn assert_seen_at_each(
+fn assert_seen_at_each(
     rt: &impl Abort,
     split: &Split,
     world: &mut World,
@@ -281,13 +281,24 @@ pub fn assert_seen_at_each(
     Ok(impossible)
 }
 
+/// What is seen before these records and after each of them is what the world says then. Returns how many are
+/// impossible.
+pub fn assert_as_the_world(
+    rt: &impl Abort,
+    alloc: Global,
+    split: &Split,
+    events: &[Event],
+) -> Result<usize, Memory> {
+    let mut world = unborn(alloc)?;
+    assert_seen(rt, split, 0, &world);
+    assert_seen_at_each(rt, split, &mut world, events)
+}
+
 #[test]
 fn at_each_place_the_world_is_seen(rt: HostRuntime) -> Result<(), Fail> {
     let trace = whole(&rt, rt.alloc())?;
     let split = Split::of(rt.alloc(), &trace)?;
-    let mut world = unborn(rt.alloc())?;
-    assert_seen(&rt, &split, 0, &world);
-    let impossible = assert_seen_at_each(&rt, &split, &mut world, trace.events.as_slice())?;
+    let impossible = assert_as_the_world(&rt, rt.alloc(), &split, trace.events.as_slice())?;
     assert_eq!(rt; split.plain_rows().len(), impossible);
     assert_eq!(rt; impossible, 2);
     Ok(())
