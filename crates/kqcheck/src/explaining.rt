@@ -5,10 +5,10 @@ ghost use Rattle.std.specs.Prelude.{◌^◌, ◌<◌, ◌-◌};
 use crate::history::{Followed, History};
 use crate::story::{Story, event_at, story_before};
 use crate::text::{put_absence, put_key, put_moments, put_place, put_reply};
-use crate::verdict::Call;
+use crate::verdict::{Call, call_of};
 use kq_judge::{Outcome, Verdict, keys_looked_at, verdict_of};
 use kq_knote::{Knote, Knotes};
-use kq_model::{Change, Event, Key, Memory, Reply, Trace};
+use kq_model::{Change, Key, Memory, Reply, Trace};
 use kq_text::{put, put_number};
 use std::alloc::Global;
 
@@ -31,23 +31,11 @@ pub fn explained(alloc: Global, trace: &Trace, at: u64) -> Result<Option<Vec<u8>
     let Some(event) = event_at(trace, at) else {
         return Ok(None);
     };
-    match event {
-        Event::Kevent {
-            pid,
-            fd,
-            changes,
-            room,
-        } => {
-            let call = Call {
-                pid: *pid,
-                fd: *fd,
-                room: *room,
-            };
-            let text = call_text(alloc, trace, at, call, changes.as_slice())?;
-            Ok(Some(text))
-        }
-        _ => Ok(None),
-    }
+    let Some((call, changes)) = call_of(event) else {
+        return Ok(None);
+    };
+    let text = call_text(alloc, trace, at, call, changes)?;
+    Ok(Some(text))
 }
 
 fn call_text(

@@ -7,7 +7,7 @@ use crate::history::History;
 use crate::judging::answer_at;
 use crate::story::{Story, event_at, story_before};
 use crate::text::{put_absence, put_difference, put_given, put_key, put_moments, put_reply};
-use crate::verdict::Call;
+use crate::verdict::{Call, call_of};
 use kq_answers::{Answer, Given};
 use kq_judge::{Fault, Ignored, Judgement, judge};
 use kq_model::{Change, Event, Kevent, Key, Memory, Reply, Series, Trace};
@@ -37,40 +37,57 @@ pub fn refusal_of(
         return Ok(out);
     };
     let nobody = History::new(alloc, 0, 0, &[])?;
-    let mut story = story_before(alloc, trace, answers, ignored, at, nobody)?;
-    let (Some(given), _) = answer_at(story.rest, at) else {
-        return Ok(out);
-    };
-    put(&mut out, "  yours   ")?;
-    put_given(&mut out, given)?;
-    match event {
-        Event::Kevent {
-            pid,
-            fd,
-            changes,
-            room,
-        } => {
-            let call = Call {
-                pid: *pid,
-                fd: *fd,
-                room: *room,
-            };
-            put(&mut out, "\n  kqueue  ")?;
-            let changes = changes.as_slice();
-            match story.begin(call, changes)? {
-                Some(reply) => put_early(&mut out, &reply)?,
-                None => {
-                    if let Some(blame) = put_pending(alloc, &mut out, &story, call, given)? {
-                        let mine = History::new(alloc, call.pid, call.fd, &[blame.key])?;
-                        let again = story_before(alloc, trace, answers, ignored, at, mine)?;
-                        put_blame(&mut out, again, &blame, call, changes)?;
-                    }
-                }
-            }
-        }
-        _ => put(&mut out, "\n  kqueue  no call, and possible\n")?,
+    let story = story_before(alloc, trace, answers, ignored, at, nobody)?;
+    let blame = put_answers(alloc, &mut out, story, event, at)?;
+    if let (Some(blame), Some((call, changes))) = (blame, call_of(event)) {
+        let mine = History::new(alloc, call.pid, call.fd, &[blame.key])?;
+        let again = story_before(alloc, trace, answers, ignored, at, mine)?;
+        put_blame(&mut out, again, &blame, call, changes)?;
     }
     Ok(out)
+}
+
+/// Adds the answer that was given to a record, and that of the queue's order, and gives what is wrong. The story ends
+/// with the record.
+fn put_answers(
+    alloc: Global,
+    out: &mut Vec<u8>,
+    story: Story<'_>,
+    event: &Event,
+    at: u64,
+) -> Result<Option<Blame>, Memory>
+    requires { story.system.applied < 2 ^ 31 - 1 }
+{
+    let mut story = story;
+    put_both(alloc, out, &mut story, event, at)
+}
+
+fn put_both(
+    alloc: Global,
+    out: &mut Vec<u8>,
+    story: &mut Story<'_>,
+    event: &Event,
+    at: u64,
+) -> Result<Option<Blame>, Memory>
+    requires { story.old.system.applied < 2 ^ 31 - 1 }
+{
+    let (Some(given), _) = answer_at(story.rest, at) else {
+        return Ok(None);
+    };
+    put(out, "  yours   ")?;
+    put_given(out, given)?;
+    put(out, "\n  kqueue  ")?;
+    let Some((call, changes)) = call_of(event) else {
+        put(out, "no call, and possible\n")?;
+        return Ok(None);
+    };
+    match story.begin(call, changes)? {
+        Some(reply) => {
+            put_early(out, &reply)?;
+            Ok(None)
+        }
+        None => put_pending(alloc, out, story, call, given),
+    }
 }
 
 /// Adds the reply of a call that reads no events.
@@ -128,7 +145,7 @@ fn blame_of(judgement: Judgement, own: &[Kevent]) -> Option<Blame> {
     }
 }
 
-/// Adds what is blamed, and what that kevent went through until the changes of the call were done.
+/// Adds what is blamed, and what that kevent went through until the changes of the call were done. The story ends there.
 fn put_blame(
     out: &mut Vec<u8>,
     story: Story<'_>,
@@ -139,11 +156,23 @@ fn put_blame(
     requires { story.system.applied < 2 ^ 31 - 1 }
 {
     let mut story = story;
+    put_moments_of(out, &mut story, blame, call, changes)
+}
+
+fn put_moments_of(
+    out: &mut Vec<u8>,
+    story: &mut Story<'_>,
+    blame: &Blame,
+    call: Call,
+    changes: &[Change],
+) -> Result<(), Memory>
+    requires { story.old.system.applied < 2 ^ 31 - 1 }
+{
     let _ = story.begin(call, changes)?;
     put(out, label_of(blame))?;
     put_key(out, blame.key)?;
     put(out, ": ")?;
-    put_reason(out, &story, blame, call)?;
+    put_reason(out, story, blame, call)?;
     put(out, "\n")?;
     for followed in &story.history.followed {
         put_moments(out, followed)?;

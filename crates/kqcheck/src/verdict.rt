@@ -4,7 +4,7 @@ ghost use Rattle.kqcheck.specs.Replies.{IsVerdictOf};
 
 use crate::answering::is_reply;
 use kq_answers::Given;
-use kq_model::{Reply, Why};
+use kq_model::{Change, Event, Reply, Why};
 
 /// What one record comes to.
 #[derive(Drop, Clone, Copy)]
@@ -25,6 +25,26 @@ pub struct Call {
     pub pid: u32,
     pub fd: u32,
     pub room: u32,
+}
+
+/// The call that a record is, and its changes; none for another record.
+pub fn call_of(event: &Event) -> Option<(Call, &[Change])> {
+    match event {
+        Event::Kevent {
+            pid,
+            fd,
+            changes,
+            room,
+        } => {
+            let call = Call {
+                pid: *pid,
+                fd: *fd,
+                room: *room,
+            };
+            Some((call, changes.as_slice()))
+        }
+        _ => None,
+    }
 }
 
 /// What a record comes to that reads no events.
