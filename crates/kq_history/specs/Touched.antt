@@ -1,7 +1,8 @@
 -- What may be another one after a record: the numbers that it closed or opens, and those of a process that it
 -- started; whom it told, what it speaks of, what the numbers that it speaks of name after it, and what may have ended
 -- with those that it closed. A descriptor more alters nothing that is seen.
-use Rattle.std.specs.Prelude.{◌≡◌, ℕ, ◌==◌, Bool, true, false, ◌&&◌, List, [], ◌∷◌, ◌++◌, map, Option, Some, None, if◌then◌else◌}
+use Rattle.std.specs.Prelude.{◌≡◌, ℕ, ◌==◌, Bool, true, false, ◌&&◌, List, [], ◌∷◌, ◌++◌, map, Option, Some, None}
+use Rattle.std.specs.Prelude.{if◌then◌else◌}
 use Rattle.std.specs.List.{flat_map, list_any}
 use Rattle.kq_model.specs.declared.event.Event.{Event}
 use Rattle.kq_model.specs.declared.object.Named.{Named}

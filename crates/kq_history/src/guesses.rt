@@ -1,10 +1,7 @@
 use crate::timelines::Found;
-use kq_model::{Memory, Target};
+use kq_model::{Memory, Target, spread};
 use std::alloc::Global;
 use std::cell::Cell;
-
-/// Spreads numbers, most of which come one after the other.
-const SPREADING: u64 = 0x9E37_79B9_7F4A_7C15;
 
 /// Where targets were found when they were last looked at. Each is a guess: two targets may share one, so what it says
 /// may be of another target. Who takes one looks whether it is right.
@@ -30,8 +27,8 @@ impl Guesses {
 
     /// The guess for a target, if there is room for one.
     pub(crate) fn of(&self, target: Target) -> Option<&Cell<Found>> {
-        let spread = (number_of(target).wrapping_mul(SPREADING) >> 32) as usize;
-        self.found.get(spread & self.last)
+        self.found
+            .get(spread(number_of(target)) as usize & self.last)
     }
 }
 

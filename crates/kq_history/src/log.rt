@@ -1,8 +1,10 @@
-ghost use Rattle.std.specs.Prelude.{◌≡◌, ◌<◌, ◌++◌, ◌∷◌, [], true, All, List, if◌then◌else◌, filter, length, map, IfOk, OnOk};
+ghost use Rattle.std.specs.Prelude.{◌≡◌, ◌<◌, ◌++◌, ◌∷◌, [], true, All, List, if◌then◌else◌, filter, length, map};
+ghost use Rattle.std.specs.Prelude.{IfOk, OnOk};
 ghost use Rattle.std.specs.List.{IsDistinct};
 ghost use Rattle.std.specs.List.Sorted.{IsNonDecreasing};
 ghost use Rattle.kq_history.specs.BetweenCalls.{between};
-ghost use Rattle.kq_history.specs.Children.{child_told, children_at, children_of, is_of_process, AreReached, AreWithChildren};
+ghost use Rattle.kq_history.specs.Children.{child_told, children_at, children_of, is_of_process, AreReached};
+ghost use Rattle.kq_history.specs.Children.{AreWithChildren};
 ghost use Rattle.kq_history.specs.Items.{has_source, is_from, source_eq};
 ghost use Rattle.kq_history.specs.Log.{all_standing, comes_from, is_within, item_at, AreShelved};
 ghost use Rattle.kq_history.specs.Log.{others_within, steps_within, within_of};

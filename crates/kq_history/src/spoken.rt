@@ -1,7 +1,8 @@
 // What a record speaks of by itself: numbers of the process that acts, a process that starts or
 // exits, and a file.
 ghost use Rattle.std.specs.Prelude.{◌≡◌};
-ghost use Rattle.kq_history.specs.Spoken.{first_number, first_opened, second_number, second_opened, spoken_file, spoken_process};
+ghost use Rattle.kq_history.specs.Spoken.{first_number, first_opened, second_number, second_opened, spoken_file};
+ghost use Rattle.kq_history.specs.Spoken.{spoken_process};
 
 use kq_model::Event;
 

@@ -11,7 +11,7 @@ lines_left text = without_empty_end (pieces_of text)
 abbrev pub has_line_feed : List ℕ → Bool
 has_line_feed text = list_any (λ b. b == line_feed) text
 
--- what contracts see of a reader of lines: what it kept of the line that it read last, and the bytes that came behind it
+-- what contracts see of a reader of lines: what it kept of the line that it read last, and the bytes behind it
 pub record LinesState : Type 0 where
   pub line : List ℕ
   pub waiting : List ℕ

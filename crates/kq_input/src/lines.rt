@@ -62,8 +62,8 @@ impl Lines {
         self.line.as_slice()
     }
 
-    /// Reads the next line, and says whether there was one. It asks the input for no byte behind the line before that is
-    /// whole, so an input that comes bit by bit, as a pipe's, is answered line by line.
+    /// Reads the next line, and says whether there was one. It asks the input for no byte behind the line before that
+    /// is whole, so an input that comes bit by bit, as a pipe's, is answered line by line.
     ///
     /// An input is read by one reader, from its first line to its last. A line of 2^64 reads is [`LinesError::Read`].
     /// After an error nothing is known of the reader.
@@ -96,7 +96,8 @@ impl Lines {
             (prepend_known self.new.waiting (I.remaining input.new))) }
         ensures line { self.new.line ≡ self.old.line }
         ensures some { IfOk result (λ some. some ≡ true → 0 < length self.new.waiting) }
-        ensures none { IfOk result (λ some. some ≡ false → IsAtEnd (prepend_known self.new.waiting (I.remaining input.new))) }
+        ensures none { IfOk result (λ some. some ≡ false
+            → IsAtEnd (prepend_known self.new.waiting (I.remaining input.new))) }
     {
         if self.arrived.is_empty() {
             self.arrived.refill(input).map_err(|_| LinesError::Read)?;

@@ -1,4 +1,5 @@
-ghost use Rattle.std.specs.Prelude.{◌≡◌, ℤ, pos, ◌≤ℤ◌, unsigned_abs, ◌<◌, ◌≤◌, ◌+◌, ◌∷◌, Some, [], map, min, nat_le, if◌then◌else◌, MatchOption};
+ghost use Rattle.std.specs.Prelude.{◌≡◌, ℤ, pos, ◌≤ℤ◌, unsigned_abs, ◌<◌, ◌≤◌, ◌+◌, ◌∷◌, Some, [], map, min, nat_le};
+ghost use Rattle.std.specs.Prelude.{if◌then◌else◌, MatchOption};
 ghost use Rattle.kq_model.specs.Clock.{clocked};
 ghost use Rattle.kq_model.specs.Hearing.{listed};
 ghost use Rattle.kq_model.specs.Knote.{find_knote};

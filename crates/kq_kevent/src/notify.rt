@@ -1,6 +1,7 @@
 ghost use Rattle.std.specs.Prelude.{ℕ, ◌≡◌, ◌<◌, ◌≤◌, [], false, true, length, OnErr, OnOk};
 ghost use Rattle.kq_model.specs.ChangedKnote.{activated};
-ghost use Rattle.kq_model.specs.Following.{all_forks, child_knote, follows, followed, followed_each, forks_of, heir, heir_in, process_key, tracks, with_heir};
+ghost use Rattle.kq_model.specs.Following.{all_forks, child_knote, follows, followed, followed_each, forks_of, heir};
+ghost use Rattle.kq_model.specs.Following.{heir_in, process_key, tracks, with_heir};
 ghost use Rattle.kq_model.specs.Hearing.{listed};
 ghost use Rattle.kq_model.specs.HintLaws.{IsNotified};
 ghost use Rattle.kq_model.specs.Hints.{notified, hints_for};
@@ -167,7 +168,8 @@ impl Kq {
     /// of its own, for which there is room. It takes no memory.
     pub fn notify<V: Views>(&mut self, hints: &[(Target, Hint)], views: &V)
         requires { HasRoomToFollow (V.sees views.now) hints.now self.old }
-        ensures kq { self.new.kq ≡ followed self.old.version hints.now (notified (V.sees views.now) hints.now self.old.kq) }
+        ensures kq { self.new.kq
+            ≡ followed self.old.version hints.now (notified (V.sees views.now) hints.now self.old.kq) }
         // What this comes to for a user: no knote comes by what the knotes hear, the others keep their order, and the
         // queue keeps its own and has those that begin to wait behind it, in order of registration.
         ensures laws { IsNotified self.old.kq (notified (V.sees views.now) hints.now self.old.kq) }
@@ -238,9 +240,10 @@ impl Kq {
 
     /// The child of a process gets a knote, if it is followed.
     fn follow_child(&mut self, parent: u32, child: u32)
-        requires { length (with_heir (heir_in (record { parent = parent; child = child }) self.old.kq) self.old.kq).knotes
-            ≤ limit self.old }
-        ensures kq { self.new.kq ≡ with_heir (heir_in (record { parent = parent; child = child }) self.old.kq) self.old.kq }
+        requires { length (with_heir (heir_in (record { parent = parent; child = child }) self.old.kq)
+            self.old.kq).knotes ≤ limit self.old }
+        ensures kq { self.new.kq
+            ≡ with_heir (heir_in (record { parent = parent; child = child }) self.old.kq) self.old.kq }
         ensures owner { self.new.owner ≡ self.old.owner }
         ensures version { self.new.version ≡ self.old.version }
         ensures limit { limit self.new ≡ limit self.old }
@@ -258,7 +261,8 @@ impl Kq {
         ensures owner { self.new.owner ≡ self.old.owner }
         ensures version { self.new.version ≡ self.old.version }
         ensures room { OnOk result (tracks pid self.old.kq ≡ true → 0 < self.new.room) }
-        ensures fork { OnOk result ((views : world.Views) (child : ℕ) → HasRoomToFollow views (forked pid child) self.new) }
+        ensures fork { OnOk result ((views : world.Views) (child : ℕ)
+            → HasRoomToFollow views (forked pid child) self.new) }
         ensures kept { self.old.room ≤ self.new.room }
         ensures err { OnErr result (self.new.room ≡ self.old.room) }
         // Memory comes only where the room was missing.

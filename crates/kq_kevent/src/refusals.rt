@@ -2,7 +2,8 @@ ghost use Rattle.std.specs.Prelude.{◌≡◌, ℕ};
 ghost use Rattle.kq_model.specs.Caller.{Caller};
 ghost use Rattle.kq_model.specs.Knote.{watches_number};
 ghost use Rattle.kq_model.specs.Look.{is_simulated};
-ghost use Rattle.kq_model.specs.Refusals.{is_malformed, is_unopened, invalid_if, is_readable, is_writable, is_file, is_live_process, process_refusal, own_refusal};
+ghost use Rattle.kq_model.specs.Refusals.{is_malformed, is_unopened, invalid_if, is_readable, is_writable, is_file};
+ghost use Rattle.kq_model.specs.Refusals.{is_live_process, process_refusal, own_refusal};
 ghost use Rattle.kq_model.specs.Ticks.{timing_of};
 ghost use Rattle.std.specs.Option.{is_none};
 

@@ -3,7 +3,8 @@ ghost use Rattle.std.specs.Vec.{vec_capacity};
 ghost use Rattle.kq_model.specs.Knote.{has_key, find_knote};
 ghost use Rattle.kq_model.specs.Kqueue.{HaveOwnKeys};
 ghost use Rattle.kq_model.specs.Look.{look};
-ghost use Rattle.kq_model.specs.Retrieval.{knotes_after, back_after, without_notice, with_notice_told, with_delivered, turned, retrieval};
+ghost use Rattle.kq_model.specs.Retrieval.{knotes_after, back_after, without_notice, with_notice_told};
+ghost use Rattle.kq_model.specs.Retrieval.{with_delivered, turned, retrieval};
 ghost use Rattle.kq_model.specs.declared.key.Key.{Key};
 ghost use Rattle.kq_kevent.specs.Owned.{kqueue_of, limit};
 

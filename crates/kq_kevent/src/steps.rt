@@ -5,7 +5,8 @@ ghost use Rattle.kq_model.specs.Hearing.{listed};
 ghost use Rattle.kq_model.specs.Kqueue.{Kqueue};
 ghost use Rattle.kq_model.specs.Recast.{tallied, IsTallied};
 ghost use Rattle.kq_model.specs.WatchedNumbers.{WatchTheirNumbers};
-ghost use Rattle.kq_kevent.specs.Beginning.{begun, read, answer_after, answer_of_entries, IsCallInSteps, IsTalliedBeginning};
+ghost use Rattle.kq_kevent.specs.Beginning.{begun, read, answer_after, answer_of_entries, IsCallInSteps};
+ghost use Rattle.kq_kevent.specs.Beginning.{IsTalliedBeginning};
 ghost use Rattle.kq_kevent.specs.Ending.{answer_of};
 ghost use Rattle.kq_kevent.specs.Owned.{caller, limit};
 

@@ -1,7 +1,8 @@
 ghost use Rattle.std.specs.Prelude.{◌≡◌, ℕ, ◌/◌};
 ghost use Rattle.kq_model.specs.Bits.{asks};
 ghost use Rattle.kq_model.specs.Caller.{Caller};
-ghost use Rattle.kq_model.specs.ChangedKnote.{always_clears, fresh, begun, replaced, restarted, changed, switched, controlled, key_of, start_in, period_in, has_come, started};
+ghost use Rattle.kq_model.specs.ChangedKnote.{always_clears, fresh, begun, replaced, restarted, changed, switched};
+ghost use Rattle.kq_model.specs.ChangedKnote.{controlled, key_of, start_in, period_in, has_come, started};
 ghost use Rattle.kq_model.specs.Targets.{target_of};
 ghost use Rattle.kq_model.specs.Ticks.{timing_of};
 ghost use Rattle.kq_model.specs.Retrieval.{rested};

@@ -21,7 +21,8 @@ impl Knotes {
         requires ordered { from ≤ to }
         requires within { to ≤ last_moment }
         ensures knotes { self.new ≡ self.old }
-        ensures keys { MatchOption result (Unit {0}) (λ keys. keys.items ≡ map (λ k. k.key) (expiring from to self.old.knotes)) }
+        ensures keys { MatchOption result (Unit {0})
+            (λ keys. keys.items ≡ map (λ k. k.key) (expiring from to self.old.knotes)) }
     {
         self.arm();
         self.take_told(from, to)
@@ -32,7 +33,8 @@ impl Knotes {
         requires ordered { from ≤ to }
         requires within { to ≤ last_moment }
         ensures knotes { self.new ≡ self.old }
-        ensures keys { MatchOption result (Unit {0}) (λ keys. keys.items ≡ map (λ k. k.key) (expiring from to self.old.knotes)) }
+        ensures keys { MatchOption result (Unit {0})
+            (λ keys. keys.items ≡ map (λ k. k.key) (expiring from to self.old.knotes)) }
     {
         if !self.alarmed {
             return None;

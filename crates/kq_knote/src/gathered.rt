@@ -11,7 +11,7 @@ impl Knotes {
     /// The keys of the knotes that watch a hinted target, in order of registration, in time as a sort
     /// of them takes. None where the index does not tell them: where it is not whole, there is no room for
     /// the keys, or a hint is for no shared target; and where all hints are for one target, since
-    /// `first_hinted` needs no room for that. It takes no memory.
+    /// `first_watcher` needs no room for that. It takes no memory.
     pub fn take_hinted(&mut self, posted: &[(Target, Hint)]) -> Option<Vec<Key>>
         ensures knotes { self.new ≡ self.old }
         ensures keys { MatchOption result (Unit {0}) (λ keys. keys.items ≡ hinted_keys posted.now self.old.knotes) }

@@ -76,16 +76,6 @@ pub(crate) fn only_target(posted: &[(Target, Hint)]) -> Option<Target>
     Some(*first)
 }
 
-/// The key of a watcher.
-fn key_of(watcher: Option<Watcher<Key>>) -> Option<Key>
-    ensures { result ≡ option_map (λ w. w.key) watcher }
-{
-    match watcher {
-        None => None,
-        Some(watcher) => Some(watcher.key),
-    }
-}
-
 /// A key that a walk over the knotes found, as a watcher.
 fn watcher_of(key: Option<Key>) -> Option<Watcher<Key>>
     ensures { option_map (λ w. w.key) result ≡ key }
@@ -97,26 +87,8 @@ fn watcher_of(key: Option<Key>) -> Option<Watcher<Key>>
 }
 
 impl Knotes {
-    /// The key of the first knote, in order of registration, that watches a hinted target. Where
-    /// all hints are for one target, or there is none, this takes constant time; else a walk over the
-    /// knotes.
-    pub fn first_hinted(&self, posted: &[(Target, Hint)]) -> Option<Key>
-        ensures { result ≡ first_hinted posted.now self.now.knotes }
-    {
-        key_of(self.first_watcher(posted))
-    }
-
-    /// The key of the next such knote behind the one of a key, which is such a knote itself; in
-    /// the time that `first_hinted` takes.
-    pub fn next_hinted(&self, posted: &[(Target, Hint)], key: Key) -> Option<Key>
-        requires { IsHinted posted.now key self.now.knotes }
-        ensures { result ≡ first_hinted posted.now (behind key self.now.knotes) }
-    {
-        let watcher = Watcher::unplaced(key);
-        key_of(self.step(posted, &watcher).next)
-    }
-
-    /// The same as `first_hinted`, for `step`.
+    /// The key of the first knote, in order of registration, that watches a hinted target, as a watcher for `step`.
+    /// Where all hints are for one target, or there is none, this takes constant time; else a walk over the knotes.
     pub fn first_watcher(&self, posted: &[(Target, Hint)]) -> Option<Watcher<Key>>
         ensures { option_map (λ w. w.key) result ≡ first_hinted posted.now self.now.knotes }
     {
@@ -129,8 +101,8 @@ impl Knotes {
         }
     }
 
-    /// The key of the next such knote behind a watcher's, as `next_hinted` gives it, with a guess of the
-    /// place of the watcher's own knote.
+    /// The key of the next such knote behind a watcher's, whose knote is such a one itself, with a guess of the place of
+    /// the watcher's own. It takes the time that `first_watcher` takes.
     pub fn step(&self, posted: &[(Target, Hint)], watcher: &Watcher<Key>) -> Step<Key>
         requires { IsHinted posted.now watcher.now.key self.now.knotes }
         ensures { option_map (λ w. w.key) result.next

@@ -1,4 +1,5 @@
-ghost use Rattle.std.specs.Prelude.{List, ◌≡◌, ◌<◌, ◌≤◌, ◌+◌, ◌++◌, ◌↔◌, ◌∷◌, IsTrue, true, [], None, OnOk, OnErr, MatchOption, slice_get, length, filter, not, max};
+ghost use Rattle.std.specs.Prelude.{List, ◌≡◌, ◌<◌, ◌≤◌, ◌+◌, ◌++◌, ◌↔◌, ◌∷◌, IsTrue, true, [], None, OnOk, OnErr};
+ghost use Rattle.std.specs.Prelude.{MatchOption, slice_get, length, filter, not, max};
 ghost use Rattle.std.specs.Option.{option_map};
 ghost use Rattle.kq_model.specs.Close.{is_of_number};
 ghost use Rattle.kq_model.specs.Hearing.{listed};

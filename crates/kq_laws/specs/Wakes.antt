@@ -1,7 +1,8 @@
 -- That no wake-up is lost (kqueue(2): a filter without EV_CLEAR is level-triggered): where the condition of a knote
 -- holds that is enabled and has neither ONESHOT nor CLEAR nor DISPATCH, a call with room for it returns it. So it does
 -- with the enabled knote of a child whose notice was not told yet.
-use Rattle.std.specs.Prelude.{◌≡◌, ℕ, suc, ◌<◌, Bool, true, false, ◌||◌, List, [], ◌∷◌, Option, Some, None, if◌then◌else◌}
+use Rattle.std.specs.Prelude.{◌≡◌, ℕ, suc, ◌<◌, Bool, true, false, ◌||◌, List, [], ◌∷◌, Option, Some, None}
+use Rattle.std.specs.Prelude.{if◌then◌else◌}
 use Rattle.std.specs.Prelude.{All, ◌⊎◌}
 use Rattle.std.specs.Option.{is_some}
 use Rattle.kq_model.specs.declared.change.Change.{Change}

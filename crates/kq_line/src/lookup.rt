@@ -7,7 +7,8 @@ ghost use Rattle.kq_model.specs.Members.{has_member, member_count};
 ghost use Rattle.kq_model.specs.Names.{filter_named, mode_named, note_named, side_named};
 ghost use Rattle.serde_json.specs.Data.{object};
 ghost use Rattle.kq_line.specs.Shows.{Shows, piece_in};
-ghost use Rattle.kq_line.specs.Typed.{AreChanges, AreFlags, IsFilter, IsI64, IsI64OrZero, IsMode, IsMoment, IsNote, IsSide, IsText, IsTruth, IsU32, IsU32OrZero, IsU64, IsU64OrZero};
+ghost use Rattle.kq_line.specs.Typed.{AreChanges, AreFlags, IsFilter, IsI64, IsI64OrZero, IsMode, IsMoment, IsNote};
+ghost use Rattle.kq_line.specs.Typed.{IsSide, IsText, IsTruth, IsU32, IsU32OrZero, IsU64, IsU64OrZero};
 
 use crate::cursor::is;
 use crate::found::Found;

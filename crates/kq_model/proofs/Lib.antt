@@ -1,3 +1,4 @@
+pub mod Results
 pub mod ListLaws
 pub mod KeyLaws
 pub mod KnoteLaws

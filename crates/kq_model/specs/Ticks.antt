@@ -67,7 +67,8 @@ unfoldable pub is_among_first : ℕ → Ticking → ℕ → Bool
 is_among_first zero t moment = false
 is_among_first (suc k) t moment = (t.start + suc k * t.period == moment) || is_among_first k t moment
 
--- whether the timer expires at a moment. A period is at least 1, so a tick at `moment` is among the first `moment` ticks
+-- whether the timer expires at a moment. A period is at least 1, so a tick at `moment` is among the first `moment`
+-- ticks
 unfoldable pub is_tick : Ticking → ℕ → Bool
 is_tick t moment = if is_single_moment t then t.start == moment else is_among_first moment t moment
 

@@ -2,7 +2,8 @@
 -- changed (`proofs/VersionOne.antt`). What is not here stands in the other files as it stood then, but that there is a
 -- hint `Child`, which no filter takes, and that a knote has a notice, which a new one has not. Each name is that of the
 -- definition whose place it had.
-use Rattle.std.specs.Prelude.{ℕ, ◌+◌, ◌-◌, ◌==◌, nat_lt, ◌&&◌, Bool, true, false, not, ◌||◌, List, [], ◌∷◌, ◌++◌, map, filter, Option, Some}
+use Rattle.std.specs.Prelude.{ℕ, ◌+◌, ◌-◌, ◌==◌, nat_lt, ◌&&◌, Bool, true, false, not, ◌||◌, List, [], ◌∷◌, ◌++◌, map}
+use Rattle.std.specs.Prelude.{filter, Option, Some}
 use Rattle.std.specs.Prelude.{None, zero, suc, option_and_then, if◌then◌else◌}
 use Rattle.std.specs.Option.{is_none}
 use Rattle.kq_model.specs.declared.change.Change.{Change}
@@ -38,8 +39,10 @@ use Rattle.kq_model.specs.Plans as plans
 use Rattle.kq_model.specs.Processes.{was_used, is_live, process_of, ignored_by}
 use Rattle.kq_model.specs.ProcessPlans.{inherited, names_of, hold_all, noted}
 use Rattle.kq_model.specs.Retrieval.{Retrieved, Turned, knotes_after, back_after, with_idle, event_of, after_turn}
-use Rattle.kq_model.specs.Refusals.{is_malformed, is_unopened, invalid_if, is_readable, is_writable, is_file, is_live_process, process_in}
-use Rattle.kq_model.specs.Registration.{Decision, Refuse, Remove, Make, Modify, Registered, unless_refused, with_made, with_removed, with_modified}
+use Rattle.kq_model.specs.Refusals.{is_malformed, is_unopened, invalid_if, is_readable, is_writable, is_file}
+use Rattle.kq_model.specs.Refusals.{is_live_process, process_in}
+use Rattle.kq_model.specs.Registration.{Decision, Refuse, Remove, Make, Modify, Registered, unless_refused, with_made}
+use Rattle.kq_model.specs.Registration.{with_removed, with_modified}
 use Rattle.kq_model.specs.System.{Live, System, Stepped, kqueue_of, born, empty_system, row_of}
 use Rattle.kq_model.specs.Targets.{Posted, named_in}
 use Rattle.kq_model.specs.Ticks.{Ticking, is_among_first, period_of}

@@ -24,6 +24,7 @@ mod row;
 mod rows;
 mod series;
 mod side;
+mod spread;
 mod trace;
 mod why;
 
@@ -47,5 +48,6 @@ pub use row::Row;
 pub use rows::Rows;
 pub use series::Series;
 pub use side::Side;
+pub use spread::spread;
 pub use trace::Trace;
 pub use why::Why;

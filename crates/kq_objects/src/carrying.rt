@@ -44,7 +44,8 @@ impl Objects {
         requires fits { Fits doing (objects_of self.old) }
         requires room { IsRoomFor (doing ∷ []) (spare_room self.old) }
         ensures done { objects_of self.new ≡ done doing (objects_of self.old) }
-        ensures room { (ds : List Doing) → IsRoomFor (doing ∷ ds) (spare_room self.old) → IsRoomFor ds (spare_room self.new) }
+        ensures room { (ds : List Doing) → IsRoomFor (doing ∷ ds) (spare_room self.old)
+            → IsRoomFor ds (spare_room self.new) }
     {
         match doing {
             Doing::ToSocket { place, told } => self.sockets.tell(place, told),

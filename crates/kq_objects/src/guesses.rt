@@ -1,8 +1,5 @@
-use kq_model::Memory;
+use kq_model::{Memory, spread};
 use std::alloc::Global;
-
-/// Spreads keys, most of which come one after the other.
-const SPREADING: u64 = 0x9E37_79B9_7F4A_7C15;
 
 /// The fewest guesses that there is room for, once there is any.
 const FEWEST: usize = 16;
@@ -53,7 +50,6 @@ impl Guesses {
     }
 
     fn slot_of(&self, key: u64) -> usize {
-        let spread = key.wrapping_mul(SPREADING) >> 32;
-        (spread.wrapping_mul(self.indexes.len() as u64) >> 32) as usize
+        (spread(key).wrapping_mul(self.indexes.len() as u64) >> 32) as usize
     }
 }

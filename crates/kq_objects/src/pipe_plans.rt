@@ -59,7 +59,8 @@ impl Objects {
 
     #[tactic(auto, unfolding(kq_model::specs::PipePlans::plan_at_pipe))]
     pub(crate) fn write_pipe(&self, place: u64, bytes: u32) -> Result<Plan, PlanError>
-        ensures plan { IsPlanned result (plan_at_pipe (write_pipe bytes) place (get nat_eq self.now.pipes.table place)) }
+        ensures plan { IsPlanned result
+            (plan_at_pipe (write_pipe bytes) place (get nat_eq self.now.pipes.table place)) }
         ensures ready { IfOk result (λ p. IsReady p.doings self.now) }
     {
         match self.pipes.get(place) {

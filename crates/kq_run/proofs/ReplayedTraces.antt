@@ -3,7 +3,6 @@ use Rattle.std.proofs.Common.{◌≡◌, ◌∙◌, ℕ, ◌≤◌, ◌<◌, ◌
 use Rattle.std.proofs.lemmas.List.{length-map}
 use Rattle.std.specs.List.Sorted.{IsPermutation}
 use Rattle.std.proofs.lemmas.List.Sorted.{IsPermutation-refl, IsPermutation-sym, IsPermutation-trans}
-use Rattle.std.specs.Result.{IsErrAnd}
 use Rattle.kq_model.specs.declared.event.Event.{Event}
 use Rattle.kq_model.specs.declared.row.Row.{Row}
 use Rattle.kq_model.specs.declared.rows.Rows.{Rows}
@@ -88,11 +87,6 @@ fault_of_replay bytes workers version events good (Trace line fault) h = absurd 
 fault_of_replay bytes workers version events good Memory h = tt
 fault_of_replay bytes workers version events good Spawn h = (h.0, (version, events, good, h.1))
 fault_of_replay bytes workers version events good Write h = h
-
--- an error that is passed on
-pub fault_passed : {A : Type 0} (r : Result A Fault) (fault : Fault) (P : Fault → Type 0) → IsErrAnd r (λ f. f ≡ fault) → P fault → IfErr r P
-fault_passed (Ok x) fault P is holds = tt
-fault_passed (Err f) fault P is holds = subst P (sym is) holds
 
 -- ---- the same of a source
 

@@ -1,5 +1,6 @@
 // What a record does to all live kqueues.
-ghost use Rattle.std.specs.Prelude.{◌≡◌, ◌++◌, ◌<◌, ◌≤◌, ℕ, [], map, true, nat_eq, None, Some, All, IfOk, IfSome, OnErr, OnOk};
+ghost use Rattle.std.specs.Prelude.{◌≡◌, ◌++◌, ◌<◌, ◌≤◌, ℕ, [], map, true, nat_eq, None, Some, All, IfOk, IfSome};
+ghost use Rattle.std.specs.Prelude.{OnErr, OnOk};
 ghost use Rattle.std.specs.Map.{keys_of, lookup};
 ghost use Rattle.kq_model.specs.declared.object.Target.TheVariants.{Own};
 ghost use Rattle.kq_model.specs.Following.{all_forks};
@@ -7,7 +8,8 @@ ghost use Rattle.kq_model.specs.Moment.{Moment};
 ghost use Rattle.kq_model.specs.System.{born};
 ghost use Rattle.kq_model.specs.Ticks.{last_moment};
 ghost use Rattle.kq_process.specs.Effects.{pairs_in};
-ghost use Rattle.kq_system.specs.SystemState.{live_of, AreOfVersion, AreUpTo, HaveStayed, IsCalled, IsLive, IsQuiet, NumberedKqueue, happened_to_all, ticked};
+ghost use Rattle.kq_system.specs.SystemState.{live_of, AreOfVersion, AreUpTo, HaveStayed, IsCalled, IsLive, IsQuiet};
+ghost use Rattle.kq_system.specs.SystemState.{NumberedKqueue, happened_to_all, ticked};
 
 use crate::kqueues::Kqueues;
 use crate::live::Live;

@@ -46,8 +46,8 @@ fn show_each<V: Views>(
     views: &V,
 ) -> bool
     requires { all_forks hints.now ≡ [] }
-    ensures { AreShown round (IsTold (pairs_in pairs.now) hints.now (V.sees views.now)) (λ p. has_place p places.now) result
-        live.old.entries live.new.entries }
+    ensures { AreShown round (IsTold (pairs_in pairs.now) hints.now (V.sees views.now))
+        (λ p. has_place p places.now) result live.old.entries live.new.entries }
 {
     let mut any = false;
     for place in places {

@@ -12,7 +12,8 @@ ghost use Rattle.kq_model.specs.Tallied.{Live};
 ghost use Rattle.kq_model.specs.WatchedNumbers.{AllWatchTheirNumbers};
 ghost use Rattle.kq_process.specs.Effects.{IsPossible};
 ghost use Rattle.kq_process.specs.World.{world_of};
-ghost use Rattle.kq_system.specs.Beginning.{arranged_in, arranged_live, begun, live_named, owner_of, IsBeginning, IsBegunOf, IsLiveOne, IsReadOf, IsStepSoFar, IsTalliedBeginning};
+ghost use Rattle.kq_system.specs.Beginning.{arranged_in, arranged_live, begun, live_named, owner_of, IsBeginning};
+ghost use Rattle.kq_system.specs.Beginning.{IsBegunOf, IsLiveOne, IsReadOf, IsStepSoFar, IsTalliedBeginning};
 ghost use Rattle.kq_system.specs.SystemState.{IsImpossible, IsStep, IsUnchanged, system_of};
 
 use crate::System;

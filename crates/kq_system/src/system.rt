@@ -117,7 +117,8 @@ impl System {
             (IsStep (self.old.applied + 1) event.now (system_of self.old) (system_of self.new)) }
 
         // The same in the words of the definitions, which keep all that was recorded and heard.
-        ensures model { IfOk result (λ reply. (m : model.System listed objects.listed) → system_of self.old ≡ tallied_system m
+        ensures model { IfOk result (λ reply. (m : model.System listed objects.listed)
+            → system_of self.old ≡ tallied_system m
             → IsTalliedStep (system_of self.new) reply (step (self.old.applied + 1) event.now m)) }
 
         // No kqueue keeps a knote of a number that was closed, also where a duplicate stays open.

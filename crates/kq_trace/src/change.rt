@@ -3,7 +3,8 @@
 ghost use Rattle.std.specs.Prelude.{◌≡◌, ◌≤◌, ◌&&◌, codes, is_some, option_map, option_and_then};
 ghost use Rattle.serde_json.specs.Find.{get};
 ghost use Rattle.serde_json.specs.View.{view, items_view};
-ghost use Rattle.kq_model.specs.ChangeText.{change_of, extra_width, filter_in, flag_in, flags_among, flags_in, is_change};
+ghost use Rattle.kq_model.specs.ChangeText.{change_of, extra_width, filter_in, flag_in, flags_among, flags_in};
+ghost use Rattle.kq_model.specs.ChangeText.{is_change};
 ghost use Rattle.kq_model.specs.Members.{is_whole, optional, required};
 ghost use Rattle.kq_model.specs.Names.{filter_named};
 ghost use Rattle.kq_trace.specs.Parts.{has_extras, has_no_others, has_required, names_filter, names_flags};

@@ -4,7 +4,8 @@ ghost use Rattle.std.specs.Prelude.{◌≡◌, map, option_and_then, pos};
 ghost use Rattle.std.specs.List.{list_all};
 ghost use Rattle.serde_json.specs.Find.{get};
 ghost use Rattle.serde_json.specs.View.{view};
-ghost use Rattle.kq_model.specs.Members.{has_just, has_member, is_whole, i64_in, moment_in, optional, or_else, required, u32_in, u64_in, width};
+ghost use Rattle.kq_model.specs.Members.{has_just, has_member, is_whole, i64_in, moment_in, optional, or_else};
+ghost use Rattle.kq_model.specs.Members.{required, u32_in, u64_in, width};
 ghost use Rattle.kq_model.specs.RecordText.{i64_at, moment_at, truth_at, u32_at};
 
 use serde_json::Value;

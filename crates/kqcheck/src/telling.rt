@@ -145,7 +145,8 @@ fn blame_of(judgement: Judgement, own: &[Kevent]) -> Option<Blame> {
     }
 }
 
-/// Adds what is blamed, and what that kevent went through until the changes of the call were done. The story ends there.
+/// Adds what is blamed, and what that kevent went through until the changes of the call were done. The story ends
+/// there.
 fn put_blame(
     out: &mut Vec<u8>,
     story: Story<'_>,

@@ -1,9 +1,11 @@
 -- The command lines `kqsim replay [--workers N] FILE`, `kqsim live [--threads N] FILE` and
 -- `kqsim book [--threads N] FILE`, as clap reads them (the words are this project's choice). With no words at all it
 -- is `kqsim replay -`.
-use Rattle.std.specs.Prelude.{◌≡◌, ℕ, true, List, [], ◌∷◌, Option, Some, pos, codes, string_bytes, option_and_then, option_map}
+use Rattle.std.specs.Prelude.{◌≡◌, ℕ, true, List, [], ◌∷◌, Option, Some, pos, codes, string_bytes, option_and_then}
+use Rattle.std.specs.Prelude.{option_map}
 use Rattle.std.specs.Str.Parse.{digits_value, without_leading_plus}
-use Rattle.clap.specs.Words.{App, Row, Rule, Text, first_of, new_app, new_rule, one_of, subcommand_of, with_rule, with_subcommand}
+use Rattle.clap.specs.Words.{App, Row, Rule, Text, first_of, new_app, new_rule, one_of, subcommand_of, with_rule}
+use Rattle.clap.specs.Words.{with_subcommand}
 use Rattle.clap.specs.Simple.{on_top}
 use Rattle.clap.specs.declared.builder.ArgAction.TheVariants.{Set}
 use Rattle.clap.specs.declared.builder.value_parser.ValueParser.TheVariants as vp

@@ -77,7 +77,8 @@ place_line place = line_text (object (member (codes "at") (natural place) no_mem
 
 unfoldable pub fault_line : ℕ → LineFault → List ℕ
 fault_line line fault =
-    line_text (object (member (codes "line") (natural line) (member (codes "fault") (string (fault_name fault)) no_members)))
+    line_text (object
+    (member (codes "line") (natural line) (member (codes "fault") (string (fault_name fault)) no_members)))
 
 unfoldable pub replied_line : ℕ → Reply → List ℕ
 replied_line place Done = place_line place
@@ -106,7 +107,8 @@ answered_behind (Err fault) lines = []
 
 unfoldable pub ended_behind : Result ℕ LineFault → List (List ℕ) → List ℕ
 ended_behind (Ok version) lines =
-    answer_lines (answers 2 (before_records version) lines) ++ counts_line (standing_after (before_records version) lines)
+    answer_lines (answers 2 (before_records version) lines)
+    ++ counts_line (standing_after (before_records version) lines)
 ended_behind (Err fault) lines = []
 
 -- the answers to these lines, the first of which is the header

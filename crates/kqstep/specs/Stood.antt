@@ -3,7 +3,8 @@ use Rattle.std.specs.Prelude.{◌≡◌, ◌+◌, ℕ, List}
 use Rattle.kq_model.specs.declared.event.Event.{Event}
 use Rattle.kq_model.specs.Recast.{tallied_system}
 use Rattle.kq_system.specs.SystemState.{SystemState, system_of}
-use Rattle.kqstep.specs.Stepping.{Standing, after_line, answer_line, answer_to, next_step, read_next, replied_line, with_step}
+use Rattle.kqstep.specs.Stepping.{Standing, after_line, answer_line, answer_to, next_step, read_next, replied_line}
+use Rattle.kqstep.specs.Stepping.{with_step}
 
 pub record Stood : Type 0 where
   pub system : SystemState

@@ -4,8 +4,10 @@ pub const STORED: &str = concat!(
     "{\"kqsim\":1}\n",
     "{\"op\":\"proc\",\"pid\":1}\n",
     "{\"op\":\"kqueue\",\"pid\":1,\"fd\":9}\n",
-    "{\"op\":\"kevent\",\"pid\":1,\"fd\":9,\"changes\":[{\"ident\":7,\"filter\":\"USER\",\"flags\":[\"ADD\"],\"fflags\":5}],\"room\":4}\n",
-    "{\"op\":\"kevent\",\"pid\":1,\"fd\":9,\"changes\":[{\"ident\":7,\"filter\":\"USER\",\"flags\":[],\"fflags\":16777216}],\"room\":0}\n",
+    "{\"op\":\"kevent\",\"pid\":1,\"fd\":9,",
+    "\"changes\":[{\"ident\":7,\"filter\":\"USER\",\"flags\":[\"ADD\"],\"fflags\":5}],\"room\":4}\n",
+    "{\"op\":\"kevent\",\"pid\":1,\"fd\":9,",
+    "\"changes\":[{\"ident\":7,\"filter\":\"USER\",\"flags\":[],\"fflags\":16777216}],\"room\":0}\n",
     "{\"op\":\"kevent\",\"pid\":1,\"fd\":9,\"changes\":[],\"room\":4}\n",
     "{\"op\":\"kevent\",\"pid\":1,\"fd\":9,\"changes\":[],\"room\":4}\n",
 );

@@ -16,7 +16,8 @@ const FORKED_REPORT: &str = concat!(
     "{\"at\":14,\"events\":[]}\n",
     "{\"at\":15,\"events\":[]}\n",
     "{\"at\":16,\"events\":[{\"data\":1,\"fflags\":0,\"filter\":\"READ\",\"flags\":[],\"ident\":3,\"udata\":0}]}\n",
-    "{\"at\":17,\"events\":[{\"data\":2,\"fflags\":0,\"filter\":\"READ\",\"flags\":[\"ERROR\"],\"ident\":3,\"udata\":0}]}\n",
+    "{\"at\":17,\"events\":",
+    "[{\"data\":2,\"fflags\":0,\"filter\":\"READ\",\"flags\":[\"ERROR\"],\"ident\":3,\"udata\":0}]}\n",
     "{\"calls\":7,\"events\":2,\"records\":17}\n",
 );
 

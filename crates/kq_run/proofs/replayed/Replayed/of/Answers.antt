@@ -5,7 +5,8 @@ use Rattle.kq_history.specs.Traced.{Traced}
 use Rattle.kq_model.specs.Reading.{Good}
 use Rattle.kq_run.specs.Fault.{input_fault_of}
 use Rattle.kq_run.specs.Replay.{AreRowsOf, IsReplayFault, IsSourceFault}
-use Rattle.kq_run.proofs.ReplayedTraces.{fault_passed, read_source_fault, source_fault_of_replay}
+use Rattle.kq_model.proofs.Results.{error_passed}
+use Rattle.kq_run.proofs.ReplayedTraces.{read_source_fault, source_fault_of_replay}
 use Rattle.kq_run.proofs.replayed.Replayed.of.Goals as goal
 
 pub returns-in_err-version-clause-fault : goal.returns-in_err-version-clause-fault
@@ -13,7 +14,7 @@ returns-in_err-version-clause-fault g c =
     let may_fail = g.I.Source.may_fail in
     let ahead = g.I.Source.ahead c.args.source.now in
     let error = c.in_err-version.field-0.0 in
-    fault_passed c.from_residual-in_err-version.result (input_fault_of error) (IsSourceFault may_fail ahead c.args.workers)
+    error_passed c.from_residual-in_err-version.result (input_fault_of error) (IsSourceFault may_fail ahead c.args.workers)
     c.from_residual-in_err-version.ensures.1 (read_source_fault may_fail ahead c.args.workers error c.in_err-version.ensures.bad)
 
 pub end-split-requires : goal.end-split-requires
@@ -34,7 +35,7 @@ returns-in_err-rows-clause-fault g c =
     let fault = c.in_err-rows.field-0.0 in
     let is : IsReplayFault version events c.args.workers fault =
     subst (λ (t : Traced). IsReplayFault t.version t.events c.args.workers fault) c.end-split.ensures c.in_err-rows.ensures.fault in
-    fault_passed c.from_residual-in_err-rows.result fault (IsSourceFault may_fail ahead c.args.workers) c.from_residual-in_err-rows.ensures.1
+    error_passed c.from_residual-in_err-rows.result fault (IsSourceFault may_fail ahead c.args.workers) c.from_residual-in_err-rows.ensures.1
     (source_fault_of_replay may_fail ahead c.args.workers version events good.1.bytes good.1.had (good.1.means ∙ ap (Good version) (sym same)) fault is)
 
 pub returns-clause-replayed : goal.returns-clause-replayed
