@@ -1,5 +1,5 @@
 -- An error that is passed on.
-use Rattle.std.proofs.Common.{◌≡◌, Result, Ok, Err, IfErr, subst, sym, tt}
+use Rattle.std.proofs.Common.{◌≡◌, Result, Ok, Err, IfErr, subst, sym}
 use Rattle.std.specs.Result.{IsErrAnd}
 
 -- what is said of an error holds of the result that passes it on

@@ -24,7 +24,7 @@ mod row;
 mod rows;
 mod series;
 mod side;
-mod spread;
+mod spreading;
 mod trace;
 mod why;
 
@@ -48,6 +48,6 @@ pub use row::Row;
 pub use rows::Rows;
 pub use series::Series;
 pub use side::Side;
-pub use spread::spread;
+pub use spreading::spread;
 pub use trace::Trace;
 pub use why::Why;
