@@ -1,17 +1,56 @@
 //! A record on its line: its members in the order of their names' bytes.
 
-ghost use Rattle.std.specs.Prelude.{OnOk};
+ghost use Rattle.std.specs.Prelude.{◌≡◌, true, OnOk};
 ghost use Rattle.kq_model.specs.Spelling.{line_text, record_data};
 ghost use Rattle.kq_text.specs.Adds.{Adds};
 ghost use Rattle.kq_spell.specs.Again.{FitsRecord};
+ghost use Rattle.kq_spell.specs.Subjects.{is_of_descriptor, is_of_file, is_of_process};
 
 use crate::members::Spelled::{Changes, Integer, Name, Number, Truth};
 use crate::members::put_line;
 use kq_model::{Event, Memory};
 
 /// Adds the line of a record.
-#[tactic(auto, unfolding(kq_model::specs::Spelling::record_data, kq_model::specs::Spelling::members_of, crate::specs::Again::FitsRecord))]
 pub fn put_record(out: &mut Vec<u8>, event: &Event) -> Result<(), Memory>
+    ensures text { OnOk result (Adds out.old.items (line_text (record_data event.now)) out.new.items) }
+    ensures fits { OnOk result (FitsRecord event.now) }
+{
+    match event {
+        Event::Dup { .. }
+        | Event::Close { .. }
+        | Event::Socket { .. }
+        | Event::Listen { .. }
+        | Event::Arrive { .. }
+        | Event::Accept { .. }
+        | Event::Connect { .. }
+        | Event::Rx { .. }
+        | Event::Tx { .. }
+        | Event::Shut { .. }
+        | Event::Lowat { .. } => put_descriptor_record(out, event),
+        Event::Pipe { .. }
+        | Event::Read { .. }
+        | Event::Write { .. }
+        | Event::File { .. }
+        | Event::Open { .. }
+        | Event::Seek { .. }
+        | Event::Truncate { .. }
+        | Event::Note { .. } => put_file_record(out, event),
+        Event::Proc { .. }
+        | Event::Fork { .. }
+        | Event::Exit { .. }
+        | Event::Exec { .. }
+        | Event::Sigset { .. }
+        | Event::Sig { .. }
+        | Event::Clock { .. }
+        | Event::Kqueue { .. }
+        | Event::Kevent { .. } => put_process_record(out, event),
+    }
+}
+
+/// Adds the line of a record of a process, its signals or its kqueues, or of the clock.
+#[tactic(auto, unfolding(kq_model::specs::Spelling::record_data, kq_model::specs::Spelling::members_of, crate::specs::Again::FitsRecord))]
+fn put_process_record(out: &mut Vec<u8>, event: &Event) -> Result<(), Memory>
+    requires { is_of_process event.now ≡ true }
     ensures text { OnOk result (Adds out.old.items (line_text (record_data event.now)) out.new.items) }
     ensures fits { OnOk result (FitsRecord event.now) }
 {
@@ -33,6 +72,25 @@ pub fn put_record(out: &mut Vec<u8>, event: &Event) -> Result<(), Memory>
                 ("status", Number(*status)),
             ],
         ),
+        Event::Exec { pid } => put_line(out, &[("op", Name("exec")), ("pid", Number(*pid))]),
+        Event::Sigset { pid, sig, ignore } => put_line(
+            out,
+            &[
+                ("ignore", Truth(*ignore)),
+                ("op", Name("sigset")),
+                ("pid", Number(*pid)),
+                ("sig", Number(*sig)),
+            ],
+        ),
+        Event::Sig { pid, sig } => put_line(
+            out,
+            &[
+                ("op", Name("sig")),
+                ("pid", Number(*pid)),
+                ("sig", Number(*sig)),
+            ],
+        ),
+        Event::Clock { ns } => put_line(out, &[("ns", Integer(*ns)), ("op", Name("clock"))]),
         Event::Kqueue { pid, fd } => put_line(
             out,
             &[
@@ -41,6 +99,33 @@ pub fn put_record(out: &mut Vec<u8>, event: &Event) -> Result<(), Memory>
                 ("pid", Number(*pid)),
             ],
         ),
+        Event::Kevent {
+            pid,
+            fd,
+            changes,
+            room,
+        } => put_line(
+            out,
+            &[
+                ("changes", Changes(changes.as_slice())),
+                ("fd", Number(*fd)),
+                ("op", Name("kevent")),
+                ("pid", Number(*pid)),
+                ("room", Number(*room)),
+            ],
+        ),
+        _ => unreachable!(),
+    }
+}
+
+/// Adds the line of a record of a descriptor or a socket.
+#[tactic(auto, unfolding(kq_model::specs::Spelling::record_data, kq_model::specs::Spelling::members_of, crate::specs::Again::FitsRecord))]
+fn put_descriptor_record(out: &mut Vec<u8>, event: &Event) -> Result<(), Memory>
+    requires { is_of_descriptor event.now ≡ true }
+    ensures text { OnOk result (Adds out.old.items (line_text (record_data event.now)) out.new.items) }
+    ensures fits { OnOk result (FitsRecord event.now) }
+{
+    match event {
         Event::Dup { pid, fd, to } => put_line(
             out,
             &[
@@ -153,6 +238,18 @@ pub fn put_record(out: &mut Vec<u8>, event: &Event) -> Result<(), Memory>
                 ("side", Name(side.name())),
             ],
         ),
+        _ => unreachable!(),
+    }
+}
+
+/// Adds the line of a record of a pipe or a file.
+#[tactic(auto, unfolding(kq_model::specs::Spelling::record_data, kq_model::specs::Spelling::members_of, crate::specs::Again::FitsRecord))]
+fn put_file_record(out: &mut Vec<u8>, event: &Event) -> Result<(), Memory>
+    requires { is_of_file event.now ≡ true }
+    ensures text { OnOk result (Adds out.old.items (line_text (record_data event.now)) out.new.items) }
+    ensures fits { OnOk result (FitsRecord event.now) }
+{
+    match event {
         Event::Pipe { pid, rfd, wfd, cap } => put_line(
             out,
             &[
@@ -179,24 +276,6 @@ pub fn put_record(out: &mut Vec<u8>, event: &Event) -> Result<(), Memory>
                 ("n", Number(*n)),
                 ("op", Name("write")),
                 ("pid", Number(*pid)),
-            ],
-        ),
-        Event::Exec { pid } => put_line(out, &[("op", Name("exec")), ("pid", Number(*pid))]),
-        Event::Sigset { pid, sig, ignore } => put_line(
-            out,
-            &[
-                ("ignore", Truth(*ignore)),
-                ("op", Name("sigset")),
-                ("pid", Number(*pid)),
-                ("sig", Number(*sig)),
-            ],
-        ),
-        Event::Sig { pid, sig } => put_line(
-            out,
-            &[
-                ("op", Name("sig")),
-                ("pid", Number(*pid)),
-                ("sig", Number(*sig)),
             ],
         ),
         Event::File { file, size } => put_line(
@@ -247,21 +326,6 @@ pub fn put_record(out: &mut Vec<u8>, event: &Event) -> Result<(), Memory>
                 ("op", Name("note")),
             ],
         ),
-        Event::Clock { ns } => put_line(out, &[("ns", Integer(*ns)), ("op", Name("clock"))]),
-        Event::Kevent {
-            pid,
-            fd,
-            changes,
-            room,
-        } => put_line(
-            out,
-            &[
-                ("changes", Changes(changes.as_slice())),
-                ("fd", Number(*fd)),
-                ("op", Name("kevent")),
-                ("pid", Number(*pid)),
-                ("room", Number(*room)),
-            ],
-        ),
+        _ => unreachable!(),
     }
 }
