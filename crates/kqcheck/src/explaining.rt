@@ -49,9 +49,38 @@ fn call_text(
     requires positive { 0 < at }
 {
     let keys = keys_at(alloc, trace, at, call, changes)?;
-    let all = History::new(alloc, call.pid, call.fd, keys.as_slice())?;
+    text_with(alloc, trace, at, call, changes, keys.as_slice())
+}
+
+/// The same, of these kevents.
+fn text_with(
+    alloc: Global,
+    trace: &Trace,
+    at: u64,
+    call: Call,
+    changes: &[Change],
+    keys: &[Key],
+) -> Result<Vec<u8>, Memory>
+    requires small { at < 2 ^ 31 }
+    requires positive { 0 < at }
+{
+    let all = History::new(alloc, call.pid, call.fd, keys)?;
     let mut story = story_before(alloc, trace, &[], &[], at, all)?;
-    let ended = ended(alloc, &mut story, keys.as_slice(), call, changes)?;
+    text_after(alloc, &mut story, at, call, changes, keys)
+}
+
+/// The same, from a story that has come to the call.
+fn text_after(
+    alloc: Global,
+    story: &mut Story<'_>,
+    at: u64,
+    call: Call,
+    changes: &[Change],
+    keys: &[Key],
+) -> Result<Vec<u8>, Memory>
+    requires { story.old.system.applied < 2 ^ 31 - 1 }
+{
+    let ended = ended(alloc, story, keys, call, changes)?;
     text_of(alloc, at, call, &story.history, &ended)
 }
 
@@ -119,6 +148,18 @@ fn keys_at(
 {
     let nobody = History::new(alloc, 0, 0, &[])?;
     let mut story = story_before(alloc, trace, &[], &[], at, nobody)?;
+    keys_after(alloc, &mut story, call, changes)
+}
+
+/// The same, from a story that has come to the call.
+fn keys_after(
+    alloc: Global,
+    story: &mut Story<'_>,
+    call: Call,
+    changes: &[Change],
+) -> Result<Vec<Key>, Memory>
+    requires { story.old.system.applied < 2 ^ 31 - 1 }
+{
     let _ = story.begin(call, changes)?;
     match story.system.kqueue(call.pid, call.fd) {
         Some(kq) => keys_in(alloc, kq.knotes(), changes),

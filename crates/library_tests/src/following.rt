@@ -63,7 +63,7 @@ fn polled(kqueue: &mut Kq) -> Result<usize, Memory> {
 
 /// What is registered before room for a child was made, whether the parent is tracked, what is registered then, and
 /// how many events a poll returns.
-#[derive(Drop)]
+#[derive(Debug, Drop, Clone, Copy, PartialEq)]
 struct Seen {
     before: (Option<u32>, usize),
     tracks: bool,
@@ -73,22 +73,29 @@ struct Seen {
 
 fn reserved(alloc: Global) -> Result<Seen, Memory> {
     let mut kqueue = following(alloc)?;
-    let before = registered(&kqueue, 2);
+    seen_of(&mut kqueue)
+}
+
+fn seen_of(kqueue: &mut Kq) -> Result<Seen, Memory> {
+    let before = registered(kqueue, 2);
     kqueue.reserve_fork(2)?;
     Ok(Seen {
         before,
         tracks: kqueue.tracks(2),
-        after: registered(&kqueue, 2),
-        events: polled(&mut kqueue)?,
+        after: registered(kqueue, 2),
+        events: polled(kqueue)?,
     })
 }
 
 #[test]
 fn room_for_a_child_changes_nothing_else(rt: HostRuntime) -> Result<(), Fail> {
-    let seen = reserved(rt.alloc())?;
-    assert_eq!(rt; seen.before, (Some(0x4000_0001), 1));
-    assert!(rt; seen.tracks);
-    assert_eq!(rt; seen.after, (Some(0x4000_0001), 1));
-    assert_eq!(rt; seen.events, 0);
+    let registered = (Some(0x4000_0001), 1);
+    let expected = Seen {
+        before: registered,
+        tracks: true,
+        after: registered,
+        events: 0,
+    };
+    assert_eq!(rt; reserved(rt.alloc())?, expected);
     Ok(())
 }

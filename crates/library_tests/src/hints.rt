@@ -83,8 +83,12 @@ fn polled(kq: &mut Kq) -> Result<usize, Memory> {
 /// How many events such a poll returns after a write whose hints were looked at where the file had this size.
 fn returned(alloc: Global, size: i64) -> Result<usize, Memory> {
     let mut kq = watching(alloc)?;
-    notify(&mut kq, size)?;
-    polled(&mut kq)
+    returned_by(&mut kq, size)
+}
+
+fn returned_by(kq: &mut Kq, size: i64) -> Result<usize, Memory> {
+    notify(kq, size)?;
+    polled(kq)
 }
 
 #[test]

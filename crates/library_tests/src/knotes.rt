@@ -50,8 +50,7 @@ fn bits_under(knotes: &Knotes, key: Key) -> Option<u32> {
 #[test]
 fn an_attached_knote_is_got(rt: HostRuntime) -> Result<(), Fail> {
     let knotes = attached(rt.alloc(), user(7))?;
-    assert_eq!(rt; bits_under(&knotes, key(7)), Some(5));
-    assert_eq!(rt; knotes.len(), 1);
+    assert_eq!(rt; (bits_under(&knotes, key(7)), knotes.len()), (Some(5), 1));
     Ok(())
 }
 

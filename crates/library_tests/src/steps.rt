@@ -1,5 +1,5 @@
 //! A kevent call of a system in two steps, and another order of the queue between them.
-ghost use Rattle.std.specs.Prelude.{◌≡◌, IfOk};
+ghost use Rattle.std.specs.Prelude.{◌≡◌, IfOk, OnOk};
 
 use kq_kevent::Kq;
 use kq_model::{Change, EvFlags, Event, Filter, Key, Memory, Reply, Why};
@@ -34,9 +34,17 @@ fn with_kqueue(alloc: Global) -> Result<System, Memory>
     ensures { IfOk result (λ s. s.applied ≡ 2) }
 {
     let mut system = System::new(alloc, 1)?;
+    make_kqueue(&mut system)?;
+    Ok(system)
+}
+
+fn make_kqueue(system: &mut System) -> Result<(), Memory>
+    requires { system.old.applied ≡ 0 }
+    ensures { OnOk result (system.new.applied ≡ 2) }
+{
     system.apply(&Event::Proc { pid: 7 })?;
     system.apply(&Event::Kqueue { pid: 7, fd: 3 })?;
-    Ok(system)
+    Ok(())
 }
 
 /// The idents of the events of a reply.
@@ -67,7 +75,10 @@ fn walked(alloc: Global, kq: &Kq) -> Result<Vec<u64>, Memory> {
 /// The idents in the queue of the kqueue, and how many keys a list of it has.
 fn queued(alloc: Global, system: &System) -> Result<(Vec<u64>, usize), Memory> {
     match system.kqueue(7, 3) {
-        Some(kq) => Ok((walked(alloc, kq)?, kq.waiting()?.len())),
+        Some(kq) => {
+            let keys = kq.waiting()?.len();
+            Ok((walked(alloc, kq)?, keys))
+        }
         None => Ok((Vec::new(alloc), 0)),
     }
 }
@@ -75,8 +86,8 @@ fn queued(alloc: Global, system: &System) -> Result<(Vec<u64>, usize), Memory> {
 /// What was seen of a call in two steps.
 #[derive(Drop)]
 struct TwoSteps {
-    /// The answer of the first step, if that was the whole call.
-    answer: Option<Reply>,
+    /// Whether the first step was the whole call.
+    is_whole: bool,
     /// The idents in the queue between the steps, and how many keys a list of it has.
     queued: (Vec<u64>, usize),
     /// The idents of the events that the second step returned.
@@ -89,17 +100,25 @@ struct TwoSteps {
 fn reordered(alloc: Global, system: &mut System) -> Result<TwoSteps, Memory>
     requires { system.old.applied ≡ 2 }
 {
-    let answer = system.begin_call(7, 3, &triggered([1, 2, 3]), 2)?;
+    let is_whole = system.begin_call(7, 3, &triggered([1, 2, 3]), 2)?.is_some();
     let begun = system.applied();
     system.put_first(7, 3, &[key(3), key(9), key(2), key(3)]);
     let queued = queued(alloc, system)?;
-    let reply = system.read_events(7, 3, 2)?;
+    let returned = read(alloc, system)?;
     Ok(TwoSteps {
-        answer,
+        is_whole,
         queued,
-        returned: idents(alloc, &reply)?,
+        returned,
         applied: (begun, system.applied()),
     })
+}
+
+/// The idents of the events that the second step returns.
+fn read(alloc: Global, system: &mut System) -> Result<Vec<u64>, Memory>
+    ensures { OnOk result (system.new.applied ≡ system.old.applied) }
+{
+    let reply = system.read_events(7, 3, 2)?;
+    idents(alloc, &reply)
 }
 
 fn reordered_call(alloc: Global) -> Result<TwoSteps, Memory> {
@@ -107,14 +126,19 @@ fn reordered_call(alloc: Global) -> Result<TwoSteps, Memory> {
     reordered(alloc, &mut system)
 }
 
+/// Whether the call went on from the other order, and was one record.
+fn has_gone_on(seen: &TwoSteps) -> bool {
+    !seen.is_whole
+        && seen.applied == (3, 3)
+        && seen.queued.0.as_slice() == [3, 2, 1].as_slice()
+        && seen.queued.1 == 3
+        && seen.returned.as_slice() == [3, 2].as_slice()
+}
+
 #[test]
 fn a_call_goes_on_from_another_order(rt: HostRuntime) -> Result<(), Fail> {
     let seen = reordered_call(rt.alloc())?;
-    assert!(rt; seen.answer.is_none());
-    assert_eq!(rt; seen.applied, (3, 3));
-    assert_eq!(rt; seen.queued.0.as_slice(), [3, 2, 1].as_slice());
-    assert_eq!(rt; seen.queued.1, 3);
-    assert_eq!(rt; seen.returned.as_slice(), [3, 2].as_slice());
+    assert!(rt; has_gone_on(&seen));
     Ok(())
 }
 
@@ -124,33 +148,46 @@ fn begun(alloc: Global, fd: u32, changes: &[Change]) -> Result<Option<Reply>, Me
     system.begin_call(7, fd, changes, 2)
 }
 
+/// The idents of the entries by which such a call is answered in its first step, if it is.
+fn entries(alloc: Global, changes: &[Change]) -> Result<Option<Vec<u64>>, Memory> {
+    match begun(alloc, 3, changes)? {
+        Some(reply) => Ok(Some(idents(alloc, &reply)?)),
+        None => Ok(None),
+    }
+}
+
 #[test]
 fn a_call_with_entries_ends_with_its_changes(rt: HostRuntime) -> Result<(), Fail> {
     let mut changes = triggered([1, 2, 3]);
     changes[1].flags = EvFlags::DELETE;
-    let answer = begun(rt.alloc(), 3, &changes)?;
-    assert!(rt; answer.is_some());
-    let reply = answer.unwrap_or(Reply::Done);
-    assert_eq!(rt; idents(rt.alloc(), &reply)?.as_slice(), [2].as_slice());
+    let entries = entries(rt.alloc(), &changes)?;
+    assert!(rt; matches!(&entries, Some(entries) if entries.as_slice() == [2].as_slice()));
     Ok(())
 }
 
-/// What the second step of a call answers under a number that names nothing, whether there is a kqueue, and whether
-/// the process lives.
-fn read_of_none(alloc: Global) -> Result<(Reply, bool, bool), Memory> {
+fn is_no_descriptor(reply: &Reply) -> bool {
+    matches!(reply, Reply::Impossible(Why::NoDescriptor))
+}
+
+/// Whether the first step of a call is impossible under a number that names nothing.
+fn begun_of_none(alloc: Global) -> Result<bool, Memory> {
+    match begun(alloc, 4, &[])? {
+        Some(reply) => Ok(is_no_descriptor(&reply)),
+        None => Ok(false),
+    }
+}
+
+/// Whether the second step is, whether there is a kqueue under the number, and whether the process lives.
+fn read_of_none(alloc: Global) -> Result<(bool, bool, bool), Memory> {
     let mut system = with_kqueue(alloc)?;
-    let reply = system.read_events(7, 4, 2)?;
+    let is_impossible = is_no_descriptor(&system.read_events(7, 4, 2)?);
     let is_there = system.kqueue(7, 4).is_some();
-    Ok((reply, is_there, system.world().is_live(7)))
+    Ok((is_impossible, is_there, system.world().is_live(7)))
 }
 
 #[test]
 fn a_call_of_no_kqueue_is_impossible(rt: HostRuntime) -> Result<(), Fail> {
-    let answer = begun(rt.alloc(), 4, &[])?;
-    assert!(rt; matches!(&answer, Some(Reply::Impossible(Why::NoDescriptor))));
-    let (reply, is_there, is_live) = read_of_none(rt.alloc())?;
-    assert!(rt; matches!(&reply, Reply::Impossible(Why::NoDescriptor)));
-    assert!(rt; !is_there);
-    assert!(rt; is_live);
+    assert!(rt; begun_of_none(rt.alloc())?);
+    assert_eq!(rt; read_of_none(rt.alloc())?, (true, false, true));
     Ok(())
 }

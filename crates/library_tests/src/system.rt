@@ -1,23 +1,30 @@
 //! The system as a library: record by record, and over a whole trace.
+ghost use Rattle.std.specs.Prelude.{◌≡◌};
+
 use kq_model::{Event, Memory, Reply, Row, Series, Trace, Why};
 use kq_system::System;
 use std::alloc::Global;
 use std::test::Fail;
 
-/// What a new system replies to a record, and then to the same record again, and how many it has applied.
-fn applied_twice(alloc: Global, event: &Event) -> Result<(Reply, Reply, u64), Memory> {
+/// Whether a new system carries a record out, whether it then refuses the same record for its pid, and how many it has
+/// applied.
+fn applied_twice(alloc: Global, event: &Event) -> Result<(bool, bool, u64), Memory> {
     let mut system = System::new(alloc, 1)?;
-    let first = system.apply(event)?;
-    let second = system.apply(event)?;
-    Ok((first, second, system.applied()))
+    apply_twice(&mut system, event)
+}
+
+fn apply_twice(system: &mut System, event: &Event) -> Result<(bool, bool, u64), Memory>
+    requires { system.old.applied ≡ 0 }
+{
+    let is_done = matches!(system.apply(event)?, Reply::Done);
+    let is_refused = matches!(system.apply(event)?, Reply::Impossible(Why::UsedPid));
+    Ok((is_done, is_refused, system.applied()))
 }
 
 #[test]
 fn a_pid_is_used_once(rt: HostRuntime) -> Result<(), Fail> {
-    let (first, second, applied) = applied_twice(rt.alloc(), &Event::Proc { pid: 7 })?;
-    assert!(rt; matches!(&first, Reply::Done));
-    assert!(rt; matches!(&second, Reply::Impossible(Why::UsedPid)));
-    assert_eq!(rt; applied, 2);
+    let seen = applied_twice(rt.alloc(), &Event::Proc { pid: 7 })?;
+    assert_eq!(rt; seen, (true, true, 2));
     Ok(())
 }
 
@@ -48,12 +55,18 @@ fn rows_of(alloc: Global) -> Result<Vec<Row>, Memory> {
     System::run(alloc, &four_records(alloc)?)
 }
 
+/// Whether these are the places of the rows.
+fn are_at(rows: &[Row], places: &[u64]) -> bool {
+    let mut are_at = rows.len() == places.len();
+    for (row, place) in rows.iter().zip(places) {
+        are_at &= row.at == *place;
+    }
+    are_at
+}
+
 #[test]
 fn a_trace_gives_its_rows(rt: HostRuntime) -> Result<(), Fail> {
     let rows = rows_of(rt.alloc())?;
-    assert_eq!(rt; rows.len(), 2);
-    for (row, place) in rows.iter().zip([1, 4]) {
-        assert_eq!(rt; row.at, place);
-    }
+    assert!(rt; are_at(rows.as_slice(), &[1, 4]));
     Ok(())
 }

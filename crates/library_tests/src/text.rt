@@ -1,6 +1,7 @@
 //! The text of a trace: read, written, and refused.
-use kq_model::LineFault;
+use kq_model::{LineFault, Memory, Trace};
 use kq_trace::{TraceError, read_trace, write_trace};
+use std::alloc::Global;
 use std::test::Fail;
 use std::thread::Threads;
 
@@ -12,12 +13,22 @@ const TEXT: &str = concat!(
     "\"ident\":18446744073709551615,\"udata\":9}],\"fd\":3,\"op\":\"kevent\",\"pid\":7,\"room\":4}\n",
 );
 
+/// Whether the text of a trace is that above.
+fn is_written(alloc: Global, trace: &Trace) -> Result<bool, Memory> {
+    let text = write_trace(alloc, trace)?;
+    Ok(text.as_slice() == TEXT.as_bytes())
+}
+
+/// How many records are read of the text, and whether they are written as it.
+fn read_and_written<R: AllocGlobal + Threads + Sync>(rt: &R) -> Result<(usize, bool), Fail> {
+    let trace = read_trace(rt, TEXT.as_bytes())?;
+    let is_written = is_written(rt.alloc(), &trace)?;
+    Ok((trace.events.len(), is_written))
+}
+
 #[test]
 fn reads_and_writes(rt: HostRuntime) -> Result<(), Fail> {
-    let trace = read_trace(&rt, TEXT.as_bytes())?;
-    assert_eq!(rt; trace.events.len(), 3);
-    let text = write_trace(rt.alloc(), &trace)?;
-    assert!(rt; text.as_slice() == TEXT.as_bytes());
+    assert_eq!(rt; read_and_written(&rt)?, (3, true));
     Ok(())
 }
 

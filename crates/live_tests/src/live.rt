@@ -4,7 +4,7 @@ mod refusals;
 mod runs;
 mod tries;
 
-ghost use Rattle.std.specs.Prelude.{◌≡◌, IfOk, IfSome};
+ghost use Rattle.std.specs.Prelude.{◌≡◌, ◌≤◌, ◌-◌, ◌^◌, IfOk, IfSome};
 ghost use Rattle.kq_lock.specs.Seats.{EachSeat, IsFresh};
 
 use bitflags::Flags;
@@ -37,6 +37,16 @@ fn both_seats(live: &Live, seats: &mut Vec<LiveSeat>) -> Result<(LiveSeat, LiveS
     let one = next_seat(live, seats).ok_or("a seat")?;
     let two = next_seat(live, seats).ok_or("a second seat")?;
     Ok((one, two))
+}
+
+// A live system with one seat, which takes so many calls.
+fn with_seat(alloc: Global, last: u64) -> Result<(Live, LiveSeat), Fail>
+    requires { last ≤ 2 ^ 31 - 1 }
+    ensures { IfOk result (λ made. made.1.lock ≡ made.0.lock) }
+{
+    let (live, mut seats) = Live::with_last(alloc, 1, 1, last)?;
+    let seat = next_seat(&live, &mut seats).ok_or("a seat")?;
+    Ok((live, seat))
 }
 
 // The process, under the number 9 of its kqueue, changes the user event 7 by these flags.

@@ -5,7 +5,7 @@ mod single;
 mod sleeps;
 mod threads;
 
-ghost use Rattle.std.specs.Prelude.{◌≡◌, ◌≤◌, ◌^◌, IfOk, IfSome};
+ghost use Rattle.std.specs.Prelude.{◌≡◌, ◌≤◌, ◌^◌, IfOk, IfSome, OnOk};
 ghost use Rattle.kq_lock.specs.Seats.{IsFresh, EachSeat};
 
 use kq_lock::{Machine, Receipt, TurnError, TurnLock, TurnSeat};
@@ -64,7 +64,21 @@ fn with_two_seats<M: Machine>(
     ensures two { IfOk result (λ made. made.2.lock ≡ made.0) }
 {
     let (lock, mut seats) = TurnLock::new(alloc, machine, 2, last)?;
-    let one = next_seat(&lock, &mut seats).ok_or("a seat")?;
-    let two = next_seat(&lock, &mut seats).ok_or("a second seat")?;
+    let (one, two) = both_seats(&lock, &mut seats)?;
     Ok((lock, one, two))
+}
+
+// Two of the seats that a lock was made with.
+fn both_seats<M: Machine>(
+    lock: &TurnLock<M>,
+    seats: &mut Vec<TurnSeat<M>>,
+) -> Result<(TurnSeat<M>, TurnSeat<M>), Fail>
+    requires { EachSeat (IsFresh lock.now) seats.old.items }
+    ensures one { IfOk result (λ both. both.0.lock ≡ lock.now) }
+    ensures two { IfOk result (λ both. both.1.lock ≡ lock.now) }
+    ensures rest { OnOk result (EachSeat (IsFresh lock.now) seats.new.items) }
+{
+    let one = next_seat(lock, seats).ok_or("a seat")?;
+    let two = next_seat(lock, seats).ok_or("a second seat")?;
+    Ok((one, two))
 }

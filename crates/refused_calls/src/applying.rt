@@ -13,21 +13,46 @@ use std::alloc::Global;
 /// The report of the trace that the bytes are. Each record is applied once more where `Memory` was answered.
 pub fn applied(alloc: Global, bytes: &[u8]) -> Result<Outcome, Fault> {
     let mut reader = TraceReader::new(alloc, bytes)?;
+    replied(alloc, &mut reader)
+}
+
+/// The report of the records that are read.
+fn replied(alloc: Global, reader: &mut TraceReader<'_>) -> Result<Outcome, Fault> {
     let mut system = System::new(alloc, reader.version())?;
+    replied_by(alloc, reader, &mut system)
+}
+
+/// The report of the records that are read, by this system.
+fn replied_by(
+    alloc: Global,
+    reader: &mut TraceReader<'_>,
+    system: &mut System,
+) -> Result<Outcome, Fault> {
     let mut report = ReportText::new(alloc);
     let mut again = 0;
     for _ in 0..MOST_RECORDS {
-        let Some(event) = reader.next_event()? else {
+        let Some(reply) = next_reply(reader, system, &mut again)? else {
             break;
         };
-        if system.applied() >= MOST_RECORDS {
-            break;
-        }
-        let reply = tried(&mut system, &event, &mut again)?;
         report = report.with_row(system.applied(), &reply)?;
     }
     let text = report.end(system.applied())?;
     Ok(Outcome { text, again })
+}
+
+/// The reply to the next record.
+fn next_reply(
+    reader: &mut TraceReader<'_>,
+    system: &mut System,
+    again: &mut u64,
+) -> Result<Option<Reply>, Fault> {
+    let Some(event) = reader.next_event()? else {
+        return Ok(None);
+    };
+    if system.applied() >= MOST_RECORDS {
+        return Ok(None);
+    }
+    Ok(Some(tried(system, &event, again)?))
 }
 
 /// The reply to the event, which is applied once more where `Memory` was answered.

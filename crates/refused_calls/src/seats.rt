@@ -23,23 +23,37 @@ enum Way {
     Once,
 }
 
-/// The calls of one seat add a user event and let it happen. The other learns what the first has seen, and asks for
-/// what happened. At last the first sets the clock, in a single try. Each call is made once more where `Memory` was
-/// answered.
+/// The calls of two seats, and the end of their live system. Each call is made once more where `Memory` was answered.
 pub fn shared<R: Wait>(rt: &R, alloc: Global) -> Result<Outcome, Fault> {
     let (live, mut seats) = Live::new(alloc, 1, 2)?;
     let (mut one, mut two) = both_seats(&live, &mut seats)?;
-    let told = Told::new(alloc);
-    let told = called(rt, &live, &mut one, &process(), Way::Waiting, told)?;
-    let told = called(rt, &live, &mut one, &kqueue(), Way::Waiting, told)?;
-    let told = called(rt, &live, &mut one, &add(alloc)?, Way::Waiting, told)?;
-    let told = called(rt, &live, &mut one, &ring(alloc)?, Way::Waiting, told)?;
-    let part = live.split(&mut one);
-    live.join(&mut two, part);
-    let told = called(rt, &live, &mut two, &poll(alloc), Way::Waiting, told)?;
-    let told = called(rt, &live, &mut one, &moment(), Way::Once, told)?;
+    let told = all_called(rt, alloc, &live, &mut one, &mut two)?;
     let book = live.close(one)?;
     told.end(alloc, &book)
+}
+
+/// The calls of one seat add a user event and let it happen. The other learns what the first has seen, and asks for
+/// what happened. At last the first sets the clock, in a single try.
+fn all_called<R: Wait>(
+    rt: &R,
+    alloc: Global,
+    live: &Live,
+    one: &mut LiveSeat,
+    two: &mut LiveSeat,
+) -> Result<Told, Fault>
+    requires one { one.old.lock ≡ live.now.lock }
+    requires two { two.old.lock ≡ live.now.lock }
+    ensures { one.new.lock ≡ live.now.lock }
+{
+    let told = Told::new(alloc);
+    let told = called(rt, live, one, &process(), Way::Waiting, told)?;
+    let told = called(rt, live, one, &kqueue(), Way::Waiting, told)?;
+    let told = called(rt, live, one, &add(alloc)?, Way::Waiting, told)?;
+    let told = called(rt, live, one, &ring(alloc)?, Way::Waiting, told)?;
+    let part = live.split(one);
+    live.join(two, part);
+    let told = called(rt, live, two, &poll(alloc), Way::Waiting, told)?;
+    called(rt, live, one, &moment(), Way::Once, told)
 }
 
 /// One of the seats that a live system was made with.

@@ -6,7 +6,7 @@ ghost use Rattle.kq_model.specs.Report.{report_of};
 use crate::watch::Watch;
 use kq_merge::{ReportText, report_text};
 use kq_model::limits::MOST_RECORDS;
-use kq_model::{Memory, Trace};
+use kq_model::{Memory, Reply, Trace};
 use kq_system::System;
 use kq_trace::{TraceError, TraceReader, read_trace_with};
 use std::alloc::{AllocError, Global};
@@ -55,17 +55,41 @@ pub fn stream<R: AllocGlobal + Clock + CpuClock, O: Write, W: Write>(
 /// The report of the trace that the bytes are.
 fn streamed(alloc: Global, bytes: &[u8]) -> Result<Vec<u8>, TraceError> {
     let mut reader = TraceReader::new(alloc, bytes)?;
+    replied(alloc, &mut reader)
+}
+
+/// The report of the records that are read.
+fn replied(alloc: Global, reader: &mut TraceReader<'_>) -> Result<Vec<u8>, TraceError> {
     let mut system = System::new(alloc, reader.version())?;
+    replied_by(alloc, reader, &mut system)
+}
+
+/// The report of the records that are read, by this system.
+fn replied_by(
+    alloc: Global,
+    reader: &mut TraceReader<'_>,
+    system: &mut System,
+) -> Result<Vec<u8>, TraceError> {
     let mut text = ReportText::new(alloc);
     for _ in 0..=MOST_RECORDS {
-        let Some(event) = reader.next_event()? else {
+        let Some(reply) = next_reply(reader, system)? else {
             break;
         };
-        if system.applied() >= MOST_RECORDS {
-            break;
-        }
-        let reply = system.apply(&event)?;
         text = text.with_row(system.applied(), &reply)?;
     }
     Ok(text.end(system.applied())?)
+}
+
+/// The reply to the next record.
+fn next_reply(
+    reader: &mut TraceReader<'_>,
+    system: &mut System,
+) -> Result<Option<Reply>, TraceError> {
+    let Some(event) = reader.next_event()? else {
+        return Ok(None);
+    };
+    if system.applied() >= MOST_RECORDS {
+        return Ok(None);
+    }
+    Ok(Some(system.apply(&event)?))
 }

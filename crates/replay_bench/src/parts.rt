@@ -5,6 +5,7 @@ use anyhow::Context;
 use kq_gate::Open;
 use kq_history::Split;
 use kq_merge::{RowLists, report_by_place};
+use kq_model::Trace;
 use kq_replay::replay_all;
 use kq_trace::read_trace_with;
 use std::alloc::AllocError;
@@ -23,16 +24,63 @@ pub fn parts<R: AllocGlobal + Clock + CpuClock + Threads + Wait + Sync, O: Write
 ) -> anyhow::Result<()> {
     let mut watch = Watch::start(rt)?;
     let trace = read_trace_with(rt, bytes, workers)?;
+    of_trace(rt, &trace, workers, &mut watch, out, times)
+}
+
+/// The parts behind the reading.
+fn of_trace<R: AllocGlobal + Clock + CpuClock + Threads + Wait + Sync, O: Write, W: Write>(
+    rt: &R,
+    trace: &Trace,
+    workers: u32,
+    watch: &mut Watch,
+    out: &mut O,
+    times: &mut W,
+) -> anyhow::Result<()> {
     watch.lap(rt, "read", times)?;
-    let split = Split::of(rt.alloc(), &trace).map_err(|_| AllocError)?;
+    let split = Split::of(rt.alloc(), trace).map_err(|_| AllocError)?;
+    of_split(rt, &split, workers, watch, out, times)
+}
+
+/// The parts behind the splitting.
+fn of_split<R: AllocGlobal + Clock + CpuClock + Threads + Wait + Sync, O: Write, W: Write>(
+    rt: &R,
+    split: &Split<'_>,
+    workers: u32,
+    watch: &mut Watch,
+    out: &mut O,
+    times: &mut W,
+) -> anyhow::Result<()> {
     watch.lap(rt, "split", times)?;
-    let kqueues = replay_all(rt, &split, workers, &Open)?;
+    let kqueues = replay_all(rt, split, workers, &Open)?;
     watch.lap(rt, "replay", times)?;
     let rows = RowLists::of(rt.alloc(), kqueues, split.plain_rows()).map_err(|_| AllocError)?;
+    of_rows(rt, &rows, split.record_count(), workers, watch, out, times)
+}
+
+/// The parts behind the merging.
+fn of_rows<R: AllocGlobal + Clock + CpuClock + Threads + Sync, O: Write, W: Write>(
+    rt: &R,
+    rows: &RowLists,
+    records: u64,
+    workers: u32,
+    watch: &mut Watch,
+    out: &mut O,
+    times: &mut W,
+) -> anyhow::Result<()> {
     watch.lap(rt, "merge", times)?;
-    let records = trace.events.len() as u64;
-    let report = report_by_place(rt, &rows, records, workers).map_err(|_| AllocError)?;
-    for piece in report.as_slice() {
+    let report = report_by_place(rt, rows, records, workers).map_err(|_| AllocError)?;
+    of_report(rt, report.as_slice(), watch, out, times)
+}
+
+/// The report is written.
+fn of_report<R: Clock + CpuClock, O: Write, W: Write>(
+    rt: &R,
+    pieces: &[Vec<u8>],
+    watch: &mut Watch,
+    out: &mut O,
+    times: &mut W,
+) -> anyhow::Result<()> {
+    for piece in pieces {
         out.write_all(piece.as_slice())?;
     }
     watch.lap(rt, "write", times)?;

@@ -2,7 +2,7 @@
 ghost use Rattle.std.specs.Prelude.{◌≡◌, IfOk};
 ghost use Rattle.kq_history.specs.Traced.{traced};
 
-use crate::places::{assert_as_the_world, whole};
+use crate::places::{assert_split, whole};
 use kq_history::{Split, Splitting};
 use kq_model::{Memory, Trace};
 use std::alloc::Global;
@@ -33,12 +33,25 @@ fn assert_kqueues(
     Ok(())
 }
 
+/// The parts of the trace are split as it is at once.
+fn assert_in_parts(rt: &impl Abort, alloc: Global, trace: &Trace) -> Result<(), Memory> {
+    let split = in_parts(alloc, trace)?;
+    assert_as_at_once(rt, alloc, trace, &split)
+}
+
+fn assert_as_at_once(
+    rt: &impl Abort,
+    alloc: Global,
+    trace: &Trace,
+    split: &Split,
+) -> Result<(), Memory> {
+    assert_split(rt, alloc, split, trace.events.as_slice())?;
+    assert_kqueues(rt, alloc, trace, split.kqueues())
+}
+
 #[test]
 fn in_parts_the_same_is_seen(rt: HostRuntime) -> Result<(), Fail> {
     let trace = whole(&rt, rt.alloc())?;
-    let split = in_parts(rt.alloc(), &trace)?;
-    let impossible = assert_as_the_world(&rt, rt.alloc(), &split, trace.events.as_slice())?;
-    assert_eq!(rt; split.plain_rows().len(), impossible);
-    assert_kqueues(&rt, rt.alloc(), &trace, split.kqueues())?;
+    assert_in_parts(&rt, rt.alloc(), &trace)?;
     Ok(())
 }

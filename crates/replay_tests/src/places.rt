@@ -283,7 +283,7 @@ fn assert_seen_at_each(
 
 /// What is seen before these records and after each of them is what the world says then. Returns how many are
 /// impossible.
-pub fn assert_as_the_world(
+fn assert_as_the_world(
     rt: &impl Abort,
     alloc: Global,
     split: &Split,
@@ -294,12 +294,28 @@ pub fn assert_as_the_world(
     assert_seen_at_each(rt, split, &mut world, events)
 }
 
+/// The same, and two are impossible, which have plain rows.
+pub fn assert_split(
+    rt: &impl Abort,
+    alloc: Global,
+    split: &Split,
+    events: &[Event],
+) -> Result<(), Memory> {
+    let impossible = assert_as_the_world(rt, alloc, split, events)?;
+    assert_eq!(rt; split.plain_rows().len(), impossible);
+    assert_eq!(rt; impossible, 2);
+    Ok(())
+}
+
+/// The trace is split at once.
+fn assert_at_once(rt: &impl Abort, alloc: Global, trace: &Trace) -> Result<(), Memory> {
+    let split = Split::of(alloc, trace)?;
+    assert_split(rt, alloc, &split, trace.events.as_slice())
+}
+
 #[test]
 fn at_each_place_the_world_is_seen(rt: HostRuntime) -> Result<(), Fail> {
     let trace = whole(&rt, rt.alloc())?;
-    let split = Split::of(rt.alloc(), &trace)?;
-    let impossible = assert_as_the_world(&rt, rt.alloc(), &split, trace.events.as_slice())?;
-    assert_eq!(rt; split.plain_rows().len(), impossible);
-    assert_eq!(rt; impossible, 2);
+    assert_at_once(&rt, rt.alloc(), &trace)?;
     Ok(())
 }

@@ -1,9 +1,10 @@
 //! The private lists of a dup over a number that three kqueues watch.
 use crate::dup::{kqueue, poll, reads, socket};
-use crate::lists::{assert_answering, assert_owner, assert_private, born};
+use crate::lists::{assert_kqueues, assert_lists, assert_owner, born};
 use kq_history::{Item, Split, What};
 use kq_model::{EvFlags, Event, Hint, Memory, Series, Target, Trace};
 use std::alloc::Global;
+use std::process::Abort;
 use std::test::Fail;
 
 /// Two kqueues of process 1 and one of its child watch number 3, and another socket takes it in
@@ -108,46 +109,49 @@ fn of_the_child() -> [Item; 5] {
     ]
 }
 
+/// Each kqueue has its lists and its owner.
+fn assert_heard(rt: &impl Abort, split: &Split) -> Result<(), Memory> {
+    assert_heard_by(rt, split, 0, 1, first().as_slice(), &first()[1..6])?;
+    assert_heard_by(rt, split, 1, 1, second().as_slice(), &second()[1..5])?;
+    let of_the_child = of_the_child();
+    assert_heard_by(
+        rt,
+        split,
+        2,
+        2,
+        of_the_child.as_slice(),
+        &of_the_child[1..4],
+    )
+}
+
+fn assert_heard_by(
+    rt: &impl Abort,
+    split: &Split,
+    number: usize,
+    owner: u32,
+    items: &[Item],
+    answering: &[Item],
+) -> Result<(), Memory> {
+    assert_lists(rt, split, number, items, answering)?;
+    assert_owner(rt, split, born(rt, split, number), owner)
+}
+
+/// The same of the split of a trace.
+fn assert_heard_in(rt: &impl Abort, alloc: Global, trace: &Trace) -> Result<(), Memory> {
+    let split = Split::of(alloc, trace)?;
+    assert_heard(rt, &split)
+}
+
 #[test]
 fn three_kqueues_are_made(rt: HostRuntime) -> Result<(), Fail> {
     let trace = dup_over(rt.alloc())?;
-    let split = Split::of(rt.alloc(), &trace)?;
-    assert!(rt; split.plain_rows().is_empty());
-    let kqueues = split.kqueues();
-    assert_eq!(rt; kqueues, [2, 3, 8].as_slice());
-    assert_eq!(rt; kqueues.len(), 3);
+    assert_kqueues(&rt, rt.alloc(), &trace, [2, 3, 8].as_slice(), 3)?;
     Ok(())
 }
 
 #[test]
-fn the_first_hears_what_concerns_it(rt: HostRuntime) -> Result<(), Fail> {
+fn each_hears_what_concerns_it(rt: HostRuntime) -> Result<(), Fail> {
     let trace = dup_over(rt.alloc())?;
-    let split = Split::of(rt.alloc(), &trace)?;
-    let kqueue = born(&rt, &split, 0);
-    assert_private(&rt, &split, kqueue, first().as_slice())?;
-    assert_owner(&rt, &split, kqueue, 1)?;
-    assert_answering(&rt, &split, kqueue, &first()[1..6])?;
-    Ok(())
-}
-
-#[test]
-fn the_second_hears_what_concerns_it(rt: HostRuntime) -> Result<(), Fail> {
-    let trace = dup_over(rt.alloc())?;
-    let split = Split::of(rt.alloc(), &trace)?;
-    let kqueue = born(&rt, &split, 1);
-    assert_private(&rt, &split, kqueue, second().as_slice())?;
-    assert_owner(&rt, &split, kqueue, 1)?;
-    assert_answering(&rt, &split, kqueue, &second()[1..5])?;
-    Ok(())
-}
-
-#[test]
-fn that_of_the_child_hears_what_concerns_it(rt: HostRuntime) -> Result<(), Fail> {
-    let trace = dup_over(rt.alloc())?;
-    let split = Split::of(rt.alloc(), &trace)?;
-    let kqueue = born(&rt, &split, 2);
-    assert_private(&rt, &split, kqueue, of_the_child().as_slice())?;
-    assert_owner(&rt, &split, kqueue, 2)?;
-    assert_answering(&rt, &split, kqueue, &of_the_child()[1..4])?;
+    assert_heard_in(&rt, rt.alloc(), &trace)?;
     Ok(())
 }

@@ -1,12 +1,13 @@
 //! The rows of each kqueue, by any number of workers.
 use crate::dup::{dup_over, nothing};
 use crate::gates::{Meeting, Without};
-use crate::lists::born;
+use crate::lists::{assert_kqueues, born};
 use kq_gate::{Always, Gate, Open, Starts};
 use kq_history::Split;
-use kq_model::{Memory, Reply, Rows};
+use kq_model::{Memory, Reply, Rows, Trace};
 use kq_replay::{Replay, RunFault, replay_all, replay_all_with};
 use std::alloc::Global;
+use std::process::Abort;
 use std::sync::Wait;
 use std::test::Fail;
 use std::thread::Threads;
@@ -51,9 +52,36 @@ fn all_come<R: Threads + Wait + Sync, G: Gate + Sync, S: Starts>(
     starts: &S,
 ) -> Result<bool, RunFault> {
     let trace = dup_over(alloc)?;
-    let split = Split::of(alloc, &trace)?;
-    let kqueues = replay_all_with(rt, &split, workers, gate, starts)?;
-    let told = told(alloc, kqueues.as_slice())?;
+    all_come_of(rt, alloc, &trace, workers, gate, starts)
+}
+
+fn all_come_of<R: Threads + Wait + Sync, G: Gate + Sync, S: Starts>(
+    rt: &R,
+    alloc: Global,
+    trace: &Trace,
+    workers: u32,
+    gate: &G,
+    starts: &S,
+) -> Result<bool, RunFault> {
+    let split = Split::of(alloc, trace)?;
+    all_come_by(rt, alloc, &split, workers, gate, starts)
+}
+
+fn all_come_by<R: Threads + Wait + Sync, G: Gate + Sync, S: Starts>(
+    rt: &R,
+    alloc: Global,
+    split: &Split,
+    workers: u32,
+    gate: &G,
+    starts: &S,
+) -> Result<bool, RunFault> {
+    let kqueues = replay_all_with(rt, split, workers, gate, starts)?;
+    Ok(are_all(alloc, kqueues.as_slice())?)
+}
+
+/// Whether these are all rows.
+fn are_all(alloc: Global, kqueues: &[Rows]) -> Result<bool, Memory> {
+    let told = told(alloc, kqueues)?;
     Ok(kqueues.len() == 3 && told.as_slice() == EXPECTED.as_slice())
 }
 
@@ -63,25 +91,43 @@ fn told_alone(alloc: Global, items: &impl Replay) -> Result<Vec<Told>, Memory> {
     told(alloc, rows.as_slice())
 }
 
+/// Whether the private list of the third kqueue gives its rows.
+fn is_given_by_all(rt: &impl Abort, alloc: Global, split: &Split) -> Result<bool, Memory> {
+    let private = split.private(born(rt, split, 2))?;
+    let told = told_alone(alloc, &private)?;
+    Ok(told.as_slice() == &EXPECTED[5..])
+}
+
+/// Whether what of that list can show in its rows gives them.
+fn is_given_by_answering(rt: &impl Abort, alloc: Global, split: &Split) -> Result<bool, Memory> {
+    let answering = split.answering(born(rt, split, 2))?;
+    let told = told_alone(alloc, &answering)?;
+    Ok(told.as_slice() == &EXPECTED[5..])
+}
+
+/// Both give them.
+fn assert_given(rt: &impl Abort, alloc: Global, split: &Split) -> Result<(), Memory> {
+    assert!(rt; is_given_by_all(rt, alloc, split)?);
+    assert!(rt; is_given_by_answering(rt, alloc, split)?);
+    Ok(())
+}
+
+fn assert_given_in(rt: &impl Abort, alloc: Global, trace: &Trace) -> Result<(), Memory> {
+    let split = Split::of(alloc, trace)?;
+    assert_given(rt, alloc, &split)
+}
+
 #[test]
 fn the_kqueues_stand_by_birth(rt: HostRuntime) -> Result<(), Fail> {
     let trace = dup_over(rt.alloc())?;
-    let split = Split::of(rt.alloc(), &trace)?;
-    let kqueues = split.kqueues();
-    assert_eq!(rt; kqueues, [2, 3, 8].as_slice());
-    assert_eq!(rt; kqueues.len(), 3);
+    assert_kqueues(&rt, rt.alloc(), &trace, [2, 3, 8].as_slice(), 3)?;
     Ok(())
 }
 
 #[test]
 fn one_kqueue_gives_its_rows(rt: HostRuntime) -> Result<(), Fail> {
     let trace = dup_over(rt.alloc())?;
-    let split = Split::of(rt.alloc(), &trace)?;
-    let kqueue = born(&rt, &split, 2);
-    let whole = told_alone(rt.alloc(), &split.private(kqueue)?)?;
-    assert_eq!(rt; whole.as_slice(), &EXPECTED[5..]);
-    let answering = told_alone(rt.alloc(), &split.answering(kqueue)?)?;
-    assert_eq!(rt; answering.as_slice(), &EXPECTED[5..]);
+    assert_given_in(&rt, rt.alloc(), &trace)?;
     Ok(())
 }
 
@@ -100,12 +146,21 @@ fn any_number_of_workers_gives_all_rows(rt: HostRuntime) -> Result<(), Fail> {
     Ok(())
 }
 
+/// How many kqueues give rows, by as many workers as there may be.
+fn kqueue_count<R: Threads + Wait + Sync>(
+    rt: &R,
+    alloc: Global,
+    trace: &Trace,
+) -> Result<usize, RunFault> {
+    let split = Split::of(alloc, trace)?;
+    let kqueues = replay_all(rt, &split, 256, &Open)?;
+    Ok(kqueues.len())
+}
+
 #[test]
 fn a_trace_without_kqueues_gives_none(rt: HostRuntime) -> Result<(), Fail> {
     let trace = nothing(rt.alloc());
-    let split = Split::of(rt.alloc(), &trace)?;
-    let kqueues = replay_all(&rt, &split, 256, &Open)?;
-    assert!(rt; kqueues.is_empty());
+    assert_eq!(rt; kqueue_count(&rt, rt.alloc(), &trace), Ok(0));
     Ok(())
 }
 

@@ -1,8 +1,9 @@
 //! The steps of the clock in the list of a kqueue with a timer.
-use crate::lists::{assert_answering, assert_private, born};
+use crate::lists::{assert_kqueues, assert_lists};
 use kq_history::{Item, Split, What};
 use kq_model::{Change, EvFlags, Event, Filter, Memory, Series, Trace};
 use std::alloc::Global;
+use std::process::Abort;
 use std::test::Fail;
 
 fn kevent(alloc: Global, change: Option<Change>) -> Result<Event, Memory> {
@@ -91,23 +92,22 @@ fn joined() -> [Item; 6] {
     ]
 }
 
+/// The kqueue of a trace has both lists.
+fn assert_steps(rt: &impl Abort, alloc: Global, trace: &Trace) -> Result<(), Memory> {
+    let split = Split::of(alloc, trace)?;
+    assert_lists(rt, &split, 0, each_step().as_slice(), joined().as_slice())
+}
+
 #[test]
 fn one_kqueue_is_made(rt: HostRuntime) -> Result<(), Fail> {
     let trace = ticking(rt.alloc())?;
-    let split = Split::of(rt.alloc(), &trace)?;
-    assert!(rt; split.plain_rows().is_empty());
-    let kqueues = split.kqueues();
-    assert_eq!(rt; kqueues, [2].as_slice());
-    assert_eq!(rt; kqueues.len(), 1);
+    assert_kqueues(&rt, rt.alloc(), &trace, [2].as_slice(), 1)?;
     Ok(())
 }
 
 #[test]
 fn steps_in_a_row_are_one(rt: HostRuntime) -> Result<(), Fail> {
     let trace = ticking(rt.alloc())?;
-    let split = Split::of(rt.alloc(), &trace)?;
-    let kqueue = born(&rt, &split, 0);
-    assert_private(&rt, &split, kqueue, each_step().as_slice())?;
-    assert_answering(&rt, &split, kqueue, joined().as_slice())?;
+    assert_steps(&rt, rt.alloc(), &trace)?;
     Ok(())
 }

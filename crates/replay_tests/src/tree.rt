@@ -1,10 +1,11 @@
 //! A tree of processes in the lists of a kqueue that follows it, and of one that only watches its first process.
 use crate::dup::{kqueue, poll};
-use crate::lists::{assert_answering, assert_private, born};
+use crate::lists::assert_lists;
 use kq_history::{Item, Split, What};
 use kq_model::notes::{NOTE_FORK, NOTE_TRACK};
 use kq_model::{Change, EvFlags, Event, Filter, Hint, Memory, Series, Target, Trace};
 use std::alloc::Global;
+use std::process::Abort;
 use std::test::Fail;
 
 /// A call that watches the forks of process 2, and has these notes too.
@@ -77,25 +78,41 @@ fn of_the_tree(kqueue: u64, first: u64, last: u64) -> [Item; 6] {
     ]
 }
 
+/// The lists of a kqueue of the tree, by its number in order of birth.
+fn assert_tree(
+    rt: &impl Abort,
+    alloc: Global,
+    number: usize,
+    items: &[Item],
+    answering: &[Item],
+) -> Result<(), Memory> {
+    let trace = tree(alloc)?;
+    assert_lists_in(rt, alloc, &trace, number, items, answering)
+}
+
+fn assert_lists_in(
+    rt: &impl Abort,
+    alloc: Global,
+    trace: &Trace,
+    number: usize,
+    items: &[Item],
+    answering: &[Item],
+) -> Result<(), Memory> {
+    let split = Split::of(alloc, trace)?;
+    assert_lists(rt, &split, number, items, answering)
+}
+
 #[test]
 fn one_that_follows_has_all_that_the_descendants_do(rt: HostRuntime) -> Result<(), Fail> {
-    let trace = tree(rt.alloc())?;
-    let split = Split::of(rt.alloc(), &trace)?;
-    let kqueue = born(&rt, &split, 0);
     let items = of_the_tree(2, 5, 9);
-    assert_private(&rt, &split, kqueue, items.as_slice())?;
-    assert_answering(&rt, &split, kqueue, items.as_slice())?;
+    assert_tree(&rt, rt.alloc(), 0, items.as_slice(), items.as_slice())?;
     Ok(())
 }
 
 #[test]
 fn one_that_watches_answers_without_the_descendants(rt: HostRuntime) -> Result<(), Fail> {
-    let trace = tree(rt.alloc())?;
-    let split = Split::of(rt.alloc(), &trace)?;
-    let kqueue = born(&rt, &split, 1);
     let items = of_the_tree(3, 6, 10);
-    assert_private(&rt, &split, kqueue, items.as_slice())?;
     let own = [items[0], items[1], items[2], items[5]];
-    assert_answering(&rt, &split, kqueue, own.as_slice())?;
+    assert_tree(&rt, rt.alloc(), 1, items.as_slice(), own.as_slice())?;
     Ok(())
 }

@@ -2,6 +2,8 @@
 use crate::command_line::parse_words;
 use crate::order::Order;
 use kq_run::Fault;
+use std::alloc::Global;
+use std::process::Abort;
 use std::test::Fail;
 
 pub const STORED: &str = concat!(
@@ -24,89 +26,86 @@ pub const REPORT: &str = concat!(
     "{\"calls\":4,\"events\":2,\"records\":6}\n",
 );
 
-pub fn words(rt: &HostRuntime, words: &[&str]) -> Result<Order, Fault> {
-    parse_words(rt.alloc(), words)
-}
-
 pub fn replay_of(rt: &HostRuntime, workers: u32, file: &str) -> Result<Order, Fail> {
     let file = String::from_str(rt.alloc(), file)?;
     Ok(Order::Replay { workers, file })
 }
 
+fn live_of(rt: &HostRuntime, threads: u32, file: &str) -> Result<Order, Fail> {
+    let file = String::from_str(rt.alloc(), file)?;
+    Ok(Order::Live { threads, file })
+}
+
+fn book_of(rt: &HostRuntime, threads: u32, file: &str) -> Result<Order, Fail> {
+    let file = String::from_str(rt.alloc(), file)?;
+    Ok(Order::Book { threads, file })
+}
+
+/// Whether the words give this order.
+fn gives(alloc: Global, words: &[&str], order: &Order) -> bool {
+    match parse_words(alloc, words) {
+        Ok(given) => given == *order,
+        Err(_) => false,
+    }
+}
+
+/// Whether the words are none of the program's.
+fn is_refused(alloc: Global, words: &[&str]) -> bool {
+    matches!(parse_words(alloc, words), Err(Fault::Usage))
+}
+
+fn assert_gives<R: Abort + AllocGlobal>(
+    rt: &R,
+    words: &[&str],
+    order: Result<Order, Fail>,
+) -> Result<(), Fail> {
+    let order = order?;
+    assert!(rt; gives(rt.alloc(), words, &order));
+    Ok(())
+}
+
 #[test]
 fn words_give_orders(rt: HostRuntime) -> Result<(), Fail> {
-    let two = words(&rt, &["replay", "--workers", "2", "f"])?;
-    assert_eq!(rt; two, replay_of(&rt, 2, "f")?);
-    let joined = words(&rt, &["replay", "f", "--workers=256"])?;
-    assert_eq!(rt; joined, replay_of(&rt, 256, "f")?);
-    assert_eq!(rt; words(&rt, &["replay", "-"])?, replay_of(&rt, 1, "-")?);
-    assert_eq!(rt; words(&rt, &[])?, replay_of(&rt, 1, "-")?);
-    Ok(())
+    let two = ["replay", "--workers", "2", "f"];
+    assert_gives(&rt, &two, replay_of(&rt, 2, "f"))?;
+    let joined = ["replay", "f", "--workers=256"];
+    assert_gives(&rt, &joined, replay_of(&rt, 256, "f"))?;
+    assert_gives(&rt, &["replay", "-"], replay_of(&rt, 1, "-"))?;
+    assert_gives(&rt, &[], replay_of(&rt, 1, "-"))
 }
 
 #[test]
 fn other_words_are_refused(rt: HostRuntime) {
-    assert!(rt; matches!(words(&rt, &["replay"]), Err(Fault::Usage)));
-    assert!(rt; matches!(words(&rt, &["replay", "f", "g"]), Err(Fault::Usage)));
-    assert!(rt;
-        matches!(
-            words(&rt, &["replay", "--workers", "0", "f"]),
-            Err(Fault::Usage)
-        )
-    );
-    assert!(rt;
-        matches!(
-            words(&rt, &["replay", "--workers", "257", "f"]),
-            Err(Fault::Usage)
-        )
-    );
-    assert!(rt; matches!(words(&rt, &["--help"]), Err(Fault::Usage)));
-}
-
-fn text(rt: &HostRuntime, file: &str) -> Result<String, Fail> {
-    Ok(String::from_str(rt.alloc(), file)?)
+    let all: [&[&str]; 5] = [
+        &["replay"],
+        &["replay", "f", "g"],
+        &["replay", "--workers", "0", "f"],
+        &["replay", "--workers", "257", "f"],
+        &["--help"],
+    ];
+    for words in all {
+        assert!(rt; is_refused(rt.alloc(), words));
+    }
 }
 
 #[test]
 fn words_give_live_orders(rt: HostRuntime) -> Result<(), Fail> {
-    let file = text(&rt, "f")?;
-    assert_eq!(rt;
-        words(&rt, &["live", "--threads", "64", "f"])?,
-        Order::Live { threads: 64, file }
-    );
-    let file = text(&rt, "-")?;
-    assert_eq!(rt;
-        words(&rt, &["live", "-"])?,
-        Order::Live { threads: 1, file }
-    );
-    let file = text(&rt, "f")?;
-    assert_eq!(rt;
-        words(&rt, &["book", "f", "--threads=2"])?,
-        Order::Book { threads: 2, file }
-    );
-    Ok(())
+    let many = ["live", "--threads", "64", "f"];
+    assert_gives(&rt, &many, live_of(&rt, 64, "f"))?;
+    assert_gives(&rt, &["live", "-"], live_of(&rt, 1, "-"))?;
+    assert_gives(&rt, &["book", "f", "--threads=2"], book_of(&rt, 2, "f"))
 }
 
 #[test]
 fn other_live_words_are_refused(rt: HostRuntime) {
-    assert!(rt; matches!(words(&rt, &["live"]), Err(Fault::Usage)));
-    assert!(rt; matches!(words(&rt, &["book", "f", "g"]), Err(Fault::Usage)));
-    assert!(rt;
-        matches!(
-            words(&rt, &["live", "--threads", "0", "f"]),
-            Err(Fault::Usage)
-        )
-    );
-    assert!(rt;
-        matches!(
-            words(&rt, &["book", "--threads", "65", "f"]),
-            Err(Fault::Usage)
-        )
-    );
-    assert!(rt;
-        matches!(
-            words(&rt, &["live", "--workers", "1", "f"]),
-            Err(Fault::Usage)
-        )
-    );
+    let all: [&[&str]; 5] = [
+        &["live"],
+        &["book", "f", "g"],
+        &["live", "--threads", "0", "f"],
+        &["book", "--threads", "65", "f"],
+        &["live", "--workers", "1", "f"],
+    ];
+    for words in all {
+        assert!(rt; is_refused(rt.alloc(), words));
+    }
 }

@@ -78,47 +78,52 @@ fn giving(bytes: &[u8], reads: usize) -> Halting<'_> {
     }
 }
 
+/// What a run leaves: its status, and what was written to its output and to its errors.
+type Left<'a> = (u8, &'a [u8], &'a [u8]);
+
+/// Whether an order leaves this where its reader gives these bytes, and fails after so many reads.
+fn leaves<R: AllocGlobal + Threads + Wait + Sync>(
+    rt: &R,
+    order: &Order,
+    (bytes, reads): (&[u8], usize),
+    (status, written, told): Left<'_>,
+) -> bool {
+    let mut reader = giving(bytes, reads);
+    let mut out = taking(rt, 1000, None);
+    let mut err = taking(rt, 1000, None);
+    run_order(rt, order, &mut reader, &mut out, &mut err) == status
+        && out.got.as_slice() == written
+        && err.got.as_slice() == told
+}
+
 #[test]
 fn an_order_ends_with_the_status_of_its_fault(rt: HostRuntime) -> Result<(), Fail> {
     let order = replay_of(&rt, 2, "-")?;
-    let mut err = taking(&rt, 1000, None);
-    let mut out = taking(&rt, 1000, None);
     let stored = STORED.as_bytes();
-    assert_eq!(rt;
-        run_order(&rt, &order, &mut giving(stored, 1000), &mut out, &mut err),
-        0
-    );
-    assert_eq!(rt; out.got.as_slice(), REPORT.as_bytes());
-    assert_eq!(rt; err.got.len(), 0);
-    let mut out = taking(&rt, 1000, None);
-    assert_eq!(rt;
-        run_order(&rt, &order, &mut giving(stored, 20), &mut out, &mut err),
-        3
-    );
-    assert_eq!(rt; out.got.len(), 0);
-    assert_eq!(rt;
-        err.got.as_slice(),
-        b"kqsim: cannot read the trace\n".as_slice()
-    );
-    let mut err = taking(&rt, 1000, None);
-    let cut = &stored[..20];
-    assert_eq!(rt;
-        run_order(&rt, &order, &mut giving(cut, 1000), &mut out, &mut err),
-        4
-    );
-    assert_eq!(rt; err.got.as_slice(), b"kqsim: line 2: Json\n".as_slice());
-    assert_eq!(rt; out.got.len(), 0);
+    let cases: [((&[u8], usize), Left<'_>); 3] = [
+        ((stored, 1000), (0, REPORT.as_bytes(), b"")),
+        ((stored, 20), (3, b"", b"kqsim: cannot read the trace\n")),
+        ((&stored[..20], 1000), (4, b"", b"kqsim: line 2: Json\n")),
+    ];
+    for (given, left) in cases {
+        assert!(rt; leaves(&rt, &order, given, left), "status {}", left.0);
+    }
     Ok(())
+}
+
+/// The status of an order whose reader and errors fail at once, and how many bytes it wrote.
+fn left_unread<R: AllocGlobal + Threads + Wait + Sync>(rt: &R, order: &Order) -> (u8, usize) {
+    let mut reader = giving(STORED.as_bytes(), 0);
+    let mut out = taking(rt, 1000, None);
+    let mut err = taking(rt, 0, None);
+    let status = run_order(rt, order, &mut reader, &mut out, &mut err);
+    (status, out.got.len())
 }
 
 #[test]
 fn a_wrong_number_is_refused_before_reading(rt: HostRuntime) -> Result<(), Fail> {
     let order = replay_of(&rt, 257, "-")?;
-    let mut reader = giving(STORED.as_bytes(), 0);
-    let mut out = taking(&rt, 1000, None);
-    let mut err = taking(&rt, 0, None);
-    assert_eq!(rt; run_order(&rt, &order, &mut reader, &mut out, &mut err), 2);
-    assert_eq!(rt; out.got.len(), 0);
+    assert_eq!(rt; left_unread(&rt, &order), (2, 0));
     Ok(())
 }
 
@@ -137,9 +142,9 @@ fn is_left_unread<R: AllocGlobal + Threads + Wait + Sync>(
 #[test]
 fn a_reader_may_fail_at_its_first_second_and_last_read(rt: HostRuntime) -> Result<(), Fail> {
     let order = replay_of(&rt, 2, "-")?;
-    assert!(rt; is_left_unread(&rt, &order, 0));
-    assert!(rt; is_left_unread(&rt, &order, 1));
-    assert!(rt; is_left_unread(&rt, &order, STORED.len()));
+    for reads in [0, 1, STORED.len()] {
+        assert!(rt; is_left_unread(&rt, &order, reads), "after {reads}");
+    }
     Ok(())
 }
 
@@ -162,31 +167,36 @@ fn is_cut_off<R: AllocGlobal + Threads + Wait + Sync>(
 #[test]
 fn a_writer_may_fail_at_each_write(rt: HostRuntime) -> Result<(), Fail> {
     let order = replay_of(&rt, 1, "-")?;
+    let kinds = [Some(ErrorKind::Other), Some(ErrorKind::Interrupted), None];
     for writes in 0..REPORT.len() {
-        assert!(rt;
-            is_cut_off(&rt, &order, writes, Some(ErrorKind::Other)),
-            "an error at {writes}"
-        );
-        assert!(rt;
-            is_cut_off(&rt, &order, writes, Some(ErrorKind::Interrupted)),
-            "interrupted at {writes}"
-        );
-        assert!(rt; is_cut_off(&rt, &order, writes, None), "full at {writes}");
+        for kind in kinds {
+            assert!(rt;
+                is_cut_off(&rt, &order, writes, kind),
+                "{kind:?} at {writes}"
+            );
+        }
     }
     Ok(())
+}
+
+/// Whether an order whose output takes nine bytes leaves this.
+fn leaves_nine<R: AllocGlobal + Threads + Wait + Sync>(
+    rt: &R,
+    order: &Order,
+    (status, written, told): Left<'_>,
+) -> bool {
+    let mut reader = giving(STORED.as_bytes(), 1000);
+    let mut out = taking(rt, 9, None);
+    let mut err = taking(rt, 1000, None);
+    run_order(rt, order, &mut reader, &mut out, &mut err) == status
+        && out.got.as_slice() == written
+        && err.got.as_slice() == told
 }
 
 #[test]
 fn a_full_output_is_told(rt: HostRuntime) -> Result<(), Fail> {
     let order = replay_of(&rt, 1, "-")?;
-    let mut reader = giving(STORED.as_bytes(), 1000);
-    let mut out = taking(&rt, 9, None);
-    let mut err = taking(&rt, 1000, None);
-    assert_eq!(rt; run_order(&rt, &order, &mut reader, &mut out, &mut err), 7);
-    assert_eq!(rt; out.got.as_slice(), b"{\"at\":3,\"".as_slice());
-    assert_eq!(rt;
-        err.got.as_slice(),
-        b"kqsim: cannot write the report\n".as_slice()
-    );
+    let left: Left<'_> = (7, b"{\"at\":3,\"", b"kqsim: cannot write the report\n");
+    assert!(rt; leaves_nine(&rt, &order, left));
     Ok(())
 }

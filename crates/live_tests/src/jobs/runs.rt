@@ -103,24 +103,25 @@ fn squares_to_count(count: u32) -> Counted {
     }
 }
 
-// Three hundred jobs, each of which is entered and run once.
-fn assert_once<R: Abort + AllocGlobal + Threads + Wait + Sync>(
+// How many outcomes three hundred jobs have, how often a job is run, and whether each is entered once.
+fn ran_once<R: AllocGlobal + Threads + Wait + Sync>(
     rt: &R,
     workers: u32,
-) -> Result<(), Memory> {
+) -> Result<(Result<usize, RunFault>, u64, bool), Memory> {
     let gate = counts(rt.alloc(), 300)?;
     let jobs = squares_to_count(300);
     let ran = run_all(rt, rt.alloc(), &jobs, workers, &gate, &Always);
-    assert_eq!(rt; ran.map(|all| all.len()), Ok(300));
-    assert_eq!(rt; jobs.runs.load(SeqCst), 300);
-    assert!(rt; gate.all_once());
-    Ok(())
+    Ok((
+        ran.map(|all| all.len()),
+        jobs.runs.load(SeqCst),
+        gate.all_once(),
+    ))
 }
 
 #[test]
 fn each_job_is_entered_and_run_once(rt: HostRuntime) -> Result<(), Fail> {
     for workers in [1, 2, 256] {
-        assert_once(&rt, workers)?;
+        assert_eq!(rt; ran_once(&rt, workers)?, (Ok(300), 300, true));
     }
     Ok(())
 }

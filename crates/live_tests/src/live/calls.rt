@@ -1,9 +1,9 @@
 //! Calls of one thread.
-ghost use Rattle.std.specs.Prelude.{◌≡◌};
+ghost use Rattle.std.specs.Prelude.{◌≡◌, IfOk};
 
-use super::{Answer, Told, assert_told, both_seats, called, happened, next_seat, said, told};
+use super::{Answer, Told, assert_told, both_seats, called, happened, said, told, with_seat};
 use kq_live::{Book, Live, LiveError, LiveSeat};
-use kq_model::{Event, Memory, Row};
+use kq_model::{Event, Memory, Row, Trace};
 use kq_system::System;
 use std::alloc::Global;
 use std::process::Abort;
@@ -66,24 +66,65 @@ fn assert_rows(rt: &impl Abort, rows: &[Row]) {
 fn assert_book(rt: &impl Abort, alloc: Global, book: &Book) -> Result<(), Memory> {
     assert_eq!(rt; book.len(), 6);
     assert_rows(rt, book.rows()?.as_slice());
-    let trace = book.trace()?;
+    assert_trace(rt, alloc, &book.trace()?)
+}
+
+fn assert_trace(rt: &impl Abort, alloc: Global, trace: &Trace) -> Result<(), Memory> {
     assert_eq!(rt; trace.events.len(), 6);
-    assert_rows(rt, System::run(alloc, &trace)?.as_slice());
+    assert_rows(rt, System::run(alloc, trace)?.as_slice());
+    Ok(())
+}
+
+// The first seat makes four calls, the other learns them by a part of it and makes the fifth, and the first the last.
+fn assert_shared<R: Abort + Wait>(
+    rt: &R,
+    alloc: Global,
+    live: &Live,
+    one: LiveSeat,
+    mut two: LiveSeat,
+) -> LiveSeat
+    requires one { one.lock ≡ live.now.lock }
+    requires two { two.lock ≡ live.now.lock }
+    ensures { result.lock ≡ live.now.lock }
+{
+    let mut one = assert_happens(rt, alloc, live, one);
+    let part = live.split(&mut one);
+    live.join(&mut two, part);
+    assert_polled(rt, alloc, live, &mut two);
+    assert_tried(rt, live, &mut one);
+    one
+}
+
+// The live system closes with such a book.
+fn assert_closes(
+    rt: &impl Abort,
+    alloc: Global,
+    live: Live,
+    seat: LiveSeat,
+) -> Result<(), LiveError>
+    requires { seat.lock ≡ live.lock }
+{
+    let book = live.close(seat)?;
+    assert_book(rt, alloc, &book)?;
     Ok(())
 }
 
 #[test]
 fn seats_share_one_system(rt: HostRuntime) -> Result<(), Fail> {
-    let (live, mut seats) = Live::new(rt.alloc(), 1, 2)?;
-    let (one, mut two) = both_seats(&live, &mut seats)?;
-    let mut one = assert_happens(&rt, rt.alloc(), &live, one);
-    let part = live.split(&mut one);
-    live.join(&mut two, part);
-    assert_polled(&rt, rt.alloc(), &live, &mut two);
-    assert_tried(&rt, &live, &mut one);
-    let book = live.close(one)?;
-    assert_book(&rt, rt.alloc(), &book)?;
+    let (live, one, two) = with_two_seats(rt.alloc())?;
+    let one = assert_shared(&rt, rt.alloc(), &live, one, two);
+    assert_closes(&rt, rt.alloc(), live, one)?;
     Ok(())
+}
+
+// A live system with two seats.
+fn with_two_seats(alloc: Global) -> Result<(Live, LiveSeat, LiveSeat), Fail>
+    ensures one { IfOk result (λ made. made.1.lock ≡ made.0.lock) }
+    ensures two { IfOk result (λ made. made.2.lock ≡ made.0.lock) }
+{
+    let (live, mut seats) = Live::new(alloc, 1, 2)?;
+    let (one, two) = both_seats(&live, &mut seats)?;
+    Ok((live, one, two))
 }
 
 // The seat starts this process, and is told this.
@@ -100,17 +141,31 @@ fn assert_starts<R: Abort + Wait>(
     assert_told(rt, told(live.call(rt, seat, Event::Proc { pid })), expected);
 }
 
+// Two calls are all that the system takes.
+fn assert_wears_out<R: Abort + Wait>(rt: &R, live: &Live, seat: &mut LiveSeat)
+    requires { seat.old.lock ≡ live.now.lock }
+    ensures { seat.new.lock ≡ live.now.lock }
+{
+    let worn_out = Err(LiveError::WornOut);
+    assert_starts(rt, live, seat, 1, &Ok((1, 0, Answer::Done)));
+    assert_starts(rt, live, seat, 1, &Ok((2, 1, Answer::Otherwise)));
+    assert_starts(rt, live, seat, 2, &worn_out);
+    let tried = live.try_call(seat, Event::Proc { pid: 2 });
+    assert_told(rt, told(tried), &worn_out);
+}
+
+// How many calls the live system closes with.
+fn closed(live: Live, seat: LiveSeat) -> Result<usize, LiveError>
+    requires { seat.lock ≡ live.lock }
+{
+    let book = live.close(seat)?;
+    Ok(book.len())
+}
+
 #[test]
 fn a_live_system_wears_out(rt: HostRuntime) -> Result<(), Fail> {
-    let (live, mut seats) = Live::with_last(rt.alloc(), 1, 1, 2)?;
-    let mut seat = next_seat(&live, &mut seats).ok_or("a seat")?;
-    let worn_out = Err(LiveError::WornOut);
-    assert_starts(&rt, &live, &mut seat, 1, &Ok((1, 0, Answer::Done)));
-    assert_starts(&rt, &live, &mut seat, 1, &Ok((2, 1, Answer::Otherwise)));
-    assert_starts(&rt, &live, &mut seat, 2, &worn_out);
-    let tried = live.try_call(&mut seat, Event::Proc { pid: 2 });
-    assert_told(&rt, told(tried), &worn_out);
-    let book = live.close(seat)?;
-    assert_eq!(rt; book.len(), 2);
+    let (live, mut seat) = with_seat(rt.alloc(), 2)?;
+    assert_wears_out(&rt, &live, &mut seat);
+    assert_eq!(rt; closed(live, seat)?, 2);
     Ok(())
 }

@@ -62,26 +62,66 @@ fn assert_happens<R: Abort + Wait>(
     seat
 }
 
+fn rows_len(book: &Book) -> Result<usize, Memory> {
+    let rows = book.rows().or_else(|_| book.rows())?;
+    Ok(rows.len())
+}
+
+fn trace_len(book: &Book) -> Result<usize, Memory> {
+    let trace = book.trace().or_else(|_| book.trace())?;
+    Ok(trace.events.len())
+}
+
 // The book has five calls, of which three have a row.
 fn assert_book(rt: &impl Abort, book: &Book) -> Result<(), Memory> {
-    assert_eq!(rt; book.len(), 5);
-    let rows = book.rows().or_else(|_| book.rows())?;
-    assert_eq!(rt; rows.len(), 3);
-    let trace = book.trace().or_else(|_| book.trace())?;
-    assert_eq!(rt; trace.events.len(), 5);
+    let rows = rows_len(book)?;
+    assert_eq!(rt; (book.len(), rows, trace_len(book)?), (5, 3, 5));
+    Ok(())
+}
+
+// A live system with two seats.
+fn with_two_seats(alloc: Global) -> Result<(Live, LiveSeat, LiveSeat), Fail>
+    ensures one { IfOk result (λ made. made.1.lock ≡ made.0.lock) }
+    ensures two { IfOk result (λ made. made.2.lock ≡ made.0.lock) }
+{
+    let (live, mut seats) = made_twice(alloc)?;
+    let (one, two) = both_seats(&live, &mut seats)?;
+    Ok((live, one, two))
+}
+
+// The first seat makes four calls, and the other learns them by a part of it, and asks for the event.
+fn assert_shared<R: Abort + Wait>(
+    rt: &R,
+    alloc: Global,
+    live: &Live,
+    one: LiveSeat,
+    mut two: LiveSeat,
+) -> LiveSeat
+    requires one { one.lock ≡ live.now.lock }
+    requires two { two.lock ≡ live.now.lock }
+    ensures { result.lock ≡ live.now.lock }
+{
+    let mut one = assert_happens(rt, alloc, live, one);
+    let part = live.split(&mut one);
+    live.join(&mut two, part);
+    let polled = called_twice(rt, alloc, live, &mut two, 5);
+    assert_told(rt, polled, &Ok((5, 4, happened())));
+    one
+}
+
+// The live system closes with such a book.
+fn assert_closes(rt: &impl Abort, live: Live, seat: LiveSeat) -> Result<(), LiveError>
+    requires { seat.lock ≡ live.lock }
+{
+    let book = live.close(seat)?;
+    assert_book(rt, &book)?;
     Ok(())
 }
 
 #[test]
 fn a_refused_call_is_made_again(rt: HostRuntime) -> Result<(), Fail> {
-    let (live, mut seats) = made_twice(rt.alloc())?;
-    let (one, mut two) = both_seats(&live, &mut seats)?;
-    let mut one = assert_happens(&rt, rt.alloc(), &live, one);
-    let part = live.split(&mut one);
-    live.join(&mut two, part);
-    let polled = called_twice(&rt, rt.alloc(), &live, &mut two, 5);
-    assert_told(&rt, polled, &Ok((5, 4, happened())));
-    let book = live.close(one)?;
-    assert_book(&rt, &book)?;
+    let (live, one, two) = with_two_seats(rt.alloc())?;
+    let one = assert_shared(&rt, rt.alloc(), &live, one, two);
+    assert_closes(&rt, live, one)?;
     Ok(())
 }

@@ -2,24 +2,27 @@
 use super::{TRIGGER, add, poll};
 use kq_gate::{Always, Gate, Open, Starts};
 use kq_live::{Book, live_run};
-use kq_model::{Event, Memory, Reply, Series, Trace};
+use kq_model::{Event, Memory, Reply, Row, Series, Trace};
 use kq_serve::ServeError;
 use std::alloc::Global;
 use std::process::Abort;
+use std::sync::Wait;
 use std::sync::atomic::AtomicU64;
 use std::sync::atomic::Ordering::SeqCst;
 use std::test::Fail;
-use std::thread::yield_now;
+use std::thread::{Threads, yield_now};
 
 // Two processes, each with a user event that has happened.
 fn two_processes(alloc: Global) -> Result<Trace, Memory> {
+    let one = add(alloc, 1, TRIGGER)?;
+    let two = add(alloc, 2, TRIGGER)?;
     let events = [
         Event::Proc { pid: 1 },
         Event::Proc { pid: 2 },
         Event::Kqueue { pid: 1, fd: 9 },
         Event::Kqueue { pid: 2, fd: 9 },
-        add(alloc, 1, TRIGGER)?,
-        add(alloc, 2, TRIGGER)?,
+        one,
+        two,
         poll(alloc, 2),
         poll(alloc, 1),
     ];
@@ -30,24 +33,42 @@ fn two_processes(alloc: Global) -> Result<Trace, Memory> {
     })
 }
 
-// How many events the rows of a book return.
-fn returned(book: &Book) -> Result<usize, Memory> {
+// How many events these rows return.
+fn returned(rows: &[Row]) -> usize {
     let mut all = 0usize;
-    for row in &book.rows()? {
+    for row in rows {
         if let Reply::Events(events) = &row.reply {
             all = all.saturating_add(events.len());
         }
     }
-    Ok(all)
+    all
+}
+
+// How many calls, rows and events a book has.
+type Counts = (usize, usize, usize);
+
+fn counted(book: &Book) -> Result<Counts, Memory> {
+    let rows = book.rows()?;
+    Ok((book.len(), rows.len(), returned(rows.as_slice())))
+}
+
+// The book of a trace that so many threads run has so much.
+fn ran<R: AllocGlobal + Threads + Wait + Sync, G: Gate + Sync>(
+    rt: &R,
+    gate: &G,
+    trace: &Trace,
+    threads: u32,
+) -> Result<Counts, Fail> {
+    let book = live_run(rt, rt.alloc(), gate, &Always, trace, threads)?;
+    Ok(counted(&book)?)
 }
 
 #[test]
 fn threads_run_a_trace(rt: HostRuntime) -> Result<(), Fail> {
     let trace = two_processes(rt.alloc())?;
     for threads in [1, 2, 3, 64] {
-        let book = live_run(&rt, rt.alloc(), &Open, &Always, &trace, threads)?;
-        assert_eq!(rt; book.len(), 8);
-        assert_eq!(rt; returned(&book), Ok(2));
+        let (calls, _, events) = ran(&rt, &Open, &trace, threads)?;
+        assert_eq!(rt; (calls, events), (8, 2));
     }
     Ok(())
 }
@@ -119,8 +140,8 @@ fn assert_met(rt: &impl Abort, gate: &Meeting) {
 fn two_threads_are_inside_at_once(rt: HostRuntime) -> Result<(), Fail> {
     let trace = two_processes(rt.alloc())?;
     let gate = Meeting::of(2);
-    let book = live_run(&rt, rt.alloc(), &gate, &Always, &trace, 2)?;
-    assert_eq!(rt; book.len(), 8);
+    let (calls, _, _) = ran(&rt, &gate, &trace, 2)?;
+    assert_eq!(rt; calls, 8);
     assert_met(&rt, &gate);
     Ok(())
 }
@@ -145,8 +166,8 @@ fn starts(alloc: Global) -> Result<Trace, Memory> {
 fn sixty_four_threads_get_their_turns(rt: HostRuntime) -> Result<(), Fail> {
     let trace = starts(rt.alloc())?;
     let gate = Meeting::of(64);
-    let book = live_run(&rt, rt.alloc(), &gate, &Always, &trace, 64)?;
-    assert_eq!(rt; (book.len(), book.rows()?.len()), (6400, 0));
+    let (calls, rows, _) = ran(&rt, &gate, &trace, 64)?;
+    assert_eq!(rt; (calls, rows), (6400, 0));
     assert_met(&rt, &gate);
     Ok(())
 }

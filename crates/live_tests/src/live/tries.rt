@@ -1,8 +1,8 @@
 //! Single tries of many threads.
 ghost use Rattle.std.specs.Prelude.{◌≡◌};
 
-use super::next_seat;
-use kq_live::{Live, LiveSeat};
+use super::with_seat;
+use kq_live::{Live, LiveError, LiveSeat};
 use kq_model::Event;
 use std::sync::Wait;
 use std::test::Fail;
@@ -85,15 +85,21 @@ fn by_eight<R: Threads + Wait + Sync>(rt: &R, live: &Live, mut seat: LiveSeat) -
     (first.saturating_add(second), seat)
 }
 
+// How many calls the seat has seen, and how many the live system closes with.
+fn closed(live: Live, seat: LiveSeat) -> Result<(u64, u64), LiveError>
+    requires { seat.lock ≡ live.lock }
+{
+    let seen = Live::seen_len(&seat);
+    let book = live.close(seat)?;
+    Ok((seen, book.len() as u64))
+}
+
 #[test]
 fn a_seat_in_eight_parts_tries(rt: HostRuntime) -> Result<(), Fail> {
-    let (live, mut seats) = Live::new(rt.alloc(), 1, 1)?;
-    let seat = next_seat(&live, &mut seats).ok_or("a seat")?;
+    let (live, seat) = with_seat(rt.alloc(), 2_147_483_647)?;
     let (calls, seat) = by_eight(&rt, &live, seat);
+    assert_eq!(rt; closed(live, seat)?, (calls, calls));
     // The first of them to take a ticket had nobody before it.
     assert!(rt; calls > 0);
-    assert_eq!(rt; Live::seen_len(&seat), calls);
-    let book = live.close(seat)?;
-    assert_eq!(rt; book.len() as u64, calls);
     Ok(())
 }

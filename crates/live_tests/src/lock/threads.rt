@@ -1,8 +1,9 @@
 //! Calls of several threads. Each is joined, and what they show does not hang on how they ran.
 ghost use Rattle.std.specs.Prelude.{◌≡◌, ◌^◌, ◌≤◌, IfOk};
+ghost use Rattle.kq_lock.specs.Seats.{EachSeat, IsFresh};
 
 use super::machines::{Held, Sum, await_word};
-use super::{Told, assert_told, next_seat, told, with_two_seats};
+use super::{Told, assert_told, both_seats, told, with_two_seats};
 use kq_lock::{TurnError, TurnLock, TurnSeat};
 use std::alloc::Global;
 use std::process::Abort;
@@ -142,11 +143,18 @@ fn with_four_seats(alloc: Global) -> Result<(TurnLock<Sum>, Four), Fail>
     ensures second { IfOk result (λ made. (made.1.2.lock ≡ made.0) × (made.1.3.lock ≡ made.0)) }
 {
     let (lock, mut seats) = TurnLock::new(alloc, Sum { total: 0 }, 4, 400)?;
-    let a = next_seat(&lock, &mut seats).ok_or("a seat")?;
-    let b = next_seat(&lock, &mut seats).ok_or("a second seat")?;
-    let c = next_seat(&lock, &mut seats).ok_or("a third seat")?;
-    let d = next_seat(&lock, &mut seats).ok_or("a fourth seat")?;
-    Ok((lock, (a, b, c, d)))
+    let four = four_seats(&lock, &mut seats)?;
+    Ok((lock, four))
+}
+
+fn four_seats(lock: &TurnLock<Sum>, seats: &mut Vec<TurnSeat<Sum>>) -> Result<Four, Fail>
+    requires { EachSeat (IsFresh lock.now) seats.old.items }
+    ensures first { IfOk result (λ four. (four.0.lock ≡ lock.now) × (four.1.lock ≡ lock.now)) }
+    ensures second { IfOk result (λ four. (four.2.lock ≡ lock.now) × (four.3.lock ≡ lock.now)) }
+{
+    let (a, b) = both_seats(lock, seats)?;
+    let (c, d) = both_seats(lock, seats)?;
+    Ok((a, b, c, d))
 }
 
 // The seat has seen all four hundred calls, and the lock takes no more.
@@ -159,13 +167,20 @@ fn assert_worn_out(rt: &impl Abort, lock: &TurnLock<Sum>, seat: &mut TurnSeat<Su
     assert_told(rt, tried, &Err(TurnError::WornOut));
 }
 
+// The total with which the lock closes, and how many calls it had.
+fn closed(lock: TurnLock<Sum>, seat: TurnSeat<Sum>) -> Result<(u64, usize), TurnError>
+    requires { seat.lock ≡ lock }
+{
+    let (sum, history) = lock.close(seat)?;
+    Ok((sum.total, history.len()))
+}
+
 #[test]
 fn four_threads_of_a_hundred_calls(rt: HostRuntime) -> Result<(), Fail> {
     let (lock, seats) = with_four_seats(rt.alloc())?;
     let (all, mut seat) = four_hundred(&rt, &lock, seats);
     assert!(rt; all);
     assert_worn_out(&rt, &lock, &mut seat);
-    let (sum, history) = lock.close(seat)?;
-    assert_eq!(rt; (sum.total, history.len()), (400, 400));
+    assert_eq!(rt; closed(lock, seat)?, (400, 400));
     Ok(())
 }
