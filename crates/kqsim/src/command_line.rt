@@ -1,6 +1,7 @@
 //! The words of the command line.
 ghost use Rattle.std.specs.Prelude.{◌≡◌, ◌⊎◌, [], map, false, Some, codes, option_map, string_bytes, IfOk, IfErr};
 ghost use Rattle.clap.specs.Words.{app_of, first_of, found_of, one_of, rows_of, rule_of, subcommand_rows_of};
+ghost use Rattle.clap.specs.Words.{with_subcommand};
 ghost use Rattle.clap.specs.declared.builder.command.Command.TheViews.{out-Command as fields_of};
 ghost use Rattle.kqsim.specs.CommandLine.{IsOrderFrom, IsOrderOf, command_app, file_rule, number_in, program};
 ghost use Rattle.kqsim.specs.CommandLine.{threads_rule, workers_rule};
@@ -82,17 +83,28 @@ fn command_with<'a>(
         .arg(file_argument(alloc))
 }
 
+/// A command with one more below it, which has a number and a file.
+fn with_command<'a>(
+    alloc: Global,
+    all: Command<'a>,
+    name: &'a str,
+    number: Arg<'a>,
+) -> Result<Command<'a>, AllocError>
+    requires { number.global ≡ false }
+    ensures { IfOk result (λ c.
+        app_of c ≡ with_subcommand (app_of all.entry) (command_app name.entry.now (rule_of number.entry)).top) }
+{
+    let one = command_with(alloc, name, number)?;
+    all.subcommand(one)
+}
+
 fn command<'a>(alloc: Global) -> Result<Command<'a>, AllocError>
     ensures shape { IfOk result (λ c. app_of c ≡ program) }
 {
-    let replay = command_with(alloc, "replay", workers_argument(alloc))?;
-    let live = command_with(alloc, "live", threads_argument(alloc))?;
-    let book = command_with(alloc, "book", threads_argument(alloc))?;
-    Command::new(alloc, "kqsim")
-        .subcommand_required(true)
-        .subcommand(replay)?
-        .subcommand(live)?
-        .subcommand(book)
+    let none = Command::new(alloc, "kqsim").subcommand_required(true);
+    let replay = with_command(alloc, none, "replay", workers_argument(alloc))?;
+    let live = with_command(alloc, replay, "live", threads_argument(alloc))?;
+    with_command(alloc, live, "book", threads_argument(alloc))
 }
 
 fn fault_of(error: Error) -> Fault

@@ -1,18 +1,16 @@
 -- What was read and written so far, and what each way out leaves.
-use Rattle.std.proofs.Common.{◌≡◌, ◌∙◌, ℕ, ◌+◌, List, [], ◌∷◌, ◌++◌, length, Option, None, Some, Result, Ok, Err, refl, sym, ap, ap₂, subst, arith, append_assoc, append-nil, length-append, IfErr, OnErr}
-use Rattle.std.specs.Io.KnownBytes.{Appends, IsAtEnd, Keeps}
-use Rattle.std.proofs.KnownBytes.{Appends-kept, Appends-nil, Appends-trans, Keeps-refl}
+use Rattle.std.proofs.Common.{◌≡◌, ◌∙◌, ℕ, ◌+◌, List, [], ◌∷◌, ◌++◌, length, Option, None, Some, Result, Ok, Err, refl, sym, ap, ap₂, subst, arith, append_assoc, append-nil, length-append, IfErr}
+use Rattle.std.specs.Io.KnownBytes.{Appends}
+use Rattle.std.proofs.KnownBytes.{Appends-nil, Appends-trans, Keeps-refl}
 use Rattle.std.specs.Result.{IsErrAnd}
 use Rattle.kq_input.specs.Unread.{IsLastLine, IsNextLine}
-use Rattle.kq_model.specs.declared.event.Event.{Event}
-use Rattle.kq_model.specs.declared.line_fault.LineFault.{LineFault}
 use Rattle.kq_model.specs.Reading.{record_on, version_on}
 use Rattle.kqstep.specs.declared.fault.Fault.{Fault}
 use Rattle.kqstep.specs.declared.fault.Fault.TheVariants.{Usage, Read, Header, Memory, Write}
-use Rattle.kqstep.specs.Given.{AreRead, BeginsWith, HasLines}
-use Rattle.kqstep.specs.Laws.{HaveReport}
-use Rattle.kqstep.specs.Run.{IsBadHeader, IsHeaderFault, IsOpened, LeavesBy, WroteAll, WroteAnswers, WrotePart}
-use Rattle.kqstep.specs.Stepping.{Answer, Standing, after_line, answer_line, answer_lines, answer_to, answered, answered_behind, answers, before_records, counts_line, ended, ended_behind, read_next, standing_after}
+use Rattle.kqstep.specs.Given.{BeginsWith}
+use Rattle.kqstep.specs.SoFar.{SoFar}
+use Rattle.kqstep.specs.Run.{IsHeaderFault, IsOpened, LeavesBy, WroteAll, WroteAnswers, WrotePart}
+use Rattle.kqstep.specs.Stepping.{Standing, after_line, answer_line, answer_lines, answer_to, answered, answered_behind, answers, before_records, counts_line, ended, ended_behind, read_next, standing_after}
 use Rattle.kqstep.specs.Stood.{IsAt, Stood}
 use Rattle.kqstep.proofs.AnswerLaws.{have_report}
 use Rattle.kqstep.proofs.LinesRead.{all_read, begins, line_read}
@@ -73,16 +71,6 @@ unfolding answered answered_behind ended ended_behind
 ended_is header version lines good = rw good refl
 
 -- ---- so far
-
-pub record SoFar (given before left out : Option (List ℕ)) (number : ℕ) (s : Stood) : Type 0 where
-  pub header : List ℕ
-  pub lines : List (List ℕ)
-  pub version : ℕ
-  pub good : version_on header ≡ Ok version
-  pub read : AreRead given (header ∷ lines) left
-  pub count : number ≡ 2 + length lines
-  pub at : IsAt (standing_after (before_records version) lines) s
-  pub wrote : Appends before out (answered (header ∷ lines))
 
 pub opened : (given before left : Option (List ℕ)) (version : ℕ) (s : Stood) → IsOpened given left version → IsAt (before_records version) s
     → SoFar given before left before 2 s
@@ -190,9 +178,3 @@ end_cut given before left out end number s done rest so_far cut wrote =
       cut = ended_is so_far.header so_far.version so_far.lines so_far.good ∙ ap (λ a. old ++ a) cut ∙ sym (append_assoc old done rest);
       wrote = Appends-trans before out end _ _ so_far.wrote wrote;
     }
-
--- a write that failed left a part
-pub left_part : {T : Type 0} (given before end : Option (List ℕ)) (r : Result T Fault) (P : Type 0) → OnErr r P → IfErr r (λ f. f ≡ Write)
-    → (P → WrotePart given before end) → IfErr r (LeavesBy given before end)
-left_part given before end (Ok x) P part is wrote = tt
-left_part given before end (Err fault) P part is wrote = subst (LeavesBy given before end) (sym is) (wrote part)

@@ -5,3 +5,4 @@ pub mod Laws
 pub mod Stood
 pub mod Given
 pub mod Run
+pub mod SoFar

@@ -1,7 +1,8 @@
-ghost use Rattle.std.specs.Prelude.{◌≡◌, ◌∷◌, [], IfErr, IfOk, OnOk};
+ghost use Rattle.std.specs.Prelude.{◌≡◌, ◌+◌, [], true, false, IfErr, IfOk, OnOk};
 ghost use Rattle.std.specs.Io.KnownBytes.{prepend_known};
 ghost use Rattle.kq_model.specs.Limits.{IsVersion};
 ghost use Rattle.kqstep.specs.Run.{IsHeaderFault, IsOpened, LeavesBy, WroteAll};
+ghost use Rattle.kqstep.specs.SoFar.{FromSoFar, SoFar};
 
 use crate::fault::Fault;
 use crate::output::write_out;
@@ -20,32 +21,28 @@ pub fn answer_all<I: Read, O: Write>(alloc: Global, input: &mut I, out: &mut O) 
     ensures all { OnOk result (WroteAll (I.remaining input.old) (O.contents out.old) (O.contents out.new)) }
     ensures fault { IfErr result (LeavesBy (I.remaining input.old) (O.contents out.old) (O.contents out.new)) }
 {
-    let Ok(mut lines) = Lines::new(alloc) else {
-        return Err(Fault::Memory);
-    };
-    let version = header(alloc, &mut lines, input)?;
+    match Lines::new(alloc) {
+        Ok(mut lines) => answer_behind(alloc, &mut lines, input, out),
+        Err(_) => Err(Fault::Memory),
+    }
+}
+
+/// The same with lines of which none was read.
+fn answer_behind<I: Read, O: Write>(
+    alloc: Global,
+    lines: &mut Lines,
+    input: &mut I,
+    out: &mut O,
+) -> Result<(), Fault>
+    requires { lines.old.waiting ≡ [] }
+    ensures all { OnOk result (WroteAll (I.remaining input.old) (O.contents out.old) (O.contents out.new)) }
+    ensures fault { IfErr result (LeavesBy (I.remaining input.old) (O.contents out.old) (O.contents out.new)) }
+{
+    let version = header(alloc, lines, input)?;
     let Ok(mut stepping) = Stepping::new(alloc, version) else {
         return Err(Fault::Memory);
     };
-    'lines: for number in 2..u64::MAX {
-        match lines.next(input) {
-            Ok(true) => {
-                let Ok(text) = stepping.answer(number, lines.line()) else {
-                    return Err(Fault::Memory);
-                };
-                write_out(&text, out)?;
-            }
-            Ok(false) => {
-                let Ok(text) = stepping.end() else {
-                    return Err(Fault::Memory);
-                };
-                return write_out(&text, out);
-            }
-            Err(LinesError::Read) => return Err(Fault::Read),
-            Err(LinesError::Memory) => return Err(Fault::Memory),
-        }
-    }
-    Err(Fault::Read)
+    answer_lines(&mut stepping, lines, input, out)
 }
 
 /// Reads the version that the header names. An input without a line has an empty one.
@@ -60,5 +57,64 @@ fn header<I: Read>(alloc: Global, lines: &mut Lines, input: &mut I) -> Result<u3
     match version_on(alloc, lines.line())? {
         Ok(version) => Ok(version),
         Err(fault) => Err(Fault::Header { fault }),
+    }
+}
+
+/// Answers each line behind the header.
+fn answer_lines<I: Read, O: Write>(
+    stepping: &mut Stepping,
+    lines: &mut Lines,
+    input: &mut I,
+    out: &mut O,
+) -> Result<(), Fault>
+    ensures all { OnOk result (FromSoFar (prepend_known lines.old.waiting (I.remaining input.old)) (O.contents out.old)
+        2 stepping.old (λ given before. WroteAll given before (O.contents out.new))) }
+    ensures fault { IfErr result (λ fault. FromSoFar (prepend_known lines.old.waiting (I.remaining input.old))
+        (O.contents out.old) 2 stepping.old (λ given before. LeavesBy given before (O.contents out.new) fault)) }
+{
+    'lines: for number in 2..u64::MAX {
+        if !answer_next(stepping, number, lines, input, out)? {
+            return Ok(());
+        }
+    }
+    Err(Fault::Read)
+}
+
+/// Answers the next line, or writes the last line of the report where none is left; whether there was one.
+fn answer_next<I: Read, O: Write>(
+    stepping: &mut Stepping,
+    number: u64,
+    lines: &mut Lines,
+    input: &mut I,
+    out: &mut O,
+) -> Result<bool, Fault>
+    ensures more { IfOk result (λ some. some ≡ true → FromSoFar
+        (prepend_known lines.old.waiting (I.remaining input.old)) (O.contents out.old) number stepping.old
+        (λ given before. SoFar given before (prepend_known lines.new.waiting (I.remaining input.new))
+        (O.contents out.new) (number + 1) stepping.new)) }
+    ensures all { IfOk result (λ some. some ≡ false → FromSoFar
+        (prepend_known lines.old.waiting (I.remaining input.old)) (O.contents out.old) number stepping.old
+        (λ given before. WroteAll given before (O.contents out.new))) }
+    ensures fault { IfErr result (λ fault. FromSoFar
+        (prepend_known lines.old.waiting (I.remaining input.old)) (O.contents out.old) number stepping.old
+        (λ given before. LeavesBy given before (O.contents out.new) fault)) }
+{
+    match lines.next(input) {
+        Ok(true) => {
+            let Ok(text) = stepping.answer(number, lines.line()) else {
+                return Err(Fault::Memory);
+            };
+            write_out(&text, out)?;
+            Ok(true)
+        }
+        Ok(false) => {
+            let Ok(last) = stepping.end() else {
+                return Err(Fault::Memory);
+            };
+            write_out(&last, out)?;
+            Ok(false)
+        }
+        Err(LinesError::Read) => Err(Fault::Read),
+        Err(LinesError::Memory) => Err(Fault::Memory),
     }
 }
