@@ -1,6 +1,5 @@
 -- The records on the lines of a block, whatever lines follow.
-use Rattle.std.proofs.Common.{◌≡◌, ℕ, ◌+◌, ◌<◌, ◌≤◌, List, ◌∷◌, ◌++◌, length, Result, Ok, Err, refl, sym, ap, subst, ◌∙◌, append_assoc, arith}
-use Rattle.std.specs.Result.{IfErr, IsErrAnd}
+use Rattle.std.proofs.Common.{◌≡◌, ℕ, ◌+◌, ◌<◌, ◌≤◌, List, ◌∷◌, ◌++◌, length, Result, Ok, Err, refl, sym, ap, ◌∙◌, append_assoc, arith}
 use Rattle.kq_model.specs.declared.event.Event.{Event}
 use Rattle.kq_model.specs.declared.line_fault.LineFault.{LineFault}
 use Rattle.kq_model.specs.Limits.{most_records}
@@ -10,12 +9,6 @@ use Rattle.kq_trace.specs.declared.fault.TraceError.TheVariants.{Memory as NoMem
 use Rattle.kq_trace.specs.Batches.{AreRecordsAnywhere}
 use Rattle.kq_trace.specs.Unread.{AreRecordsFrom, behind_events, IsFaultAhead, IsFaultFrom}
 use Rattle.kq_trace.proofs.PutTogether.{counted, followed_by, lines_followed}
-
--- an error that is passed on
-pub error_passed : {A : Type 0} (r : Result A TraceError) (error : TraceError) (P : TraceError → Type 0)
-    → IsErrAnd r (λ e. e ≡ error) → P error → IfErr r P
-error_passed (Ok x) error P is holds = tt
-error_passed (Err e) error P is holds = subst P (sym is) holds
 
 pub read_from : (number : ℕ) (all lines : List (List ℕ)) (events : List Event) → all ≡ lines
     → ((version : ℕ) → read_records version number lines ≡ Good version events) → number + length events ≤ 2 + most_records

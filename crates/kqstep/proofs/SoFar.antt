@@ -2,7 +2,6 @@
 use Rattle.std.proofs.Common.{◌≡◌, ◌∙◌, ℕ, ◌+◌, List, [], ◌∷◌, ◌++◌, length, Option, None, Some, Result, Ok, Err, refl, sym, ap, ap₂, subst, arith, append_assoc, append-nil, length-append, IfErr}
 use Rattle.std.specs.Io.KnownBytes.{Appends}
 use Rattle.std.proofs.KnownBytes.{Appends-nil, Appends-trans, Keeps-refl}
-use Rattle.std.specs.Result.{IsErrAnd}
 use Rattle.kq_input.specs.Unread.{IsLastLine, IsNextLine}
 use Rattle.kq_model.specs.Reading.{record_on, version_on}
 use Rattle.kqstep.specs.declared.fault.Fault.{Fault}
@@ -14,11 +13,6 @@ use Rattle.kqstep.specs.Stepping.{Standing, after_line, answer_line, answer_line
 use Rattle.kqstep.specs.Stood.{IsAt, Stood}
 use Rattle.kqstep.proofs.AnswerLaws.{have_report}
 use Rattle.kqstep.proofs.LinesRead.{all_read, begins, line_read}
-
--- an error that is passed on
-pub fault_passed : {A : Type 0} (r : Result A Fault) (fault : Fault) (P : Fault → Type 0) → IsErrAnd r (λ f. f ≡ fault) → P fault → IfErr r P
-fault_passed (Ok x) fault P is holds = tt
-fault_passed (Err f) fault P is holds = subst P (sym is) holds
 
 -- ---- before the first record
 

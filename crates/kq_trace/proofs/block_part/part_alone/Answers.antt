@@ -1,9 +1,10 @@
 -- The lines are read, or one of them is bad, or there is a line too many.
 use Rattle.std.proofs.Common.{Bor, ◌≡◌, ℕ, ◌+◌, ◌-◌, ◌<◌, ◌≤◌, ◌++◌, List, length, rules, tests, sym, ap, ◌∙◌, append-nil, arith}
 use Rattle.std.proofs.lemmas.List.{length-map}
+use Rattle.kq_model.proofs.Results.{error_passed}
 use Rattle.kq_trace.specs.Rest.{lines_behind, texts}
 use Rattle.kq_trace.specs.Unread.{IsFaultFrom}
-use Rattle.kq_trace.proofs.BlockRecords.{error_passed, faulty_from, late_from, read_from}
+use Rattle.kq_trace.proofs.BlockRecords.{faulty_from, late_from, read_from}
 use Rattle.kq_trace.proofs.LinesCut.{no_lines}
 use Rattle.kq_trace.proofs.PutTogether.{counted}
 use Rattle.kq_trace.proofs.TraceLines.{empty_list}

@@ -2,9 +2,10 @@
 use Rattle.std.proofs.Common.{◌∙◌, subst, sym}
 use Rattle.std.specs.Io.KnownBytes.{Appends, prepend_known}
 use Rattle.kq_input.specs.Unread.{IsNextLine}
+use Rattle.kq_model.proofs.Results.{error_passed}
 use Rattle.kqstep.specs.Run.{LeavesBy}
 use Rattle.kqstep.specs.SoFar.{FromSoFar}
-use Rattle.kqstep.proofs.SoFar.{all_answered, end_cut, fault_passed, next_answered, next_cut, standing_of}
+use Rattle.kqstep.proofs.SoFar.{all_answered, end_cut, next_answered, next_cut, standing_of}
 use Rattle.kqstep.proofs.answering.answer_next.Goals as goal
 
 pub returns-in_err-write_out-in-Ok-true-clause-fault : goal.returns-in_err-write_out-in-Ok-true-clause-fault
@@ -19,7 +20,7 @@ returns-in_err-write_out-in-Ok-true-clause-fault g c =
     subst (IsNextLine 1048577 left later) (sym c.line.ensures.kept) (c.in-Ok-true.ensures.line c.in-Ok-true.field-0-test) in
     let part = c.in_err-write_out-in-Ok-true.ensures.part in
     let said = c.in-Ok.ensures.said in
-    fault_passed c.from_residual.result c.in_err-write_out-in-Ok-true.field-0.0
+    error_passed c.from_residual.result c.in_err-write_out-in-Ok-true.field-0.0
     (λ fault. FromSoFar left out c.args.number stood (λ given before. LeavesBy given before end fault))
     c.from_residual.ensures.1
     (λ given before so_far. subst (LeavesBy given before end) (sym c.in_err-write_out-in-Ok-true.ensures.fault)
@@ -34,7 +35,7 @@ returns-in_err-write_out-in-Ok-false-clause-fault g c =
     let stood = c.args.stepping.now in
     let part = c.in_err-write_out-in-Ok-false.ensures.part in
     let said = c.in-Ok-end.ensures in
-    fault_passed c.from_residual-in_err-write_out-in-Ok-false.result c.in_err-write_out-in-Ok-false.field-0.0
+    error_passed c.from_residual-in_err-write_out-in-Ok-false.result c.in_err-write_out-in-Ok-false.field-0.0
     (λ fault. FromSoFar left out c.args.number stood (λ given before. LeavesBy given before end fault))
     c.from_residual-in_err-write_out-in-Ok-false.ensures.1
     (λ given before so_far. subst (LeavesBy given before end) (sym c.in_err-write_out-in-Ok-false.ensures.fault)
