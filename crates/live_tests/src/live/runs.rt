@@ -1,4 +1,6 @@
 //! A trace that many threads run.
+ghost use Rattle.std.specs.Prelude.{◌≤◌};
+
 use super::{TRIGGER, add, poll};
 use kq_gate::{Always, Gate, Open, Starts};
 use kq_live::{Book, live_run};
@@ -52,13 +54,15 @@ fn counted(book: &Book) -> Result<Counts, Memory> {
     Ok((book.len(), rows.len(), returned(rows.as_slice())))
 }
 
-// The book of a trace that so many threads run has so much.
+// How much is in the book of a trace that so many threads run.
 fn ran<R: AllocGlobal + Threads + Wait + Sync, G: Gate + Sync>(
     rt: &R,
     gate: &G,
     trace: &Trace,
     threads: u32,
-) -> Result<Counts, Fail> {
+) -> Result<Counts, Fail>
+    requires { (1 ≤ threads) × (threads ≤ 64) }
+{
     let book = live_run(rt, rt.alloc(), gate, &Always, trace, threads)?;
     Ok(counted(&book)?)
 }
