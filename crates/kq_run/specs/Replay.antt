@@ -4,11 +4,14 @@ use Rattle.std.specs.Prelude.{◌≡◌, ◌≤◌, ℕ, List, length, Option}
 use Rattle.std.specs.List.Sorted.{IsPermutation}
 use Rattle.kq_model.specs.declared.event.Event.{Event}
 use Rattle.kq_model.specs.declared.row.Row.{Row}
+use Rattle.kq_model.specs.declared.trace.Trace.{Trace}
 use Rattle.kq_model.specs.OwnedRows.{Rise}
 use Rattle.kq_model.specs.Reading.{Good, Bad, reading}
 use Rattle.kq_model.specs.Report.{report_of}
 use Rattle.kq_model.specs.System.{rows}
-use Rattle.kq_history.specs.Traced.{births_of}
+use Rattle.kq_history.specs.declared.splitting.Splitting.{Splitting}
+use Rattle.kq_history.specs.Splitting.{IsSplitSoFar}
+use Rattle.kq_history.specs.Traced.{births_of, traced}
 use Rattle.kq_trace.specs.Source.{Ahead, WereGiven, Had as HadAhead}
 use Rattle.kq_run.specs.Workers.{IsWorkerCount}
 use Rattle.kq_run.specs.declared.replayed.Replayed.{Replayed}
@@ -64,6 +67,12 @@ IsReplayed bytes r =
 -- the trace that a source had was read and replayed
 abbrev pub IsReplayedFrom : Ahead → Replayed → Type 0
 IsReplayedFrom ahead r = (bytes : List ℕ) × HadAhead ahead bytes × IsReplayed bytes r
+
+-- the trace that a source had was read and split
+abbrev pub IsSplitFrom : Ahead → Trace → Splitting → Type 0
+IsSplitFrom ahead trace splitting =
+    (bytes : List ℕ) × HadAhead ahead bytes × (reading bytes ≡ Good trace.version trace.events)
+    × IsSplitSoFar (traced trace) splitting
 
 -- the text is the report of the trace that a source had
 abbrev pub IsReportFrom : Ahead → List ℕ → Type 0

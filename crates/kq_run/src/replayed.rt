@@ -1,14 +1,16 @@
 //! The rows of a trace: it is split while it is read, and each of its kqueues is replayed alone.
 
 ghost use Rattle.std.specs.Prelude.{IfErr, IfOk};
-ghost use Rattle.kq_run.specs.Replay.{AreRowsOf, IsReplayedFrom, IsReplayFault, IsSourceFault};
+ghost use Rattle.kq_history.specs.Splitting.{IsSplitSoFar};
+ghost use Rattle.kq_history.specs.Traced.{traced};
+ghost use Rattle.kq_run.specs.Replay.{AreRowsOf, IsReplayedFrom, IsReplayFault, IsSourceFault, IsSplitFrom};
 ghost use Rattle.kq_run.specs.Workers.{IsWorkerCount};
 
 use crate::fault::Fault;
 use crate::splitter::Splitter;
 use crate::workers::threads_of;
 use kq_gate::{Gate, Starts};
-use kq_history::{Spent, Split};
+use kq_history::{Spent, Split, Splitting};
 use kq_merge::RowLists;
 use kq_model::{Series, Trace};
 use kq_replay::{RunFault, replay_all_with};
@@ -39,18 +41,49 @@ impl Replayed {
         ensures replayed { IfOk result (IsReplayedFrom (I.ahead source.old)) }
         ensures fault { IfErr result (IsSourceFault I.may_fail (I.ahead source.old) workers) }
     {
-        let mut splitter = Splitter::new(rt.alloc())?;
-        let version = read_trace_into(rt, source, threads_of(workers), &mut splitter)?;
-        let Splitter { splitting, kept } = splitter;
-        let trace = Trace {
-            version,
-            events: Series::from_vec(kept.into_events()),
-        };
-        let split = splitting.end(&trace);
-        let rows = rows_of(rt, &split, workers, gate, starts)?;
-        let spent = split.spend();
+        let (trace, splitting) = split_from(rt, source, workers)?;
+        let (rows, spent) = replay_split(rt, &trace, splitting, workers, gate, starts)?;
         Ok(Replayed { trace, rows, spent })
     }
+}
+
+/// Reads the trace that a source has, and splits it.
+fn split_from<R: AllocGlobal + Threads + Sync, I: Source + Send>(
+    rt: &R,
+    source: &mut I,
+    workers: u32,
+) -> Result<(Trace, Splitting), Fault>
+    requires { IsWorkerCount workers }
+    ensures split { IfOk result (λ r. IsSplitFrom (I.ahead source.old) r.0 r.1) }
+    ensures fault { IfErr result (IsSourceFault I.may_fail (I.ahead source.old) workers) }
+{
+    let mut splitter = Splitter::new(rt.alloc())?;
+    let version = read_trace_into(rt, source, threads_of(workers), &mut splitter)?;
+    let Splitter { splitting, kept } = splitter;
+    let trace = Trace {
+        version,
+        events: Series::from_vec(kept.into_events()),
+    };
+    Ok((trace, splitting))
+}
+
+/// The rows of a trace that was split, and what the split kept.
+fn replay_split<R: AllocGlobal + Threads + Wait + Sync, G: Gate + Sync, S: Starts>(
+    rt: &R,
+    trace: &Trace,
+    splitting: Splitting,
+    workers: u32,
+    gate: &G,
+    starts: &S,
+) -> Result<(RowLists, Spent), Fault>
+    requires workers { IsWorkerCount workers }
+    requires split { IsSplitSoFar (traced trace.now) splitting }
+    ensures rows { IfOk result (λ r. AreRowsOf trace.now.version trace.now.events r.0) }
+    ensures fault { IfErr result (IsReplayFault trace.now.version trace.now.events workers) }
+{
+    let split = splitting.end(trace);
+    let rows = rows_of(rt, &split, workers, gate, starts)?;
+    Ok((rows, split.spend()))
 }
 
 /// The rows of a trace that was split: each of its kqueues is replayed alone, and those of impossible records are put

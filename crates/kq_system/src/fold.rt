@@ -2,9 +2,10 @@ ghost use Rattle.std.specs.Prelude.{◌≡◌, ◌++◌, IfOk, OnOk};
 ghost use Rattle.kq_model.specs.ClosedNumbers.{AlwaysClosesAll};
 ghost use Rattle.kq_model.specs.Hearing.{listed};
 ghost use Rattle.kq_model.specs.Objects as objects;
-ghost use Rattle.kq_model.specs.System.{empty_system, row_of, rows};
+ghost use Rattle.kq_model.specs.System.{empty_system, row_of, rows, rows_after};
 ghost use Rattle.kq_model.specs.VersionOne as one;
 ghost use Rattle.kq_model.specs.WatchedNumbers.{AlwaysWatchTheirNumbers};
+ghost use Rattle.kq_system.specs.SystemState.{system_of};
 
 use crate::System;
 use kq_model::{Memory, Reply, Row, Trace};
@@ -29,13 +30,21 @@ impl System {
             (empty_system {h = listed} {k = objects.listed} trace.now.version) trace.now.events }
     {
         let mut system = System::new(alloc, trace.version)?;
-        let mut rows = Vec::new(alloc);
-        for event in trace.events.as_slice() {
-            let reply = system.apply(event)?;
-            put_row(&mut rows, system.applied(), reply)?;
-        }
-        Ok(rows)
+        rows_from(alloc, &mut system, trace)
     }
+}
+
+/// The rows of a trace, as a system carries its records out that carried out none before.
+fn rows_from(alloc: Global, system: &mut System, trace: &Trace) -> Result<Vec<Row>, Memory>
+    requires { system.old.applied ≡ 0 }
+    ensures { IfOk result (λ rs. rs.items ≡ rows_after 1 (system_of system.old) trace.now.events) }
+{
+    let mut rows = Vec::new(alloc);
+    for event in trace.events.as_slice() {
+        let reply = system.apply(event)?;
+        put_row(&mut rows, system.applied(), reply)?;
+    }
+    Ok(rows)
 }
 
 /// Adds the row of the reply to the record at a place, if it has one.

@@ -8,7 +8,7 @@ use Rattle.kq_model.specs.System.{empty_system}
 use Rattle.kq_model.specs.Tallied.{System}
 use Rattle.kqcheck.specs.declared.outcome.Outcome.{Outcome}
 use Rattle.kqcheck.specs.declared.verdict.Verdict.{Verdict}
-use Rattle.kqcheck.specs.Judged.{EndsAt, GoesOn, IsJudged, IsJudgedFrom, ended}
+use Rattle.kqcheck.specs.Judged.{EndsAt, GoesOn, IsJudgedFrom, ended}
 use Rattle.kqcheck.specs.Replies.{behind_place, given_at}
 use Rattle.kqcheck.specs.Stepped.{IsStepped}
 
@@ -46,14 +46,13 @@ one_on ignored permits applied at after s next events i e answers behind given f
     from_here ignored permits (applied + 1) s events i e answers first o lt is
     (v, next, subst S there stepped, inr (later, subst G here goes, subst T one (subst R then rest)))
 
-pub from_start : (ignored : List Ignored) (permits : Bool) (version applied : ℕ) (s : System) (events all : List Event) (answers : List Answer) (o : Outcome)
-    → applied ≡ 0 → s ≡ empty_system version → events ≡ all
-    → IsJudgedFrom ignored permits (applied + 1) s events answers None o → IsJudged ignored permits version all answers o
-from_start ignored permits version applied s events all answers o none empty same judged =
+pub from_start : (ignored : List Ignored) (permits : Bool) (applied : ℕ) (s : System) (events all : List Event) (answers : List Answer) (o : Outcome)
+    → applied ≡ 0 → events ≡ all
+    → IsJudgedFrom ignored permits (applied + 1) s events answers None o → IsJudgedFrom ignored permits 1 s all answers None o
+from_start ignored permits applied s events all answers o none same judged =
     let N : ℕ → Type 0 = λ n. IsJudgedFrom ignored permits (n + 1) s events answers None o in
-    let S : System → Type 0 = λ x. IsJudgedFrom ignored permits (0 + 1) x events answers None o in
-    let E : List Event → Type 0 = λ es. IsJudgedFrom ignored permits 1 (empty_system version) es answers None o in
-    subst E same (subst S empty (subst N none judged))
+    let E : List Event → Type 0 = λ es. IsJudgedFrom ignored permits 1 s es answers None o in
+    subst E same (subst N none judged)
 
 none_left : (events : List Event) (i : ℕ) → length events ≤ i → drop i events ≡ []
 none_left [] zero end = refl

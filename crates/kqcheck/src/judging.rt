@@ -1,9 +1,9 @@
 //! The answers to a trace, one record after the other.
 
-ghost use Rattle.std.specs.Prelude.{◌≡◌, ◌+◌, ◌-◌, ◌^◌, ◌<◌, IfOk, OnOk};
+ghost use Rattle.std.specs.Prelude.{◌≡◌, ◌+◌, ◌-◌, ◌^◌, ◌<◌, None, IfOk, OnOk};
 ghost use Rattle.std.specs.Option.{option_map};
 ghost use Rattle.kq_system.specs.SystemState.{system_of};
-ghost use Rattle.kqcheck.specs.Judged.{IsJudged, IsNext, ended};
+ghost use Rattle.kqcheck.specs.Judged.{IsJudged, IsJudgedFrom, IsNext, ended};
 ghost use Rattle.kqcheck.specs.Replies.{behind_place, given_at};
 ghost use Rattle.kqcheck.specs.Stepped.{IsArranged, IsArrangedOf, IsOrder, IsRead, IsStepped};
 ghost use Rattle.kq_system.specs.Beginning.{live_named};
@@ -219,6 +219,21 @@ pub fn judge_all(
     ensures { IfOk result (IsJudged ignored.now permits trace.now.version trace.now.events answers.now) }
 {
     let mut system = System::new(alloc, trace.version)?;
+    judge_from(alloc, &mut system, trace, answers, ignored, permits)
+}
+
+/// The same, as a system carries the records out that carried out none before.
+fn judge_from(
+    alloc: Global,
+    system: &mut System,
+    trace: &Trace,
+    answers: &[Answer],
+    ignored: &[Ignored],
+    permits: bool,
+) -> Result<Outcome, Memory>
+    requires { system.old.applied ≡ 0 }
+    ensures { IfOk result (IsJudgedFrom ignored.now permits 1 (system_of system.old) trace.now.events answers.now None) }
+{
     let mut rest = answers;
     let mut first = None;
     let events = trace.events.as_slice();
@@ -226,7 +241,7 @@ pub fn judge_all(
         let at = system.applied() + 1;
         let (given, behind) = answer_at(rest, at);
         rest = behind;
-        let verdict = step(alloc, &mut system, event, given, ignored)?;
+        let verdict = step(alloc, system, event, given, ignored)?;
         match next_of(verdict, at, first, permits) {
             Next::On(later) => first = later,
             Next::Over(outcome) => return Ok(outcome),

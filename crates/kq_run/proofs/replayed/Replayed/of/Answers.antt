@@ -1,49 +1,24 @@
--- What the sink took is the trace, and it is split.
-use Rattle.std.proofs.Common.{◌≡◌, rules, ap, sym, subst, ◌∙◌}
-use Rattle.kq_history.specs.Splitting.{IsSplitSoFar}
-use Rattle.kq_history.specs.Traced.{Traced}
-use Rattle.kq_model.specs.Reading.{Good}
-use Rattle.kq_run.specs.Fault.{input_fault_of}
-use Rattle.kq_run.specs.Replay.{AreRowsOf, IsReplayFault, IsSourceFault}
+-- The rows of the trace that was read and split.
+use Rattle.kq_run.specs.Replay.{IsSourceFault}
 use Rattle.kq_model.proofs.Results.{error_passed}
-use Rattle.kq_run.proofs.ReplayedTraces.{read_source_fault, source_fault_of_replay}
+use Rattle.kq_run.proofs.ReplayedTraces.{source_fault_of_replay}
 use Rattle.kq_run.proofs.replayed.Replayed.of.Goals as goal
 
-pub returns-in_err-version-clause-fault : goal.returns-in_err-version-clause-fault
-returns-in_err-version-clause-fault g c =
+pub replay_split-requires-clause-split : goal.replay_split-requires-clause-split
+replay_split-requires-clause-split g c = let (bytes, had, (means, split)) = c.in_ok-split_from.ensures.split in split
+
+pub returns-in_err-replay_split-clause-fault : goal.returns-in_err-replay_split-clause-fault
+returns-in_err-replay_split-clause-fault g c =
     let may_fail = g.I.Source.may_fail in
     let ahead = g.I.Source.ahead c.args.source.now in
-    let error = c.in_err-version.field-0.0 in
-    error_passed c.from_residual-in_err-version.result (input_fault_of error) (IsSourceFault may_fail ahead c.args.workers)
-    c.from_residual-in_err-version.ensures.1 (read_source_fault may_fail ahead c.args.workers error c.in_err-version.ensures.bad)
-
-pub end-split-requires : goal.end-split-requires
-end-split-requires g c =
-    let version = c.in_ok-version.version in
-    let good = c.in_ok-version.ensures.good in
-    let same : c.from_vec.result ≡ good.0 = search rules in
-    subst (λ es. IsSplitSoFar (record { version = version; events = es }) c.read_trace_into.new.sink.splitting) (sym same) (good.2.0 version)
-
-pub returns-in_err-rows-clause-fault : goal.returns-in_err-rows-clause-fault
-returns-in_err-rows-clause-fault g c =
-    let may_fail = g.I.Source.may_fail in
-    let ahead = g.I.Source.ahead c.args.source.now in
-    let version = c.in_ok-version.version in
-    let events = c.from_vec.result in
-    let good = c.in_ok-version.ensures.good in
-    let same : events ≡ good.0 = search rules in
-    let fault = c.in_err-rows.field-0.0 in
-    let is : IsReplayFault version events c.args.workers fault =
-    subst (λ (t : Traced). IsReplayFault t.version t.events c.args.workers fault) c.end-split.ensures c.in_err-rows.ensures.fault in
-    error_passed c.from_residual-in_err-rows.result fault (IsSourceFault may_fail ahead c.args.workers) c.from_residual-in_err-rows.ensures.1
-    (source_fault_of_replay may_fail ahead c.args.workers version events good.1.bytes good.1.had (good.1.means ∙ ap (Good version) (sym same)) fault is)
+    let trace = c.in_ok-split_from.trace in
+    let fault = c.in_err-replay_split.field-0.0 in
+    let (bytes, had, (means, split)) = c.in_ok-split_from.ensures.split in
+    error_passed c.from_residual-in_err-replay_split.result fault (IsSourceFault may_fail ahead c.args.workers)
+    c.from_residual-in_err-replay_split.ensures.1
+    (source_fault_of_replay may_fail ahead c.args.workers trace.version trace.events bytes had means fault c.in_err-replay_split.ensures.fault)
 
 pub returns-clause-replayed : goal.returns-clause-replayed
 returns-clause-replayed g c =
-    let version = c.in_ok-version.version in
-    let events = c.from_vec.result in
-    let good = c.in_ok-version.ensures.good in
-    let same : events ≡ good.0 = search rules in
-    let are : AreRowsOf version events c.in_ok-rows.rows =
-    subst (λ (t : Traced). AreRowsOf t.version t.events c.in_ok-rows.rows) c.end-split.ensures c.in_ok-rows.ensures.rows in
-    (good.1.bytes, good.1.had, (good.1.means ∙ ap (Good version) (sym same), are))
+    let (bytes, had, (means, split)) = c.in_ok-split_from.ensures.split in
+    (bytes, had, (means, c.in_ok-replay_split.ensures.rows))
