@@ -17,8 +17,9 @@ TRACE_CHECK := crates/trace_check/out/trace_check
 REPLAY_BENCH := crates/replay_bench/out/replay_bench
 EXAMPLE ?= examples/doorbell.trace
 PREFIX ?= /usr/local
-# How many crates are proved side by side; each takes up to 3 GB.
-JOBS ?= $(shell nproc)
+# How many crates are begun side by side: twice as many as there are processors, since some wait for others. One that is
+# proved takes up to 3 GB.
+JOBS ?= $(shell echo $$((2 * $$(nproc))))
 
 .PHONY: all libkqsim libkqsim-joined run test bench install install-man
 
