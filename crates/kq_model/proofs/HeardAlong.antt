@@ -1,6 +1,6 @@
 -- A knote that is told hints one after the other becomes what the definition of a record's hints makes of it.
-use Rattle.std.proofs.Common.{◌≡◌, ◌+◌, ◌==◌, min, Bool, true, false, cond, ◌&&◌, ◌||◌, List, [], ◌∷◌, filter, Option, Some, None, refl, sym, ap, ◌∙◌, subst, arith, if◌then◌else◌}
-use Rattle.std.proofs.lemmas.Bool.{true≢false, eqb-true, and_parts}
+use Rattle.std.proofs.Common.{◌≡◌, ◌+◌, ◌==◌, min, Bool, true, false, cond, not, ◌&&◌, ◌||◌, List, [], ◌∷◌, filter, Option, Some, None, refl, sym, ap, ◌∙◌, subst, arith, if◌then◌else◌}
+use Rattle.std.proofs.lemmas.Bool.{true≢false, ne_eqb, and_parts}
 use Rattle.std.specs.List.{list_any}
 use Rattle.std.specs.Option.{is_none}
 use Rattle.kq_model.specs.declared.filter.Filter.{Filter}
@@ -9,7 +9,7 @@ use Rattle.kq_model.specs.declared.key.Key.{Key}
 use Rattle.kq_model.specs.declared.object.Hint.{Hint}
 use Rattle.kq_model.specs.declared.object.View.{View}
 use Rattle.kq_model.specs.ChangedKnote.{activated}
-use Rattle.kq_model.specs.Hearing.{Hearing, Occurrence, Told, Tally, tallying, most_counted}
+use Rattle.kq_model.specs.Hearing.{Hearing, Occurrence, Told, Tally, tallying, is_counted, most_counted}
 use Rattle.kq_model.specs.Hints.{takes, kept, is_exit, is_done, added, heard_by, hears_exit, after_hint, hints_for, unless_silent, noticed}
 use Rattle.kq_model.specs.Knote.{Knote, has_nothing}
 use Rattle.kq_model.specs.Look.{Seen, look, look_by, look_user, mark_of, notice_or}
@@ -249,11 +249,9 @@ module _ {S : Type 0} {h : Hearing S} where
     noticed-told views posted k hint hints is =
         noticed-along views hint hints k (subst (AreTaken k.key.filter) is (taken-filter k.key.filter _))
 
--- a tally that counted something is not empty
+-- a tally that heard something is not empty
 pub tally-hears : (x : Occurrence) (t : Tally) → tallying.is_empty (tallying.heard x t) ≡ false
 tally-hears x t =
-    let n = min (t.count + 1) most_counted in
-    by_test (λ b. (n == 0) ≡ b → b ≡ false) (n == 0) (λ _ is. absurd (nothing (eqb-true n 0 is))) (λ _ _. refl) refl
-  where
-    nothing : min (t.count + 1) most_counted ≡ 0 → ⊥
-    nothing e = omega (arith, e)
+    by_test (λ b. (cond b (min (t.count + 1) most_counted) t.count == 0) && not (not b || t.others) ≡ false) (is_counted x)
+    (λ _. ap (λ b. b && not t.others) (ne_eqb (min (t.count + 1) most_counted) 0 (λ e. omega (arith, e))))
+    (λ _. and_false (t.count == 0))

@@ -98,6 +98,17 @@ module _ {S : Type 0} {h : Hearing S} where
   with_knote-absent k (x ∷ ks) absent =
       ap (λ b. put k x b ∷ with_knote k ks) (find_knote-head k.key x ks absent) ∙ ap (λ rest. x ∷ rest) (with_knote-absent k ks (find_knote-tail k.key x ks absent))
 
+  -- a knote that is there takes its own place
+  pub with_knote-own : (k : Knote h) (ks : List (Knote h)) → HaveOwnKeys ks → find_knote k.key ks ≡ Some k → with_knote k ks ≡ ks
+  unfolding find_knote
+  with_knote-own k [] own found = refl
+  with_knote-own k (x ∷ ks) own found =
+      by_test (λ b. key_eq k.key x.key ≡ b → found_at k.key x ks b ≡ Some k → put k x b ∷ with_knote k ks ≡ x ∷ ks) (key_eq k.key x.key)
+      (λ _ same here.
+      let absent = subst (λ (key : Key). find_knote key ks ≡ None) (sym (same_key k.key x.key same)) own.0 in
+      ap (λ rest. k ∷ rest) (with_knote-absent k ks absent) ∙ ap (λ (n : Knote h). n ∷ ks) (sym (same_Some x k here)))
+      (λ _ _ there. ap (λ rest. x ∷ rest) (with_knote-own k ks own.1 there)) refl found
+
   -- ---- a knote taken out
 
   abbrev kept : Knote h → List (Knote h) → Bool → List (Knote h)

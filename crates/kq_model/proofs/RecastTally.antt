@@ -1,18 +1,30 @@
 -- A tally keeps of a list all that the definitions ask for.
-use Rattle.std.proofs.Common.{◌≡◌, ℕ, ◌+◌, min, List, [], ◌∷◌, ◌++◌, length, eqb, refl, ap, ◌∙◌, arith}
+use Rattle.std.proofs.Common.{◌≡◌, ℕ, suc, ◌+◌, min, Bool, true, false, cond, not, ◌&&◌, ◌||◌, List, [], ◌∷◌, ◌++◌, filter, length, eqb, refl, ap, ◌∙◌, arith}
 use Rattle.std.proofs.lemmas.List.{length-append}
+use Rattle.std.proofs.lemmas.List.Elements.{filter-append}
+use Rattle.std.proofs.lemmas.List.Folds.{list_any-append}
 use Rattle.std.proofs.lemmas.List.Sums.{fold-append}
-use Rattle.std.proofs.lemmas.Bool.{ne_eqb}
+use Rattle.std.proofs.lemmas.Bool.{and_right, or_right, ne_eqb}
 use Rattle.std.specs.Int.RustNames.{bit_or}
-use Rattle.kq_model.specs.Hearing.{Occurrence, Tally, listed, tallying, notes_of, union, is_none_of, most_counted}
+use Rattle.kq_model.specs.Hearing.{Occurrence, Tally, listed, tallying, notes_of, is_counted, counted_in, has_other, union, is_none_of, most_counted}
 use Rattle.kq_model.specs.Recast.{IsHearingMap, tally_of}
+use Rattle.kq_model.proofs.KnoteLaws.{by_test}
 
-abbrev tally : ℕ → ℕ → Tally
-tally count notes = record { count = count; notes = notes }
+abbrev tally : ℕ → ℕ → Bool → Tally
+tally count notes others = record { count = count; notes = notes; others = others }
+
+-- as many, and one more where that is counted
+abbrev count_with : Bool → ℕ → ℕ
+count_with counts n = cond counts (min (n + 1) most_counted) n
 
 -- one more, counted up to the most
-count-more : (xs : List Occurrence) (x : Occurrence) → min (length (xs ++ x ∷ [])) most_counted ≡ min (min (length xs) most_counted + 1) most_counted
-count-more xs x = rw (length-append xs (x ∷ [])) (omega arith)
+count-more : (xs : List Occurrence) (x : Occurrence) → min (counted_in (xs ++ x ∷ [])) most_counted
+    ≡ count_with (is_counted x) (min (counted_in xs) most_counted)
+count-more xs x =
+    let of = filter is_counted xs in
+    ap (λ ys. min (length ys) most_counted) (filter-append is_counted xs (x ∷ []))
+    ∙ by_test (λ b. min (length (of ++ cond b (x ∷ []) [])) most_counted ≡ count_with b (min (length of) most_counted)) (is_counted x)
+    (λ _. omega (arith, length-append of (x ∷ []))) (λ _. omega (arith, length-append {A = Occurrence} of []))
 
 -- what is counted up to the most is within it
 counted-once : (n : ℕ) → min (min n most_counted) most_counted ≡ min n most_counted
@@ -21,16 +33,38 @@ counted-once n = omega arith
 union-more : (xs : List Occurrence) (x : Occurrence) → union (xs ++ x ∷ []) ≡ bit_or (union xs) (notes_of x)
 union-more xs x = fold-append (λ bits y. bit_or bits (notes_of y)) 0 xs (x ∷ [])
 
-counts_none : (xs : List Occurrence) → eqb (min (length xs) most_counted) 0 ≡ is_none_of xs
+others-more : (xs : List Occurrence) (x : Occurrence) → has_other (xs ++ x ∷ []) ≡ not (is_counted x) || has_other xs
+others-more xs x =
+    list_any-append (λ y. not (is_counted y)) xs (x ∷ [])
+    ∙ by_test (λ b. has_other xs || (not b || false) ≡ not b || has_other xs) (is_counted x)
+    (λ _. or_false (has_other xs)) (λ _. or_right (has_other xs) true refl)
+  where
+    or_false : (b : Bool) → b || false ≡ b
+    or_false true = refl
+    or_false false = refl
+
+heard-more : (x : Occurrence) (xs : List Occurrence) → tally_of (listed.heard x xs) ≡ tallying.heard x (tally_of xs)
+heard-more x xs =
+    let more = xs ++ x ∷ [] in
+    let count = count_with (is_counted x) (min (counted_in xs) most_counted) in
+    ap (λ n. tally n (union more) (has_other more)) (count-more xs x)
+    ∙ ap (λ n. tally count n (has_other more)) (union-more xs x)
+    ∙ ap (tally count (bit_or (union xs) (notes_of x))) (others-more xs x)
+
+counts_none : (xs : List Occurrence) → eqb (min (counted_in xs) most_counted) 0 && not (has_other xs) ≡ is_none_of xs
 unfolding is_none_of
 counts_none [] = refl
-counts_none (x ∷ xs) = ne_eqb (min (length (x ∷ xs)) most_counted) 0 (λ e. omega arith)
+counts_none (x ∷ xs) =
+    let of = filter is_counted xs in
+    by_test (λ b. eqb (min (length (cond b (x ∷ of) of)) most_counted) 0 && not (not b || has_other xs) ≡ false) (is_counted x)
+    (λ _. ap (λ b. b && not (has_other xs)) (ne_eqb (min (suc (length of)) most_counted) 0 (λ e. omega arith)))
+    (λ _. and_right (eqb (min (length of) most_counted) 0) false refl)
 
 pub tally_of-map : IsHearingMap listed tallying tally_of
 tally_of-map = record {
   empty = refl;
-  heard = λ x xs. ap (λ n. tally n (union (xs ++ x ∷ []))) (count-more xs x) ∙ ap (tally (min (min (length xs) most_counted + 1) most_counted)) (union-more xs x);
-  count = λ xs. counted-once (length xs);
+  heard = heard-more;
+  count = λ xs. counted-once (counted_in xs);
   notes = λ xs. refl;
   is_empty = counts_none;
 }

@@ -1,8 +1,9 @@
 -- What a knote has heard since it was last reset, and how that may be kept: as the list of it all, which
 -- the definitions go by, or as a tally, which serves every filter as well (kqueue(2): events that trigger
 -- a filter more than once come as one kevent, with their number or the union of their notes).
-use Rattle.std.specs.Prelude.{ℕ, ◌+◌, ◌==◌, Bool, true, false, List, [], ◌∷◌, ◌++◌, length, min}
-use Rattle.std.specs.List.{fold}
+use Rattle.std.specs.Prelude.{ℕ, ◌+◌, ◌==◌, Bool, true, false, not, ◌&&◌, ◌||◌, List, [], ◌∷◌, ◌++◌, filter, length}
+use Rattle.std.specs.Prelude.{min, if◌then◌else◌}
+use Rattle.std.specs.List.{fold, list_any}
 use Rattle.std.specs.Int.RustNames.{bit_or}
 use Rattle.kq_model.specs.declared.object.Hint.{Hint}
 use Rattle.kq_model.specs.declared.object.Hint.TheVariants.{Readable, Writable, Note, Delivered, Child}
@@ -21,6 +22,16 @@ notes_of (Told Delivered) = 0
 notes_of (Told (Child pid)) = 0
 notes_of Expired = 0
 
+-- What is counted: SIGNAL gives the number of deliveries, and TIMER that of expirations (kqueue(2)). Of the others it
+-- matters only that one was heard.
+abbrev pub is_counted : Occurrence → Bool
+is_counted (Told Delivered) = true
+is_counted (Told Readable) = false
+is_counted (Told Writable) = false
+is_counted (Told (Note bits)) = false
+is_counted (Told (Child pid)) = false
+is_counted Expired = true
+
 -- how often something is counted at most: 2^63 - 1, the greatest data of a kevent
 abbrev pub most_counted : ℕ
 most_counted = 9223372036854775807
@@ -31,7 +42,7 @@ pub record Hearing (S : Type 0) : Type 0 where
   pub empty : S
   -- one occurrence more
   pub heard : Occurrence → S → S
-  -- how many occurrences, up to the most that is counted
+  -- how many of what is counted, up to the most
   pub count : S → ℕ
   -- the union of their notes
   pub notes : S → ℕ
@@ -46,11 +57,19 @@ unfoldable pub is_none_of : List Occurrence → Bool
 is_none_of [] = true
 is_none_of (x ∷ xs) = false
 
+-- how many of them are counted
+abbrev pub counted_in : List Occurrence → ℕ
+counted_in xs = length (filter is_counted xs)
+
+-- one of them is not counted
+abbrev pub has_other : List Occurrence → Bool
+has_other xs = list_any (λ x. not (is_counted x)) xs
+
 abbrev pub listed : Hearing (List Occurrence)
 listed = record {
   empty = [];
   heard = λ x xs. xs ++ x ∷ [];
-  count = λ xs. min (length xs) most_counted;
+  count = λ xs. min (counted_in xs) most_counted;
   notes = union;
   is_empty = is_none_of;
 }
@@ -60,12 +79,18 @@ listed = record {
 pub record Tally : Type 0 where
   pub count : ℕ
   pub notes : ℕ
+  -- something was heard that is not counted
+  pub others : Bool
 
 abbrev pub tallying : Hearing Tally
 tallying = record {
-  empty = record { count = 0; notes = 0 };
-  heard = λ x t. record { count = min (t.count + 1) most_counted; notes = bit_or t.notes (notes_of x) };
+  empty = record { count = 0; notes = 0; others = false };
+  heard = λ x t. record {
+    count = if is_counted x then min (t.count + 1) most_counted else t.count;
+    notes = bit_or t.notes (notes_of x);
+    others = not (is_counted x) || t.others;
+  };
   count = λ t. min t.count most_counted;
   notes = λ t. t.notes;
-  is_empty = λ t. t.count == 0;
+  is_empty = λ t. t.count == 0 && not t.others;
 }
