@@ -11,6 +11,7 @@ mod cursor;
 mod file_records;
 mod flags;
 mod found;
+mod kinds;
 mod line_reader;
 mod lookup;
 mod members;

@@ -2,22 +2,21 @@
 //!
 //! To add a kind, write
 //! - a function here that looks up each member by its type, tests that there are no others (`width` counts `op`
-//!   too) and makes the event; its branches in [`kind_named`] and [`event_as`];
-//! - in `proofs/records/` an answer like that of `kqueue`, which says that each member is of its type, and one for
-//!   the branch of [`kind_named`];
+//!   too) and makes the event; its branches in `kinds.rt` and [`event_as`];
+//! - in `proofs/records/` an answer like that of `kqueue`, which says that each member is of its type, and one in
+//!   `proofs/kinds/` for the branch there;
 //! - for a member of a type that is new, a look-up in `lookup.rt`, what it says in `specs/Typed.antt`, and a lemma in
 //!   `proofs/LookUps.antt`. A kind of more than `MOST_MEMBERS` members needs that number raised.
 
 ghost use Rattle.std.specs.Prelude.{◌≡◌, IfSome, Some, Ok};
 ghost use Rattle.serde_json.specs.Data.{Members, object};
-ghost use Rattle.kq_model.specs.Kinds.{kind_named};
 ghost use Rattle.kq_model.specs.Reading.{event_of};
 ghost use Rattle.kq_line.specs.Shows.{Shows};
 ghost use Rattle.kq_line.specs.Typed.{IsRecord};
 
-use crate::cursor::is;
 use crate::file_records::{file, note, open, seek, truncate};
 use crate::found::Found;
+use crate::kinds::kind_named;
 use crate::signal_records::{clock, exec, sig, sigset};
 use kq_model::{Event, RecordKind, Series};
 
@@ -262,71 +261,6 @@ fn kevent(found: &Found) -> Option<Event>
         changes: Series::from_vec(changes),
         room,
     })
-}
-
-/// The kind of record of this name.
-fn kind_named(name: &[u8]) -> Option<RecordKind>
-    ensures { IfSome result (λ kind. kind_named name.now ≡ Some kind) }
-{
-    if is(name, b"kevent") {
-        Some(RecordKind::Kevent)
-    } else if is(name, b"read") {
-        Some(RecordKind::Read)
-    } else if is(name, b"write") {
-        Some(RecordKind::Write)
-    } else if is(name, b"rx") {
-        Some(RecordKind::Rx)
-    } else if is(name, b"tx") {
-        Some(RecordKind::Tx)
-    } else if is(name, b"arrive") {
-        Some(RecordKind::Arrive)
-    } else if is(name, b"accept") {
-        Some(RecordKind::Accept)
-    } else if is(name, b"close") {
-        Some(RecordKind::Close)
-    } else if is(name, b"socket") {
-        Some(RecordKind::Socket)
-    } else if is(name, b"connect") {
-        Some(RecordKind::Connect)
-    } else if is(name, b"listen") {
-        Some(RecordKind::Listen)
-    } else if is(name, b"shut") {
-        Some(RecordKind::Shut)
-    } else if is(name, b"lowat") {
-        Some(RecordKind::Lowat)
-    } else if is(name, b"pipe") {
-        Some(RecordKind::Pipe)
-    } else if is(name, b"dup") {
-        Some(RecordKind::Dup)
-    } else if is(name, b"fork") {
-        Some(RecordKind::Fork)
-    } else if is(name, b"exit") {
-        Some(RecordKind::Exit)
-    } else if is(name, b"kqueue") {
-        Some(RecordKind::Kqueue)
-    } else if is(name, b"proc") {
-        Some(RecordKind::Proc)
-    } else if is(name, b"exec") {
-        Some(RecordKind::Exec)
-    } else if is(name, b"sigset") {
-        Some(RecordKind::Sigset)
-    } else if is(name, b"sig") {
-        Some(RecordKind::Sig)
-    } else if is(name, b"file") {
-        Some(RecordKind::File)
-    } else if is(name, b"open") {
-        Some(RecordKind::Open)
-    } else if is(name, b"seek") {
-        Some(RecordKind::Seek)
-    } else if is(name, b"truncate") {
-        Some(RecordKind::Truncate)
-    } else if is(name, b"note") {
-        Some(RecordKind::Note)
-    } else if is(name, b"clock") {
-        Some(RecordKind::Clock)
-    } else {
-        None
-    }
 }
 
 /// The record of this kind, where there are just its members.

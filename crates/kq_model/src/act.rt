@@ -2,7 +2,7 @@ use crate::{Mode, Named, Note, Side};
 
 /// A record about sockets, pipes or files, with each descriptor resolved to what it names. Sizes,
 /// offsets and amounts are bytes.
-#[derive(Debug, Drop, Clone, Copy)]
+#[derive(Drop, Clone, Copy)]
 pub enum Act {
     /// A socket is made, with these sizes of its buffers.
     Socket {
