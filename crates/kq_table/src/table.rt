@@ -113,10 +113,7 @@ impl<T: Keyed> Table<T> {
     pub fn find(&self, key: T::Key) -> Option<T>
         ensures { result ≡ find_row T.Key.eq T.key_of key self.now.rows }
     {
-        let Some(found) = slot_of(&self.slots, self.base, &self.index, key) else {
-            return None;
-        };
-        Some(found.row)
+        self.find_at(Place::nowhere(), key)
     }
 
     /// The row of a key with its place, where `find_at`, `locate_at`, `modify_at` and `remove_at` find it
@@ -124,15 +121,7 @@ impl<T: Keyed> Table<T> {
     pub fn locate(&self, key: T::Key) -> Option<Placed<T>>
         ensures { option_map (λ p. p.row) result ≡ find_row T.Key.eq T.key_of key self.now.rows }
     {
-        let Some(found) = slot_of(&self.slots, self.base, &self.index, key) else {
-            return None;
-        };
-        Some(Placed {
-            row: found.row,
-            place: Place {
-                number: self.base + found.slot,
-            },
-        })
+        self.locate_at(Place::nowhere(), key)
     }
 
     /// The same as `find`. Where the row of the key stands at the guessed place, that is all that is
@@ -235,9 +224,7 @@ impl<T: Keyed> Table<T> {
         ensures rows { self.new.rows ≡ with_row T.Key.eq T.key_of row self.old.rows }
         ensures room { self.new.room ≡ self.old.room }
     {
-        if let Some(found) = slot_of(&self.slots, self.base, &self.index, row.key()) {
-            self.slots[found.slot] = Some(row);
-        }
+        self.modify_at(Place::nowhere(), row);
     }
 
     /// The same as `modify`. Where the row of the key stands at the guessed place, that is all that is
@@ -257,13 +244,7 @@ impl<T: Keyed> Table<T> {
         ensures rows { self.new.rows ≡ without_row T.Key.eq T.key_of key self.old.rows }
         ensures room { MatchOption result (self.new.room ≡ self.old.room) (λ _. self.new.room ≡ self.old.room + 1) }
     {
-        let Some(found) = slot_of(&self.slots, self.base, &self.index, key) else {
-            return None;
-        };
-        self.slots[found.slot] = None;
-        self.count -= 1;
-        self.drop_empty_front();
-        Some(found.row)
+        self.remove_at(Place::nowhere(), key)
     }
 
     /// The same as `remove`. Where the row of the key stands at the guessed place, that is all that is
