@@ -1,5 +1,5 @@
 -- The rule of the lock's table, and what each step tells the seat that takes it.
-use Rattle.std.specs.Prelude.{◌≡◌, ◌≢◌, ℕ, ◌+◌, ◌%◌, ◌<◌, ◌≤◌, true, false, Some, None, List, []}
+use Rattle.std.specs.Prelude.{◌≡◌, ◌≢◌, ℕ, ◌+◌, ◌%◌, ◌<◌, ◌≤◌, ◌⊎◌, true, false, Some, None, List, []}
 use Rattle.std.specs.Prelude.{◌∷◌, ◌++◌, length, sum_by}
 use Rattle.std.specs.Prelude as std
 use mathlib.Core.List.{IsPrefix}
@@ -210,6 +210,15 @@ module _ {M S A : Type 0} where
     pub own : (n : ℕ) → Owns m.0 n → calls_by n log ≡ calls_by n m.0.seen
     pub short : length log ≤ t
     pub limit : t < m.0.last
+
+  -- the seat may pass on the turn with the ticket t: it carries the slot, with the value and its
+  -- history
+  pub record MayPassOn (t : ℕ) (m : Mine M S A) : Type 0 where
+    pub kept : Kept M S A
+    pub log : List (Call S A)
+    pub stage : (m.0.stage ≡ Holds t kept.value log) ⊎ (m.0.stage ≡ Raised t kept.value log)
+    pub slot : m.1 ≡ (0, Some kept) ∷ []
+    pub items : kept.history.items ≡ plain log
 
   -- the seat v made a call with this answer, and is w afterwards
   abbrev pub IsLogged : (M → S → A → M → Type 0) → View M S A → View M S A → S → A → Type 0

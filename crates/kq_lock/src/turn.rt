@@ -1,7 +1,7 @@
 //! One turn, step by step. The value is out of the slot only while the seat has the turn.
-ghost use Rattle.std.specs.Prelude.{◌≡◌, ◌≢◌, ◌+◌, ◌^◌, ◌≤◌, true, [], length, IfOk, IfErr, OnErr};
+ghost use Rattle.std.specs.Prelude.{◌≡◌, ◌≢◌, ◌+◌, ◌^◌, ◌<◌, ◌≤◌, true, [], length, IfOk, IfErr, OnErr};
 ghost use Rattle.kq_lock.specs.Turns.{IsLockTable, IsSameSeat, IsSameView, HasTurn, KeepsOthers};
-ghost use Rattle.kq_lock.specs.Turns.{IsLogged};
+ghost use Rattle.kq_lock.specs.Turns.{IsLogged, MayPassOn};
 ghost use Rattle.kq_lock.specs.declared.view.Stage.TheVariants.{Idle, Waits};
 
 use crate::entry::Receipt;
@@ -72,6 +72,22 @@ pub fn await_turn<M: Machine, R: Wait>(
     unreachable!()
 }
 
+// Passes the turn on, and wakes who has the next tickets.
+fn pass_on<M: Machine>(
+    table: &SharedTable<M>,
+    waiting: &Waiting,
+    token: &mut TableSeat<M>,
+    ticket: u64,
+)
+    requires { (token.old.table_id ≡ table.now.table_id) × IsLockTable table.now.table_id
+        × MayPassOn ticket token.old.me × (ticket < 2 ^ 62) }
+    ensures seat { IsSameSeat token.old token.new }
+    ensures me { token.new.me ≡ (record token.old.me.0 { stage = Idle }, []) }
+{
+    table.store::<PassOn>(token, SERVING, ticket + 1);
+    waiting.wake(ticket + 1);
+}
+
 // Takes the step, passes the turn on and wakes who has the next tickets. After `Memory` the history has
 // not got the call.
 pub fn take_turn<M: Machine>(
@@ -91,19 +107,17 @@ pub fn take_turn<M: Machine>(
     ensures others { KeepsOthers token.old.me.0 token.new.me.0 }
 {
     let mut kept = table.exchange(token, 0, None).unwrap();
-    match take_step(&mut kept, step) {
+    let stepped = take_step(&mut kept, step);
+    let len = kept.history.len() as u64;
+    table.exchange(token, 0, Some(kept));
+    match stepped {
         Ok(answer) => {
-            let at = kept.history.len() as u64;
-            table.exchange(token, 0, Some(kept));
-            table.store::<Raise>(token, LENGTH, at);
-            table.store::<PassOn>(token, SERVING, ticket + 1);
-            waiting.wake(ticket + 1);
-            Ok((at, answer))
+            table.store::<Raise>(token, LENGTH, len);
+            pass_on(table, waiting, token, ticket);
+            Ok((len, answer))
         }
         Err(memory) => {
-            table.exchange(token, 0, Some(kept));
-            table.store::<PassOn>(token, SERVING, ticket + 1);
-            waiting.wake(ticket + 1);
+            pass_on(table, waiting, token, ticket);
             Err(memory)
         }
     }
