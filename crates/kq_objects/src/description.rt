@@ -9,7 +9,7 @@ use std::marker::Model;
 
 /// What is kept of one open file description, with the place of the record that made it. Contracts
 /// see the place and the quantities.
-#[derive(Debug, Drop, Clone, Copy)]
+#[derive(Drop, Clone, Copy)]
 pub struct Description {
     place: u64,
     file: u32,

@@ -9,7 +9,7 @@ use std::alloc::Global;
 use std::marker::Model;
 
 /// What is kept of one file. Contracts see its quantities, and the room for further descriptions.
-#[derive(Debug, Drop)]
+#[derive(Drop)]
 pub struct File {
     size: u64,
     deleted: bool,

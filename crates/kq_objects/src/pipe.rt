@@ -9,7 +9,7 @@ use kq_model::{PipeRecord, Side, View};
 use std::marker::Model;
 
 /// What is kept of one pipe. Contracts see its quantities.
-#[derive(Debug, Drop, Clone, Copy)]
+#[derive(Drop, Clone, Copy)]
 pub struct Pipe {
     pub(crate) cap: u32,
     pub(crate) bytes: u32,

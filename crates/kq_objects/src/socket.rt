@@ -8,7 +8,7 @@ use kq_model::{Side, SocketRecord, View};
 use std::marker::Model;
 
 /// What is kept of one socket. Contracts see its quantities.
-#[derive(Debug, Drop, Clone, Copy)]
+#[derive(Drop, Clone, Copy)]
 pub struct Socket {
     pub(crate) receive_buffer: u32,
     pub(crate) send_buffer: u32,
