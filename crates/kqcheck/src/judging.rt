@@ -232,7 +232,8 @@ fn judge_from(
     permits: bool,
 ) -> Result<Outcome, Memory>
     requires { system.old.applied ≡ 0 }
-    ensures { IfOk result (IsJudgedFrom ignored.now permits 1 (system_of system.old) trace.now.events answers.now None) }
+    ensures { IfOk result
+        (IsJudgedFrom ignored.now permits 1 (system_of system.old) trace.now.events answers.now None) }
 {
     let mut rest = answers;
     let mut first = None;

@@ -18,5 +18,7 @@ pub record SoFar (given before left out : Option (List ℕ)) (number : ℕ) (s :
   pub wrote : Appends before out (answered (header ∷ lines))
 
 -- whatever the input had and the output at first: if that is all so far, the call leaves this of them
-abbrev pub FromSoFar : Option (List ℕ) → Option (List ℕ) → ℕ → Stood → (Option (List ℕ) → Option (List ℕ) → Type 0) → Type 0
-FromSoFar left out number s Leaves = (given before : Option (List ℕ)) → SoFar given before left out number s → Leaves given before
+abbrev pub FromSoFar : Option (List ℕ) → Option (List ℕ) → ℕ → Stood
+    → (Option (List ℕ) → Option (List ℕ) → Type 0) → Type 0
+FromSoFar left out number s Leaves =
+    (given before : Option (List ℕ)) → SoFar given before left out number s → Leaves given before

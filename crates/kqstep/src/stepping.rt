@@ -32,7 +32,8 @@ impl Model for Stepping {
 
     ghost view = { λ s. record { system = s.system; calls = s.calls; events = s.events } };
 
-    ghost invariant = { λ s. (s.system.applied ≤ 1000000) × (s.calls ≤ s.system.applied) × (s.events ≤ s.calls * 2 ^ 64) };
+    ghost invariant = { λ s. (s.system.applied ≤ 1000000) × (s.calls ≤ s.system.applied)
+        × (s.events ≤ s.calls * 2 ^ 64) };
 }
 
 impl Stepping {

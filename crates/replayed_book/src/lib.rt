@@ -1,5 +1,6 @@
 //! The rows of a live system's book, by a replay of its trace: the trace is split, each of its kqueues is replayed
-//! alone, and the rows of all are put in order. They are those that the book has, whatever threads called the live system.
+//! alone, and the rows of all are put in order. They are those that the book has, whatever threads called the live
+//! system.
 #![tactic(auto)]
 
 ghost use Rattle.std.specs.Prelude.{◌≡◌, ◌<◌, ◌⊎◌, IfErr, IfOk};
