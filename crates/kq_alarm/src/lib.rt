@@ -3,8 +3,6 @@
 
 mod alarm;
 mod alarms;
-#[cfg(test)]
-mod tests;
 
 pub use alarm::Alarm;
 pub use alarms::Alarms;

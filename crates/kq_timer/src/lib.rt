@@ -3,8 +3,6 @@
 
 mod period;
 mod repeating;
-#[cfg(test)]
-mod tests;
 mod ticker;
 mod timer;
 mod timing;

@@ -3,6 +3,8 @@
 #![tactic(auto)]
 
 #[cfg(test)]
+mod alarms;
+#[cfg(test)]
 mod every_record;
 #[cfg(test)]
 mod following;
@@ -14,6 +16,8 @@ mod joins;
 mod judging;
 #[cfg(test)]
 mod knotes;
+#[cfg(test)]
+mod periods;
 #[cfg(test)]
 mod steps;
 #[cfg(test)]

@@ -1,4 +1,4 @@
-use crate::{Alarm, Alarms};
+use kq_alarm::{Alarm, Alarms};
 use std::test::Fail;
 
 fn alarm(moment: u64, ident: u64) -> Alarm {

@@ -1,5 +1,5 @@
-use crate::{Period, Ticker, Timer, Timing};
 use kq_model::Errno;
+use kq_timer::{Period, Ticker, Timer, Timing};
 use std::test::Fail;
 
 #[test]
