@@ -1,10 +1,10 @@
 -- Parts of the canonical text.
 use denote.Ref.{Bor}
-use Rattle.std.specs.Prelude.{ℕ, Bool, true, ◌&&◌, List, [], ◌∷◌, ◌++◌, map, nat_lt}
+use Rattle.std.specs.Prelude.{ℕ, Bool, true, ◌&&◌, List, [], ◌∷◌, ◌++◌, codes, map, nat_lt}
 use Rattle.std.specs.List.{list_all}
 use Rattle.serde_json.specs.Written.{comma_if, compact_text, members_text}
 use Rattle.kq_model.specs.declared.change.Change.{Change}
-use Rattle.kq_model.specs.Spelling.{Changes, Integer, Name, Number, Truth, Value, change_data, members_data}
+use Rattle.kq_model.specs.Spelling.{Changes, Integer, Name, Number, Truth, Value, change_data, fd, members_data, op, pid}
 use Rattle.kq_spell.specs.declared.members.Spelled.{Spelled}
 use Rattle.kq_spell.specs.declared.members.Spelled.TheVariants as spelled
 
@@ -43,3 +43,11 @@ are_words members = list_all (λ m. is_word m.0.now && is_spelled_by_words m.1) 
 -- the members, each behind a comma where one stands before, and the closing brace
 abbrev pub members_rest : Bool → List (Bor (List ℕ) × Spelled) → List ℕ
 members_rest later members = members_text later (members_data (map member_of members))
+
+-- the members of a record of a descriptor that has no further ones
+abbrev pub plain_members : List ℕ → ℕ → ℕ → List (List ℕ × Value)
+plain_members kind p f = fd f ∷ op kind ∷ pid p ∷ []
+
+-- the members of a record of so many bytes at a descriptor
+abbrev pub amount_members : List ℕ → ℕ → ℕ → ℕ → List (List ℕ × Value)
+amount_members kind p f n = fd f ∷ (codes "n", Number n) ∷ op kind ∷ pid p ∷ []

@@ -1,10 +1,12 @@
 //! A record on its line: its members in the order of their names' bytes.
 
 ghost use Rattle.std.specs.Prelude.{◌≡◌, true, OnOk};
-ghost use Rattle.kq_model.specs.Spelling.{line_text, record_data};
+ghost use Rattle.serde_json.specs.Data.{object};
+ghost use Rattle.kq_model.specs.Spelling.{line_text, members_data, record_data};
 ghost use Rattle.kq_text.specs.Adds.{Adds};
-ghost use Rattle.kq_spell.specs.Again.{FitsRecord};
+ghost use Rattle.kq_spell.specs.Again.{FitMembers, FitsRecord};
 ghost use Rattle.kq_spell.specs.Subjects.{is_of_descriptor, is_of_file, is_of_process};
+ghost use Rattle.kq_spell.specs.Texts.{amount_members, is_word, plain_members};
 
 use crate::members::Spelled::{Changes, Integer, Name, Number, Truth};
 use crate::members::put_line;
@@ -45,6 +47,37 @@ pub fn put_record(out: &mut Vec<u8>, event: &Event) -> Result<(), Memory>
         | Event::Kqueue { .. }
         | Event::Kevent { .. } => put_process_record(out, event),
     }
+}
+
+/// Adds the line of a record of a descriptor that has no further members.
+fn put_plain(out: &mut Vec<u8>, op: &str, pid: u32, fd: u32) -> Result<(), Memory>
+    requires { is_word op.now ≡ true }
+    ensures text { OnOk result
+        (Adds out.old.items (line_text (object (members_data (plain_members op.now pid fd)))) out.new.items) }
+    ensures fits { OnOk result (FitMembers (plain_members op.now pid fd)) }
+{
+    put_line(
+        out,
+        &[("fd", Number(fd)), ("op", Name(op)), ("pid", Number(pid))],
+    )
+}
+
+/// Adds the line of a record of so many bytes at a descriptor.
+fn put_amount(out: &mut Vec<u8>, op: &str, pid: u32, fd: u32, n: u32) -> Result<(), Memory>
+    requires { is_word op.now ≡ true }
+    ensures text { OnOk result
+        (Adds out.old.items (line_text (object (members_data (amount_members op.now pid fd n)))) out.new.items) }
+    ensures fits { OnOk result (FitMembers (amount_members op.now pid fd n)) }
+{
+    put_line(
+        out,
+        &[
+            ("fd", Number(fd)),
+            ("n", Number(n)),
+            ("op", Name(op)),
+            ("pid", Number(pid)),
+        ],
+    )
 }
 
 /// Adds the line of a record of a process, its signals or its kqueues, or of the clock.
@@ -91,14 +124,7 @@ fn put_process_record(out: &mut Vec<u8>, event: &Event) -> Result<(), Memory>
             ],
         ),
         Event::Clock { ns } => put_line(out, &[("ns", Integer(*ns)), ("op", Name("clock"))]),
-        Event::Kqueue { pid, fd } => put_line(
-            out,
-            &[
-                ("fd", Number(*fd)),
-                ("op", Name("kqueue")),
-                ("pid", Number(*pid)),
-            ],
-        ),
+        Event::Kqueue { pid, fd } => put_plain(out, "kqueue", *pid, *fd),
         Event::Kevent {
             pid,
             fd,
@@ -135,14 +161,7 @@ fn put_descriptor_record(out: &mut Vec<u8>, event: &Event) -> Result<(), Memory>
                 ("to", Number(*to)),
             ],
         ),
-        Event::Close { pid, fd } => put_line(
-            out,
-            &[
-                ("fd", Number(*fd)),
-                ("op", Name("close")),
-                ("pid", Number(*pid)),
-            ],
-        ),
+        Event::Close { pid, fd } => put_plain(out, "close", *pid, *fd),
         Event::Socket { pid, fd, rcv, snd } => put_line(
             out,
             &[
@@ -162,14 +181,7 @@ fn put_descriptor_record(out: &mut Vec<u8>, event: &Event) -> Result<(), Memory>
                 ("pid", Number(*pid)),
             ],
         ),
-        Event::Arrive { pid, fd } => put_line(
-            out,
-            &[
-                ("fd", Number(*fd)),
-                ("op", Name("arrive")),
-                ("pid", Number(*pid)),
-            ],
-        ),
+        Event::Arrive { pid, fd } => put_plain(out, "arrive", *pid, *fd),
         Event::Accept {
             pid,
             fd,
@@ -187,32 +199,9 @@ fn put_descriptor_record(out: &mut Vec<u8>, event: &Event) -> Result<(), Memory>
                 ("to", Number(*to)),
             ],
         ),
-        Event::Connect { pid, fd } => put_line(
-            out,
-            &[
-                ("fd", Number(*fd)),
-                ("op", Name("connect")),
-                ("pid", Number(*pid)),
-            ],
-        ),
-        Event::Rx { pid, fd, n } => put_line(
-            out,
-            &[
-                ("fd", Number(*fd)),
-                ("n", Number(*n)),
-                ("op", Name("rx")),
-                ("pid", Number(*pid)),
-            ],
-        ),
-        Event::Tx { pid, fd, n } => put_line(
-            out,
-            &[
-                ("fd", Number(*fd)),
-                ("n", Number(*n)),
-                ("op", Name("tx")),
-                ("pid", Number(*pid)),
-            ],
-        ),
+        Event::Connect { pid, fd } => put_plain(out, "connect", *pid, *fd),
+        Event::Rx { pid, fd, n } => put_amount(out, "rx", *pid, *fd, *n),
+        Event::Tx { pid, fd, n } => put_amount(out, "tx", *pid, *fd, *n),
         Event::Shut {
             pid,
             fd,
@@ -260,24 +249,8 @@ fn put_file_record(out: &mut Vec<u8>, event: &Event) -> Result<(), Memory>
                 ("wfd", Number(*wfd)),
             ],
         ),
-        Event::Read { pid, fd, n } => put_line(
-            out,
-            &[
-                ("fd", Number(*fd)),
-                ("n", Number(*n)),
-                ("op", Name("read")),
-                ("pid", Number(*pid)),
-            ],
-        ),
-        Event::Write { pid, fd, n } => put_line(
-            out,
-            &[
-                ("fd", Number(*fd)),
-                ("n", Number(*n)),
-                ("op", Name("write")),
-                ("pid", Number(*pid)),
-            ],
-        ),
+        Event::Read { pid, fd, n } => put_amount(out, "read", *pid, *fd, *n),
+        Event::Write { pid, fd, n } => put_amount(out, "write", *pid, *fd, *n),
         Event::File { file, size } => put_line(
             out,
             &[
