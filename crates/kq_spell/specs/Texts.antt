@@ -4,7 +4,8 @@ use Rattle.std.specs.Prelude.{ℕ, Bool, true, ◌&&◌, List, [], ◌∷◌, �
 use Rattle.std.specs.List.{list_all}
 use Rattle.serde_json.specs.Written.{comma_if, compact_text, members_text}
 use Rattle.kq_model.specs.declared.change.Change.{Change}
-use Rattle.kq_model.specs.Spelling.{Changes, Integer, Name, Number, Truth, Value, change_data, fd, members_data, op, pid}
+use Rattle.kq_model.specs.Spelling.{Changes, Integer, Name, Number, Truth, Value, change_data, members_data}
+use Rattle.kq_model.specs.Spelling.{fd, op, pid}
 use Rattle.kq_spell.specs.declared.members.Spelled.{Spelled}
 use Rattle.kq_spell.specs.declared.members.Spelled.TheVariants as spelled
 
