@@ -4,7 +4,6 @@ use Rattle.kq_answers.specs.declared.answer.Answer.{Answer}
 use Rattle.kq_answers.specs.declared.answer.Given.{Given}
 use Rattle.kq_judge.specs.declared.member.Ignored.{Ignored}
 use Rattle.kq_model.specs.declared.event.Event.{Event}
-use Rattle.kq_model.specs.System.{empty_system}
 use Rattle.kq_model.specs.Tallied.{System}
 use Rattle.kqcheck.specs.declared.outcome.Outcome.{Outcome}
 use Rattle.kqcheck.specs.declared.verdict.Verdict.{Verdict}

@@ -56,16 +56,26 @@ pub fn story_before<'r>(
         ignored,
         rest: answers,
     };
-    'records: for event in trace.events.as_slice() {
-        if story.system.applied() + 1 >= at {
-            return Ok(story);
-        }
-        story.go_on(event)?;
-    }
+    story.go_on_before(trace, at)?;
     Ok(story)
 }
 
 impl<'r> Story<'r> {
+    /// Carries out the records before a place, where none was carried out yet.
+    fn go_on_before(&mut self, trace: &Trace, at: u64) -> Result<(), Memory>
+        requires small { at < 2 ^ 31 }
+        requires before { self.old.system.applied < at }
+        ensures { OnOk result (self.new.system.applied < at) }
+    {
+        'records: for event in trace.events.as_slice() {
+            if self.system.applied() + 1 >= at {
+                return Ok(());
+            }
+            self.go_on(event)?;
+        }
+        Ok(())
+    }
+
     /// Carries out one record.
     fn go_on(&mut self, event: &Event) -> Result<(), Memory>
         requires { self.old.system.applied < 2 ^ 31 - 1 }

@@ -1,6 +1,6 @@
 -- The place is not reached yet.
 use Rattle.std.proofs.Common.{◌<◌}
-use Rattle.kqcheck.proofs.story.story_before.Given as goal
+use Rattle.kqcheck.proofs.story.Story.go_on_before.Given as goal
 
 abbrev pub invariant-records : goal.invariant-records
-invariant-records l = l.story.system.applied < l.at
+invariant-records l = l.self.system.applied < l.at
