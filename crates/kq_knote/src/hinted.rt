@@ -101,8 +101,8 @@ impl Knotes {
         }
     }
 
-    /// The key of the next such knote behind a watcher's, whose knote is such a one itself, with a guess of the place of
-    /// the watcher's own. It takes the time that `first_watcher` takes.
+    /// The key of the next such knote behind a watcher's, whose knote is such a one itself, with a guess of the place
+    /// of the watcher's own. It takes the time that `first_watcher` takes.
     pub fn step(&self, posted: &[(Target, Hint)], watcher: &Watcher<Key>) -> Step<Key>
         requires { IsHinted posted.now watcher.now.key self.now.knotes }
         ensures { option_map (λ w. w.key) result.next

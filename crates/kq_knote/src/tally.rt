@@ -1,5 +1,5 @@
-ghost use Rattle.std.specs.Prelude.{◌≡◌, ◌+◌, min, if◌then◌else◌};
-ghost use Rattle.kq_model.specs.Hearing.{Expired, Told, most_counted, notes_of, tallying};
+ghost use Rattle.std.specs.Prelude.{◌≡◌, ◌+◌, min, true, if◌then◌else◌};
+ghost use Rattle.kq_model.specs.Hearing.{Expired, Told, is_counted, most_counted, notes_of, tallying};
 
 use kq_model::Hint;
 use std::marker::Model;
@@ -7,14 +7,16 @@ use std::marker::Model;
 /// The greatest data of a kevent.
 const MOST_COUNTED: u64 = i64::MAX as u64;
 
-/// What a knote has heard since it was last reset. kqueue(2) gives events that trigger a filter
-/// more than once as one kevent.
+/// What a knote has heard since it was last reset. kqueue(2) gives events that trigger a filter more than once as one
+/// kevent. Only deliveries of a signal and expirations are counted.
 #[derive(Debug, Drop, Clone, Copy)]
 pub struct Tally {
-    /// How often it heard something, at most 2^63 - 1.
+    /// How much of what is counted it heard, at most 2^63 - 1.
     pub count: u64,
     /// The union of the notes that it heard.
     pub notes: u32,
+    /// It heard something that is not counted.
+    pub others: bool,
 }
 
 impl Model for Tally {
@@ -22,9 +24,9 @@ impl Model for Tally {
 
     ghost Value = { hearing.Tally };
 
-    ghost view = { λ t. record { count = t.count; notes = t.notes } };
+    ghost view = { λ t. record { count = t.count; notes = t.notes; others = t.others } };
 
-    ghost inverse = { λ t. record { count = t.count; notes = t.notes } };
+    ghost inverse = { λ t. record { count = t.count; notes = t.notes; others = t.others } };
 }
 
 impl Tally {
@@ -32,7 +34,11 @@ impl Tally {
     pub fn empty() -> Self
         ensures { result ≡ tallying.empty }
     {
-        Tally { count: 0, notes: 0 }
+        Tally {
+            count: 0,
+            notes: 0,
+            others: false,
+        }
     }
 
     /// One hint more.
@@ -40,13 +46,28 @@ impl Tally {
     pub fn add(&mut self, hint: Hint)
         ensures { self.new ≡ tallying.heard (Told hint) self.old }
     {
-        self.count = self.count.saturating_add(1).min(MOST_COUNTED);
         self.notes |= notes_of(hint);
+        if is_counted(hint) {
+            self.count = self.count.saturating_add(1).min(MOST_COUNTED);
+        } else {
+            self.others = true;
+        }
+    }
+
+    /// Whether one hint more would leave it as it is.
+    pub fn knows(&self, hint: Hint) -> bool
+        ensures { result ≡ true → tallying.heard (Told hint) self.now ≡ self.now }
+    {
+        !is_counted(hint) && self.others && self.notes | notes_of(hint) == self.notes
     }
 
     /// So many expirations more.
     pub fn expire(&mut self, times: u64)
-        ensures { self.new ≡ record { count = min (self.old.count + times) most_counted; notes = self.old.notes } }
+        ensures { self.new ≡ record {
+          count = min (self.old.count + times) most_counted;
+          notes = self.old.notes;
+          others = self.old.others;
+        } }
     {
         self.count = self.count.saturating_add(times).min(MOST_COUNTED);
     }
@@ -61,7 +82,7 @@ impl Tally {
         }
         Tally {
             count: self.count.saturating_add(1).min(MOST_COUNTED),
-            notes: self.notes,
+            ..self
         }
     }
 
@@ -69,8 +90,15 @@ impl Tally {
     pub fn is_empty(&self) -> bool
         ensures { result ≡ tallying.is_empty self.now }
     {
-        self.count == 0
+        self.count == 0 && !self.others
     }
+}
+
+/// Whether a hint is counted.
+fn is_counted(hint: Hint) -> bool
+    ensures { result ≡ is_counted (Told hint) }
+{
+    matches!(hint, Hint::Delivered)
 }
 
 /// The notes of a hint, as bits of fflags.
