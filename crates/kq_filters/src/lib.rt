@@ -11,7 +11,7 @@ mod told;
 mod views;
 
 pub use filter::{look, look_user, notice_or};
-pub use hearing::{Heard, hear, takes};
+pub use hearing::{Heard, hear, stays, takes};
 pub use nothing::NothingThere;
 pub use seen::Seen;
 pub use views::Views;
