@@ -16,11 +16,11 @@ ghost use Rattle.kq_model.specs.Views as world;
 ghost use Rattle.kq_model.specs.WatchedNumbers.{LeavesOpen, WatchTheirNumbers};
 ghost use Rattle.kq_knote.specs.Index.{hinted_keys};
 ghost use Rattle.kq_kevent.specs.Owned.{limit, HasRoomToFollow};
-ghost use Rattle.kq_kevent.specs.Telling.{fork_told, told_one, told_all, StandsFor};
+ghost use Rattle.kq_kevent.specs.Telling.{fork_told, told_one, told_all, LeaveIt, LeavesIt, StandsFor};
 
 use crate::Kq;
 use crate::look::look_in;
-use kq_filters::{Heard, Views, hear, takes};
+use kq_filters::{Heard, Views, hear, stays, takes};
 use kq_knote::{Knote, Tally};
 use kq_model::notes::NOTE_TRACK;
 use kq_model::{Filter, Hint, Key, Memory, Target};
@@ -74,6 +74,29 @@ fn tell_all(knote: Knote, hints: &[(Target, Hint)]) -> Telling
         telling = tell(telling, posted.0, posted.1);
     }
     telling
+}
+
+/// Whether a hint leaves a knote as it is, being none for it or one that it knows.
+fn leaves(knote: &Knote, target: Target, hint: Hint) -> bool
+    ensures { result ≡ true → LeavesIt knote.now (target, hint) }
+{
+    !is_for(knote, target, hint) || stays(knote, hint)
+}
+
+/// Whether the hints of a record leave an active knote as it is.
+fn leave_active(knote: &Knote, hints: &[(Target, Hint)]) -> bool
+    ensures active { result ≡ true → knote.now.active ≡ true }
+    ensures hints { result ≡ true → LeaveIt knote.now hints.now }
+{
+    if !knote.active {
+        return false;
+    }
+    for posted in hints {
+        if !leaves(knote, posted.0, posted.1) {
+            return false;
+        }
+    }
+    true
 }
 
 /// Looks at a knote, enabled or not; it is active where the look sees something.
@@ -339,7 +362,8 @@ impl Kq {
         }
     }
 
-    /// The knote of a key hears the hints for it, is looked at and goes where it belongs.
+    /// The knote of a key hears the hints for it, is looked at and goes where it belongs. Where it is active and they
+    /// leave it as it is, that is all.
     fn notice<V: Views>(&mut self, guess: Place, key: Key, hints: &[(Target, Hint)], views: &V)
         ensures kq { self.new.kq
             ≡ noticed_at (V.sees views.now) hints.now (find_knote key self.old.kq.knotes) self.old.kq }
@@ -353,6 +377,9 @@ impl Kq {
         let Some(found) = self.knotes.locate_at(guess, key) else {
             return;
         };
+        if leave_active(&found.row, hints) {
+            return;
+        }
         let told = tell_all(found.row, hints);
         if told.any {
             self.leave(&found, told.knote, told.done, views);
