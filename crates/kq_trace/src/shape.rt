@@ -4,7 +4,7 @@ ghost use Rattle.std.specs.Prelude.{◌≡◌, map};
 ghost use Rattle.std.specs.List.{list_all};
 ghost use Rattle.serde_json.specs.Find.{get};
 ghost use Rattle.serde_json.specs.View.{view};
-ghost use Rattle.kq_model.specs.Kinds.{kind_named, members_besides_op};
+ghost use Rattle.kq_model.specs.Kinds.{kind_among, kind_name, kind_named, members_besides_op};
 ghost use Rattle.kq_model.specs.Members.{required};
 ghost use Rattle.kq_model.specs.RecordText.{is_of, is_record};
 
@@ -15,42 +15,91 @@ use kq_model::MemberType::{self, ChangeList, ModeName, NoteName, SideName, Truth
 use kq_model::RecordKind;
 use serde_json::Value;
 
+/// The name that a trace has for this kind of record.
+fn kind_name(kind: RecordKind) -> &'static str
+    ensures { result.now ≡ kind_name kind }
+{
+    match kind {
+        RecordKind::Proc => "proc",
+        RecordKind::Fork => "fork",
+        RecordKind::Exit => "exit",
+        RecordKind::Kqueue => "kqueue",
+        RecordKind::Dup => "dup",
+        RecordKind::Close => "close",
+        RecordKind::Socket => "socket",
+        RecordKind::Listen => "listen",
+        RecordKind::Arrive => "arrive",
+        RecordKind::Accept => "accept",
+        RecordKind::Connect => "connect",
+        RecordKind::Rx => "rx",
+        RecordKind::Tx => "tx",
+        RecordKind::Shut => "shut",
+        RecordKind::Lowat => "lowat",
+        RecordKind::Pipe => "pipe",
+        RecordKind::Read => "read",
+        RecordKind::Write => "write",
+        RecordKind::Exec => "exec",
+        RecordKind::Sigset => "sigset",
+        RecordKind::Sig => "sig",
+        RecordKind::File => "file",
+        RecordKind::Open => "open",
+        RecordKind::Seek => "seek",
+        RecordKind::Truncate => "truncate",
+        RecordKind::Note => "note",
+        RecordKind::Clock => "clock",
+        RecordKind::Kevent => "kevent",
+    }
+}
+
+/// The kind of this name among these.
+#[tactic(auto, unfolding(kq_model::specs::Kinds::kind_among))]
+fn kind_among(kinds: &[RecordKind], name: &str) -> Option<RecordKind>
+    ensures { result ≡ kind_among kinds.now name.now }
+{
+    for kind in kinds {
+        if name == kind_name(*kind) {
+            return Some(*kind);
+        }
+    }
+    None
+}
+
 /// The kind of record of this name.
-#[tactic(auto, unfolding(kq_model::specs::Kinds::kind_named, kq_model::specs::Kinds::kind_among))]
+#[tactic(auto, unfolding(kq_model::specs::Kinds::kind_named))]
 pub fn kind_named(name: &str) -> Option<RecordKind>
     ensures { result ≡ kind_named name.now }
 {
-    match name {
-        "proc" => Some(RecordKind::Proc),
-        "fork" => Some(RecordKind::Fork),
-        "exit" => Some(RecordKind::Exit),
-        "kqueue" => Some(RecordKind::Kqueue),
-        "dup" => Some(RecordKind::Dup),
-        "close" => Some(RecordKind::Close),
-        "socket" => Some(RecordKind::Socket),
-        "listen" => Some(RecordKind::Listen),
-        "arrive" => Some(RecordKind::Arrive),
-        "accept" => Some(RecordKind::Accept),
-        "connect" => Some(RecordKind::Connect),
-        "rx" => Some(RecordKind::Rx),
-        "tx" => Some(RecordKind::Tx),
-        "shut" => Some(RecordKind::Shut),
-        "lowat" => Some(RecordKind::Lowat),
-        "pipe" => Some(RecordKind::Pipe),
-        "read" => Some(RecordKind::Read),
-        "write" => Some(RecordKind::Write),
-        "exec" => Some(RecordKind::Exec),
-        "sigset" => Some(RecordKind::Sigset),
-        "sig" => Some(RecordKind::Sig),
-        "file" => Some(RecordKind::File),
-        "open" => Some(RecordKind::Open),
-        "seek" => Some(RecordKind::Seek),
-        "truncate" => Some(RecordKind::Truncate),
-        "note" => Some(RecordKind::Note),
-        "clock" => Some(RecordKind::Clock),
-        "kevent" => Some(RecordKind::Kevent),
-        _ => None,
-    }
+    let kinds = [
+        RecordKind::Proc,
+        RecordKind::Fork,
+        RecordKind::Exit,
+        RecordKind::Kqueue,
+        RecordKind::Dup,
+        RecordKind::Close,
+        RecordKind::Socket,
+        RecordKind::Listen,
+        RecordKind::Arrive,
+        RecordKind::Accept,
+        RecordKind::Connect,
+        RecordKind::Rx,
+        RecordKind::Tx,
+        RecordKind::Shut,
+        RecordKind::Lowat,
+        RecordKind::Pipe,
+        RecordKind::Read,
+        RecordKind::Write,
+        RecordKind::Exec,
+        RecordKind::Sigset,
+        RecordKind::Sig,
+        RecordKind::File,
+        RecordKind::Open,
+        RecordKind::Seek,
+        RecordKind::Truncate,
+        RecordKind::Note,
+        RecordKind::Clock,
+        RecordKind::Kevent,
+    ];
+    kind_among(&kinds, name)
 }
 
 /// Whether a value is of this type, whatever the range of its numbers.
