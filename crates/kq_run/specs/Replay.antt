@@ -4,7 +4,7 @@ use Rattle.std.specs.Prelude.{◌≡◌, ◌≤◌, ℕ, List, length, Option}
 use Rattle.std.specs.List.Sorted.{IsPermutation}
 use Rattle.kq_model.specs.declared.event.Event.{Event}
 use Rattle.kq_model.specs.declared.row.Row.{Row}
-use Rattle.kq_model.specs.declared.trace.Trace.{Trace}
+use Rattle.kq_model.specs.declared.trace.Trace.{Trace as TraceRead}
 use Rattle.kq_model.specs.OwnedRows.{Rise}
 use Rattle.kq_model.specs.Reading.{Good, Bad, reading}
 use Rattle.kq_model.specs.Report.{report_of}
@@ -69,7 +69,7 @@ abbrev pub IsReplayedFrom : Ahead → Replayed → Type 0
 IsReplayedFrom ahead r = (bytes : List ℕ) × HadAhead ahead bytes × IsReplayed bytes r
 
 -- the trace that a source had was read and split
-abbrev pub IsSplitFrom : Ahead → Trace → Splitting → Type 0
+abbrev pub IsSplitFrom : Ahead → TraceRead → Splitting → Type 0
 IsSplitFrom ahead trace splitting =
     (bytes : List ℕ) × HadAhead ahead bytes × (reading bytes ≡ Good trace.version trace.events)
     × IsSplitSoFar (traced trace) splitting
