@@ -6,9 +6,9 @@ use Rattle.kq_system.proofs.fold.rows_from.Goals as goal
 
 pub loop-event-init : goal.loop-event-init
 loop-event-init c = (
-      ap (λ l. l ++ rows_after 1 (system_of c.args.system.now) c.as_slice-event-items.result.now) c.new-rows.ensures.items,
-      c.requires,
-    )
+  ap (λ l. l ++ rows_after 1 (system_of c.args.system.now) c.as_slice-event-items.result.now) c.new-rows.ensures.items,
+  c.requires,
+)
 
 pub loop-event-preserved : goal.loop-event-preserved
 loop-event-preserved c =
