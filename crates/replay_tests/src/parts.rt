@@ -1,23 +1,34 @@
 //! A trace that comes in two parts is split as it is at once.
-ghost use Rattle.std.specs.Prelude.{◌≡◌, IfOk};
+ghost use Rattle.std.specs.Prelude.{◌≡◌, ◌<◌, ◌^◌, ℕ, [], IfOk, OnOk, length};
+ghost use Rattle.kq_history.specs.Splitting.{IsSplitSoFar};
 ghost use Rattle.kq_history.specs.Traced.{traced};
 
 use crate::places::{assert_split, whole};
 use kq_history::{Split, Splitting};
-use kq_model::{Memory, Trace};
+use kq_model::{Event, Memory, Trace};
 use std::alloc::Global;
 use std::process::Abort;
 use std::test::Fail;
 
-/// The second part comes once the first was taken.
+/// Takes the first records: the second part of them comes once the first was taken.
+fn take_in_parts(splitting: &mut Splitting, events: &[Event]) -> Result<(), Memory>
+    requires few { length events.now < 2 ^ 31 }
+    requires first { (version : ℕ) → IsSplitSoFar (record { version = version; events = [] }) splitting.old }
+    ensures { OnOk result ((version : ℕ)
+        → IsSplitSoFar (record { version = version; events = events.now }) splitting.new) }
+{
+    let (first, second) = events.split_at(events.len() / 2);
+    splitting.take(0, first)?;
+    splitting.take(first.len() as u64, second)?;
+    Ok(())
+}
+
+/// The split of a trace that came in two parts.
 fn in_parts(alloc: Global, trace: &Trace) -> Result<Split<'_>, Memory>
     ensures { IfOk result (λ split. split ≡ traced trace.now) }
 {
-    let events = trace.events.as_slice();
-    let (first, second) = events.split_at(events.len() / 2);
     let mut splitting = Splitting::new(alloc)?;
-    splitting.take(0, first)?;
-    splitting.take(first.len() as u64, second)?;
+    take_in_parts(&mut splitting, trace.events.as_slice())?;
     Ok(splitting.end(trace))
 }
 
