@@ -1,5 +1,5 @@
 -- Before the first record: the empty world, of which nothing was seen.
-use Rattle.std.proofs.Common.{◌≡◌, ℕ, List, [], ◌∷◌, None, take, refl, sym, ap, subst, ◌∙◌, arith}
+use Rattle.std.proofs.Common.{◌≡◌, ℕ, nat_eq, List, [], ◌∷◌, None, take, refl, sym, ap, ap₂, subst, ◌∙◌, arith}
 use Rattle.std.proofs.lemmas.List.Elements.{All-nil}
 use Rattle.kq_model.specs.declared.object.Target.{Target}
 use Rattle.kq_model.specs.declared.object.Target.TheVariants.{Socket, Pipe, Open, File, Process, Signal, Own}
@@ -17,9 +17,10 @@ use Rattle.kq_process.specs.World.{last_of, world_of}
 use Rattle.kq_history.specs.declared.seen.Seen.{Seen}
 use Rattle.kq_history.specs.declared.timeline.Mark.{Mark}
 use Rattle.kq_history.specs.Keys.{pair_eq}
+use Rattle.kq_history.specs.Numbers.{later, no_mark, no_table}
 use Rattle.kq_history.specs.Seen.{IsBlank}
 use Rattle.kq_history.specs.Sights.{AreBetween, nothing_noted, view_by}
-use Rattle.kq_history.specs.Timeline.{value_at, IsUpTo}
+use Rattle.kq_history.specs.Timeline.{mark_at, value_at, IsUpTo}
 use Rattle.kq_history.specs.Timelines.{marks_at}
 use Rattle.kq_history.specs.Traced.{plain_rows_of}
 use Rattle.kq_history.specs.Tracked.{IsTracked, IsWorldAfter}
@@ -51,12 +52,17 @@ first-tracked version w s is none blank = record {
   after = first-world version w is none;
   shows = record {
     view = λ place t. ap (λ ss. view_by ss place t None) blank.sights ∙ sym (no-view t);
-    descriptor = λ place pid number. ap (value_at place None) (blank.numbers (pid, number));
+    descriptor = λ place pid number.
+        ap₂ (λ m t. later m t number) (ap (mark_at place no_mark) (blank.numbers.marks (pid, number)))
+        (ap (mark_at place no_table) (blank.numbers.tables pid));
     now = λ place. ap (value_at place 0) blank.clock;
     within = λ place. omega arith;
   };
   up_to = record {
-    numbers = λ key. none-later (marks_at pair_eq s.numbers.table key) (blank.numbers key);
+    numbers = record {
+      marks = λ key. none-later (marks_at pair_eq s.numbers.marks.table key) (blank.numbers.marks key);
+      tables = λ pid. none-later (marks_at nat_eq s.numbers.tables.table pid) (blank.numbers.tables pid);
+    };
     clock = none-later s.clock blank.clock;
     sights = subst (AreBetween 0 0) (sym blank.sights) (omega arith);
   };

@@ -13,6 +13,8 @@ mod PickedPrivate
 mod Descending
 mod Worklist
 mod Following
+mod ListingLemmas
+mod NumberLemmas
 mod Altering
 mod AccountedActs
 mod HeldViews
@@ -23,6 +25,8 @@ mod AnyWithin
 mod TouchedKeys
 mod UntouchedRecords
 mod NamedTargets
+mod SlotLemmas
+mod TouchedNumbers
 mod NotedKeys
 mod NotedMarks
 mod SightLemmas

@@ -1,8 +1,8 @@
 -- The targets of what numbers named before a record are among those that were added one number after the other.
-use Rattle.std.proofs.Common.{◌≡◌, ◌∙◌, ◌==◌, ◌||◌, ◌++◌, ◌∷◌, [], ℕ, Bool, true, false, List, Option, refl, sym, ap, ap₂, subst}
+use Rattle.std.proofs.Common.{◌≡◌, ◌∙◌, ◌<◌, ◌+◌, ◌==◌, ◌||◌, ◌++◌, ◌∷◌, [], ℕ, ◌&&◌, Bool, true, false, eq-eqb, length, get_or, take, List, Option, refl, sym, ap, ap₂, subst}
 use Rattle.std.specs.List.{flat_map, list_any}
 use Rattle.std.proofs.lemmas.Bool.{and_parts, eqb-true, false≢true}
-use Rattle.std.proofs.lemmas.List.{append-nil}
+use Rattle.std.proofs.lemmas.List.{append-nil, take_more}
 use Rattle.std.proofs.lemmas.List.Folds.{list_any-append}
 use Rattle.std.proofs.lemmas.Grind.{flat_map-append}
 use Rattle.kq_model.specs.declared.object.Named.{Named}
@@ -18,15 +18,15 @@ use Rattle.kq_history.proofs.NotedKeys.{as_target}
 
 -- ---- tests of two parts
 
-or_left : (a b : Bool) → a ≡ true → (a || b) ≡ true
+pub or_left : (a b : Bool) → a ≡ true → (a || b) ≡ true
 or_left true b is = refl
 or_left false b is = absurd (false≢true is)
 
-or_right : (a b : Bool) → b ≡ true → (a || b) ≡ true
+pub or_right : (a b : Bool) → b ≡ true → (a || b) ≡ true
 or_right true b is = refl
 or_right false b is = is
 
-or_cases : {P : Type 0} (a b : Bool) → (a || b) ≡ true → (a ≡ true → P) → (b ≡ true → P) → P
+pub or_cases : {P : Type 0} (a b : Bool) → (a || b) ≡ true → (a ≡ true → P) → (b ≡ true → P) → P
 or_cases true b is left right = left refl
 or_cases false b is left right = right is
 
@@ -68,6 +68,20 @@ pub among-behind : (xs ys zs : List Target) → AreAmong ys zs → AreAmong (xs 
 among-behind xs ys zs among = λ t is.
     in-either xs ys t is (λ in_xs. in-first xs zs t in_xs) (λ in_ys. in-second xs zs t (among t in_ys))
 
+-- one part more, and what stands for one element more
+pub among-more : (xs ys init cur new : List Target) → AreAmong (xs ++ init) cur → AreAmong (ys ++ cur) new → AreAmong ((xs ++ ys) ++ init) new
+among-more xs ys init cur new so_far added = λ t is.
+    in-either (xs ++ ys) init t is
+    (λ both. in-either xs ys t both
+    (λ earlier. added t (in-second ys cur t (so_far t (in-first xs init t earlier)))) (λ here. added t (in-first ys cur t here)))
+    (λ there. added t (in-second ys cur t (so_far t (in-second xs init t there))))
+
+pub flat-more : {X : Type 0} (f : X → List Target) (xs : List X) (i : ℕ) (d : X) → i < length xs
+    → flat_map f (take (i + 1) xs) ≡ flat_map f (take i xs) ++ f (get_or xs i d)
+flat-more f xs i d below =
+    ap (flat_map f) (take_more xs i d below) ∙ flat_map-append f (take i xs) (get_or xs i d ∷ [])
+    ∙ ap (λ ys. flat_map f (take i xs) ++ ys) (append-nil (f (get_or xs i d)))
+
 -- ---- number by number
 
 module _ (left : Option Named → List Target) (before : ℕ × ℕ → Option Named) where
@@ -105,14 +119,27 @@ module _ (left : Option Named → List Target) (before : ℕ × ℕ → Option N
 
 -- ---- the next world
 
--- it may differ in more targets
-pub next-among : (place : ℕ) (after : Views) (pairs : List (ℕ × ℕ)) (targets more : List Target) (worlds next : ℕ → Views) → AreAmong targets more
-    → IsNextWorld place after pairs targets worlds next → IsNextWorld place after pairs more worlds next
-next-among place after pairs targets more worlds next among is = record {
+-- it may differ in more numbers and targets
+pub next-world-among : (place : ℕ) (before after : Views) (touched noted : ℕ → ℕ → Bool) (targets more : List Target) (worlds next : ℕ → Views)
+    → ((pid number : ℕ) → noted pid number ≡ false → after.descriptor pid number ≡ before.descriptor pid number) → AreAmong targets more
+    → IsNextWorld place before after touched targets worlds next → IsNextWorld place before after noted more worlds next
+next-world-among place before after touched noted targets more worlds next kept among is = record {
   earlier = is.earlier;
-  same_numbers = is.same_numbers;
-  same_views = λ at t later absent.
-      is.same_views at t later
+  stood = is.stood;
+  same_numbers = kept;
+  same_views = λ t absent.
+      is.same_views t
       (by_test (λ b. has_target t targets ≡ b → has_target t targets ≡ false) (has_target t targets)
       (λ _ there. absurd (false≢true (sym absent ∙ among t there))) (λ _ isnt. isnt) refl);
 }
+
+-- what stands for each of these numbers is the same
+pub flat-same : (f g : ℕ × ℕ → List Target) (ps : List (ℕ × ℕ)) → ((pid number : ℕ) → has_number pid number ps ≡ true → f (pid, number) ≡ g (pid, number))
+    → flat_map f ps ≡ flat_map g ps
+flat-same f g [] same = refl
+flat-same f g (p ∷ ps) same =
+    ap₂ (λ xs ys. xs ++ ys) (same p.0 p.1 (or_left (pair_eq p p) (has_number p.0 p.1 ps) (itself p.0 p.1)))
+    (flat-same f g ps (λ pid number there. same pid number (or_right (pair_eq p (pid, number)) (has_number pid number ps) there)))
+  where
+    itself : (a b : ℕ) → pair_eq (a, b) (a, b) ≡ true
+    itself a b = ap₂ (λ x y. x && y) (eq-eqb a a refl) (eq-eqb b b refl)

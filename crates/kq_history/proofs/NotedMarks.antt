@@ -1,5 +1,5 @@
 -- The marks of each key, where those of one key became more.
-use Rattle.std.proofs.Common.{◌≡◌, ◌∙◌, ◌++◌, ◌&&◌, ℕ, Bool, cond, List, Some, refl, sym, ap}
+use Rattle.std.proofs.Common.{◌≡◌, ◌∙◌, ◌++◌, ◌&&◌, ℕ, Bool, true, false, cond, List, Some, refl, sym, ap}
 use Rattle.std.specs.Cmp.{IsEquivalence}
 use Rattle.std.specs.HashMap.{HashMap, get}
 use Rattle.std.specs.HashMap.Eq.{lookup_congr}
@@ -20,3 +20,16 @@ module _ {K V S : Type 0} (same : K → K → Bool) (laws : IsEquivalence same) 
       (same key other)
       (λ _ is. pushed ∙ ap (λ found. or_none found ++ marked put place value) (lookup_congr same laws.congr old.entries key other is))
       (λ _ _. sym (append-nil (marks_at same old other))) refl
+
+  -- where they became more whatever they were
+  pub one-more-at : (old new : HashMap K (List (Mark V)) S) (key : K) (place : ℕ) (value : V) (marks : List (Mark V))
+      → marks ≡ marks_at same old key ++ marked true place value
+      → ((other : K) → get same new other ≡ cond (same key other) (Some marks) (get same old other)) → (other : K)
+      → marks_at same new other ≡ marks_at same old other ++ marked (same key other) place value
+  one-more-at old new key place value marks pushed there other =
+      more-at old new key true place value marks pushed there other
+      ∙ ap (λ b. marks_at same old other ++ marked b place value) (and_true (same key other))
+    where
+      and_true : (b : Bool) → (b && true) ≡ b
+      and_true true = refl
+      and_true false = refl

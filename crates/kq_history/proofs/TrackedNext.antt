@@ -1,5 +1,5 @@
 -- The world and what was seen of it are those of the trace with the record that was applied and followed.
-use Rattle.std.proofs.Common.{◌≡◌, ◌+◌, ◌≤◌, ℕ, length, [], ◌∷◌, ◌++◌, Result, Ok, Err, refl, sym, ap, subst, ◌∙◌, arith}
+use Rattle.std.proofs.Common.{◌≡◌, ◌+◌, ◌≤◌, ◌<◌, ℕ, length, [], ◌∷◌, ◌++◌, Result, Ok, Err, refl, sym, ap, subst, ◌∙◌, arith}
 use Rattle.std.specs.Prelude.{IsOk}
 use Rattle.std.proofs.lemmas.Bool.{false≢true}
 use Rattle.kq_model.specs.declared.event.Event.{Event}
@@ -16,16 +16,15 @@ use Rattle.kq_process.specs.Effects.{IsEffectOf, world_after}
 use Rattle.kq_process.specs.World.{last_of, world_of, IsEffectBy, IsNext}
 use Rattle.kq_process.proofs.Applied.{counted-now}
 use Rattle.kq_history.specs.declared.seen.Seen.{Seen}
-use Rattle.kq_history.specs.Noted.{AreAllUpTo, IsNextWorld}
-use Rattle.kq_history.specs.Keys.{pair_eq}
+use Rattle.kq_history.specs.Noted.{AreAllBefore, AreAllUpTo, IsNextWorld}
 use Rattle.kq_history.specs.Seen.{seen_by, Shows}
 use Rattle.kq_history.specs.declared.sights.Sights.{Sights}
 use Rattle.kq_history.specs.Sights.{and_then, view_by, AreBetween, NotedViews}
-use Rattle.kq_history.specs.Touched.{touched_numbers, touched_targets}
+use Rattle.kq_history.specs.Touched.{touched_targets, touches}
 use Rattle.kq_history.specs.Traced.{Traced, longer, seen_at}
-use Rattle.kq_history.specs.Timelines.{marks_at}
 use Rattle.kq_history.specs.Tracked.{IsFollowed, IsFollowedBy, IsNoted, IsTracked}
 use Rattle.kq_history.proofs.Following.{marks-later}
+use Rattle.kq_history.proofs.NumberLemmas.{numbers-later}
 use Rattle.kq_history.proofs.SightLemmas.{between-later}
 use Rattle.kq_history.proofs.TracedWorlds.{end, now}
 use Rattle.kq_history.proofs.TrackedRecords.{next-world, shows-still}
@@ -33,10 +32,13 @@ use Rattle.kq_history.proofs.WorldNext.{counted_now, length_is, listed_now, plan
 
 pub up-later : (noted : NotedViews) (n m : ℕ) (s : Seen) → n ≤ m → AreAllUpTo noted n s → AreAllUpTo noted m s
 up-later noted n m s later up = record {
-  numbers = λ key. marks-later n m later (marks_at pair_eq s.numbers.table key) (up.numbers key);
+  numbers = numbers-later n m s.numbers later up.numbers;
   clock = marks-later n m later s.clock up.clock;
   sights = between-later noted.place n m s.sights.list.items later up.sights;
 }
+
+pub all-before : (noted : NotedViews) (place : ℕ) (s : Seen) → AreAllBefore noted place s → AreAllUpTo noted place s
+all-before noted place s given = let before = given.1 in up-later noted given.0 place s (omega (arith, before)) given.2
 
 module _ (n : NotedViews) (t : Traced) (e : Event) (old new : World) (s s' : Seen) (effect : Effect) (tracked : IsTracked n t old s)
     (last : last_of new ≡ end t e) where
@@ -52,15 +54,15 @@ module _ (n : NotedViews) (t : Traced) (e : Event) (old new : World) (s s' : See
   up_next : (x : Seen) → AreAllUpTo n (end t e) x → AreAllUpTo n (length (t.events ++ e ∷ [])) x
   up_next x up = subst (λ k. AreAllUpTo n k x) (sym (length_is t e)) up
 
-  followed_done : (v : Result (Unit {0}) Why) → IsOk v → IsFollowedBy (end t e) e v effect.closed effect.hints (world_of new) s s'
-      → AreAllUpTo n (end t e) s' × IsNoted (end t e) e effect.closed effect.hints (world_of new) (seen_by n s) (seen_by n s')
-  followed_done (Ok done) is followed = followed n up_here
+  followed_done : (v : Result (Unit {0}) Why) → IsOk v → IsFollowedBy (end t e) e v effect.closed effect.hints (now t e) (world_of new) s s'
+      → AreAllUpTo n (end t e) s' × IsNoted (end t e) e effect.closed effect.hints (now t e) (world_of new) (seen_by n s) (seen_by n s')
+  followed_done (Ok done) is followed = followed n (length t.events, omega arith, tracked.up_to)
   followed_done (Err why) is followed = absurd (false≢true is)
 
   tracked-by : (q : Planned) → plan (end t e) e (now t e) ≡ q → IsEffectOf q effect → world_of new ≡ world_after (end t e) q (now t e)
-      → IsFollowed (end t e) e effect (world_of new) s s' → IsTracked n (longer t e) new s'
+      → IsFollowed (end t e) e effect (now t e) (world_of new) s s' → IsTracked n (longer t e) new s'
   tracked-by (Impossible why) is refused same followed =
-      let none : s' ≡ s = subst (λ v. IsFollowedBy (end t e) e v effect.closed effect.hints (world_of new) s s') refused.verdict followed in
+      let none : s' ≡ s = subst (λ v. IsFollowedBy (end t e) e v effect.closed effect.hints (now t e) (world_of new) s s') refused.verdict followed in
       record {
         after = world-by t e old tracked.after new last (Impossible why) is same;
         shows = subst (λ x. Shows (seen_at (longer t e)) (seen_by n x)) (sym none) (shows-still t e counted_here listed_here why is (seen_by n s) tracked.shows);
@@ -70,32 +72,33 @@ module _ (n : NotedViews) (t : Traced) (e : Event) (old new : World) (s s' : See
       let noted = followed_done effect.verdict done.verdict followed in
       let counts : IsCountedWorld (end t e + 1) (world_of new) = subst (λ k. IsCountedWorld (k + 1) (world_of new)) last (counted-now new) in
       let counted_after : IsCountedWorld (end t e + 1) (carried_out (end t e) p (now t e)) = subst (IsCountedWorld (end t e + 1)) same counts in
-      let onward = next-world t e counted_here listed_here p is (seen_by n s) effect.closed done.closed counted_after tracked.shows in
+      let onward = next-world t e counted_here listed_here p is effect.closed done.closed counted_after in
       record {
         after = world-by t e old tracked.after new last (Possible p) is same;
         shows = noted.1 (seen_at t) (seen_at (longer t e))
-            (subst (λ (w : model.World counted). IsNextWorld (end t e) (views_of w) (touched_numbers e effect.closed w)
-            (touched_targets e effect.hints (seen_by n s (end t e)) (views_of w) (touched_numbers e effect.closed w)) (seen_at t) (seen_at (longer t e))) (sym same)
-            (subst (λ hints. IsNextWorld (end t e) (views_of (carried_out (end t e) p (now t e))) (touched_numbers e effect.closed (carried_out (end t e) p (now t e)))
-            (touched_targets e hints (seen_by n s (end t e)) (views_of (carried_out (end t e) p (now t e))) (touched_numbers e effect.closed (carried_out (end t e) p (now t e))))
+            (subst (λ (w : model.World counted). IsNextWorld (end t e) (views_of (now t e)) (views_of w) (touches e effect.closed)
+            (touched_targets e effect.closed effect.hints (views_of (now t e)) (views_of w)) (seen_at t) (seen_at (longer t e))) (sym same)
+            (subst (λ hints. IsNextWorld (end t e) (views_of (now t e)) (views_of (carried_out (end t e) p (now t e))) (touches e effect.closed)
+            (touched_targets e effect.closed hints (views_of (now t e)) (views_of (carried_out (end t e) p (now t e))))
             (seen_at t) (seen_at (longer t e))) (sym done.hints) onward))
             tracked.shows;
         up_to = up_next s' noted.0;
       }
 
-  tracked-here : IsEffectBy (plan (end t e) e) old effect → IsNext (end t e) (plan (end t e) e) old new → IsFollowed (end t e) e effect (world_of new) s s'
-      → IsTracked n (longer t e) new s'
+  tracked-here : IsEffectBy (plan (end t e) e) old effect → IsNext (end t e) (plan (end t e) e) old new
+      → IsFollowed (end t e) e effect (world_of old) (world_of new) s s' → IsTracked n (longer t e) new s'
   tracked-here of is followed =
       tracked-by (plan (end t e) e (now t e)) refl
       (subst (λ (w : model.World counted). IsEffectOf (plan (end t e) e w) effect) tracked.after.world of)
-      (planned-next t e old tracked.after new is) followed
+      (planned-next t e old tracked.after new is)
+      (subst (λ (w : model.World counted). IsFollowed (end t e) e effect w (world_of new) s s') tracked.after.world followed)
 
 pub tracked-next : (n : NotedViews) (t : Traced) (e : Event) (place : ℕ) (old new : World) (s s' : Seen) (effect : Effect) → length t.events + 1 ≡ place → IsTracked n t old s
     → last_of new ≡ place → IsEffectBy (plan place e) old effect → IsNext place (plan place e) old new
-    → IsFollowed place e effect (world_of new) s s' → IsTracked n (longer t e) new s'
+    → IsFollowed place e effect (world_of old) (world_of new) s s' → IsTracked n (longer t e) new s'
 tracked-next n t e place old new s s' effect at tracked =
     subst (λ p. last_of new ≡ p → IsEffectBy (plan p e) old effect → IsNext p (plan p e) old new
-    → IsFollowed p e effect (world_of new) s s' → IsTracked n (longer t e) new s') at (λ last. tracked-here n t e old new s s' effect tracked last)
+    → IsFollowed p e effect (world_of old) (world_of new) s s' → IsTracked n (longer t e) new s') at (λ last. tracked-here n t e old new s s' effect tracked last)
 
 -- what was seen of targets was noted, and none of it is left
 pub all-noted : (n : NotedViews) (t : Traced) (w : World) (s : Seen) (left : Sights) → left.list.items ≡ [] → IsTracked n t w s

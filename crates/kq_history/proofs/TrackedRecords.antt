@@ -17,7 +17,7 @@ use Rattle.kq_model.specs.Views.{Views}
 use Rattle.kq_model.specs.World.{World, Plan, Impossible, Possible, carried_out, named_by, views_of}
 use Rattle.kq_history.specs.Noted.{IsNextWorld}
 use Rattle.kq_history.specs.Seen.{Shows}
-use Rattle.kq_history.specs.Touched.{all_named, has_target, targets_left, tells_file, told_targets, touched_numbers, touched_targets}
+use Rattle.kq_history.specs.Touched.{touched_targets, touches}
 use Rattle.kq_history.specs.Spoken.{opened_numbers, spoken_numbers, spoken_targets}
 use Rattle.kq_history.specs.Traced.{Traced, longer, seen_at}
 use Rattle.kq_history.proofs.AnyWithin.{any-within}
@@ -28,23 +28,6 @@ use Rattle.kq_history.proofs.UntouchedRecords.{untouched_number, untouched_view}
 use Rattle.kq_history.specs.Within.{IsWithin, IsWithinRecord}
 
 module _ (t : Traced) (e : Event) (counts : IsCountedWorld (end t e) (now t e)) (lists : AreListed (now t e).objects) where
-  -- what was seen after the last record
-  before-same : (s : ℕ → Views) → Shows (seen_at t) s → (s (end t e)).descriptor ≡ (views_of (now t e)).descriptor
-  before-same s shows =
-      fun_ext (λ pid. fun_ext (λ number.
-      shows.descriptor (end t e) pid number ∙ ap (λ (v : Views). v.descriptor pid number) (seen-stands t e (end t e) (itself (end t e)))))
-    where
-      itself : (n : ℕ) → ltb n n ≡ false
-      itself n = le-ltb n n (omega arith)
-
-  abbrev left_by_numbers : (ℕ → ℕ → Option Named) → Bool → List (ℕ × ℕ) → List Target
-  left_by_numbers names tells numbers = flat_map (λ (p : ℕ × ℕ). targets_left tells (names p.0 p.1)) numbers
-
-  targets-same : (s : ℕ → Views) (after : Views) (hints : _) (numbers : List (ℕ × ℕ)) → Shows (seen_at t) s
-      → touched_targets e hints (s (end t e)) after numbers ≡ touched_targets e hints (views_of (now t e)) after numbers
-  targets-same s after hints numbers shows =
-      ap (λ names. left_by_numbers names (tells_file hints) numbers ++ (told_targets hints ++ (spoken_targets e ++ all_named after (spoken_numbers e)))) (before-same s shows)
-
   within : (p : Plan) → plan (end t e) e (now t e) ≡ Possible p → IsWithin (opened_numbers e) (spoken_numbers e) (spoken_targets e) (now t e) p
   within p is = subst (IsWithinRecord e (now t e)) is (any-within (end t e) e (now t e) counts lists)
 
@@ -61,19 +44,15 @@ module _ (t : Traced) (e : Event) (counts : IsCountedWorld (end t e) (now t e)) 
     pub next-listed : AreListed after.objects
     next-listed = (subst (KeepsLists (end t e) (now t e)) is (listed-record (end t e) e (now t e))).keeps counts lists
 
-    pub next-world : (s : ℕ → Views) (closed : List (ℕ × ℕ)) → map to_pair closed ≡ p.closed → IsCountedWorld (end t e + 1) after → Shows (seen_at t) s
-        → IsNextWorld (end t e) (views_of after) (touched_numbers e closed after)
-        (touched_targets e p.hints (s (end t e)) (views_of after) (touched_numbers e closed after)) (seen_at t) (seen_at (longer t e))
+    pub next-world : (closed : List (ℕ × ℕ)) → map to_pair closed ≡ p.closed → IsCountedWorld (end t e + 1) after
+        → IsNextWorld (end t e) (views_of (now t e)) (views_of after) (touches e closed)
+        (touched_targets e closed p.hints (views_of (now t e)) (views_of after)) (seen_at t) (seen_at (longer t e))
     unfolding views_of named_by
-    next-world s closed shut counted_after shows = record {
+    next-world closed shut counted_after = record {
       earlier = λ at. seen-longer t e at ∙ ap (λ (w : World counted). cond (ltb at (end t e)) (seen_at t at) (views_of w)) next-is;
-      same_numbers = λ at pid number later untouched.
-          untouched_number (end t e) e (now t e) p closed shut (within p is) pid number untouched
-          ∙ ap (λ (v : Views). v.descriptor pid number) (sym (seen-stands t e at later));
-      same_views = λ at x later untouched.
-          untouched_view (end t e) e (now t e) p closed shut (within p is) counted_after.rising x
-          (ap (has_target x) (sym (targets-same s (views_of after) p.hints (touched_numbers e closed after) shows)) ∙ untouched)
-          ∙ ap (λ (v : Views). v.view x) (sym (seen-stands t e at later));
+      stood = λ at later. seen-stands t e at later;
+      same_numbers = λ pid number untouched. untouched_number (end t e) e (now t e) p closed shut (within p is) pid number untouched;
+      same_views = λ x untouched. untouched_view (end t e) e (now t e) p closed shut (within p is) counted_after.rising x untouched;
     }
 
   -- ---- an impossible record

@@ -15,6 +15,8 @@ pub mod Touched
 pub mod Accounts
 pub mod Within
 pub mod Keys
+pub mod Numbers
+pub mod Slots
 pub mod Sights
 pub mod Seen
 pub mod Noted

@@ -1,16 +1,13 @@
 -- What was seen of a world after each place; and when that is what a trace's worlds show.
-use Rattle.std.specs.Prelude.{◌≡◌, ◌≤◌, ℕ, Bool, List, [], Option, None}
-use Rattle.std.specs.HashMap.{HashMap}
-use Rattle.kq_model.specs.declared.object.Named.{Named}
+use Rattle.std.specs.Prelude.{◌≡◌, ◌≤◌, ℕ, Bool, List, []}
 use Rattle.kq_model.specs.declared.object.Target.{Target}
 use Rattle.kq_model.specs.Ticks.{last_moment}
 use Rattle.kq_model.specs.Views.{Views}
+use Rattle.kq_history.specs.declared.numbers.Numbers.{Numbers}
 use Rattle.kq_history.specs.declared.seen.Seen.{Seen}
-use Rattle.kq_history.specs.declared.timeline.Mark.{Mark}
-use Rattle.kq_history.specs.Keys.{pair_eq}
+use Rattle.kq_history.specs.Numbers.{IsBlankOf, named_at}
 use Rattle.kq_history.specs.Sights.{NotedViews, view_by}
 use Rattle.kq_history.specs.Timeline.{value_at}
-use Rattle.kq_history.specs.Timelines.{marks_at}
 use Rattle.kq_history.specs.Touched.{targets_left}
 
 -- what its marks give at a place, and of targets what was noted of them, with its sights behind that; before all of
@@ -18,13 +15,13 @@ use Rattle.kq_history.specs.Touched.{targets_left}
 abbrev pub seen_by : NotedViews → Seen → ℕ → Views
 seen_by n s place = record {
   view = λ t. view_by s.sights.list.items place t (n.view place t);
-  descriptor = λ pid number. value_at place None (marks_at pair_eq s.numbers.table (pid, number));
+  descriptor = λ pid number. named_at s.numbers place pid number;
   now = value_at place 0 s.clock;
 }
 
--- of what a number names by its marks at a place, what may have ended
-abbrev pub left_by : {S : Type 0} → HashMap (ℕ × ℕ) (List (Mark (Option Named))) S → ℕ → Bool → ℕ × ℕ → List Target
-left_by table place tells p = targets_left tells (value_at place None (marks_at pair_eq table p))
+-- of what a number names at a place, what may have ended
+abbrev pub left_at : Numbers → ℕ → Bool → ℕ × ℕ → List Target
+left_at numbers place tells p = targets_left tells (named_at numbers place p.0 p.1)
 
 -- at every place what was seen is what these worlds show, whose clock is within its range
 pub record Shows (worlds seen : ℕ → Views) : Type 0 where
@@ -35,6 +32,6 @@ pub record Shows (worlds seen : ℕ → Views) : Type 0 where
 
 -- nothing was seen yet
 pub record IsBlank (s : Seen) : Type 0 where
-  pub numbers : (key : ℕ × ℕ) → marks_at pair_eq s.numbers.table key ≡ []
+  pub numbers : IsBlankOf s.numbers
   pub clock : s.clock ≡ []
   pub sights : s.sights.list.items ≡ []

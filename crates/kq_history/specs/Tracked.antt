@@ -12,10 +12,10 @@ use Rattle.kq_process.specs.World.{last_of, world_of}
 use Rattle.kq_process.specs.declared.effect.Effect.{Effect}
 use Rattle.kq_process.specs.declared.world.World.{World}
 use Rattle.kq_history.specs.declared.seen.Seen.{Seen}
-use Rattle.kq_history.specs.Noted.{AreAllUpTo, IsNextWorld}
+use Rattle.kq_history.specs.Noted.{AreAllBefore, AreAllUpTo, IsNextWorld}
 use Rattle.kq_history.specs.Seen.{seen_by, Shows}
 use Rattle.kq_history.specs.Sights.{NotedViews}
-use Rattle.kq_history.specs.Touched.{touched_numbers, touched_targets}
+use Rattle.kq_history.specs.Touched.{touched_targets, touches}
 use Rattle.kq_history.specs.Traced.{Traced, seen_at, world_at_end}
 
 -- this is the world after all of the records
@@ -30,23 +30,25 @@ pub record IsTracked (n : NotedViews) (t : Traced) (w : World) (s : Seen) : Type
   pub shows : Shows (seen_at t) (seen_by n s)
   pub up_to : AreAllUpTo n (length t.events) s
 
--- ---- one record more
+-- ---- one record more, with the worlds before it and after it
 
 -- all that it touches was noted: where what is seen goes on with the world after it, that is shown now
-abbrev pub IsNoted : ℕ → Event → List (ℕ × ℕ) → List Posted → model.World counted → (ℕ → Views) → (ℕ → Views) → Type 0
-IsNoted place e closed hints after old new =
+abbrev pub IsNoted : ℕ → Event → List (ℕ × ℕ) → List Posted → model.World counted → model.World counted → (ℕ → Views)
+    → (ℕ → Views) → Type 0
+IsNoted place e closed hints before after old new =
     (worlds next : ℕ → Views)
-    → IsNextWorld place (views_of after) (touched_numbers e closed after)
-    (touched_targets e hints (old place) (views_of after) (touched_numbers e closed after)) worlds next
+    → IsNextWorld place (views_of before) (views_of after) (touches e closed)
+    (touched_targets e closed hints (views_of before) (views_of after)) worlds next
     → Shows worlds old → Shows next new
 
 abbrev pub IsFollowedBy : ℕ → Event → Result (Unit {0}) Why → List (ℕ × ℕ) → List Posted → model.World counted
-    → Seen → Seen → Type 0
-IsFollowedBy place e (Err why) closed hints after old new = new ≡ old
-IsFollowedBy place e (Ok done) closed hints after old new =
-    (n : NotedViews) → AreAllUpTo n place old
-    → AreAllUpTo n place new × IsNoted place e closed hints after (seen_by n old) (seen_by n new)
+    → model.World counted → Seen → Seen → Type 0
+IsFollowedBy place e (Err why) closed hints before after old new = new ≡ old
+IsFollowedBy place e (Ok done) closed hints before after old new =
+    (n : NotedViews) → AreAllBefore n place old
+    → AreAllUpTo n place new × IsNoted place e closed hints before after (seen_by n old) (seen_by n new)
 
 -- of an impossible record nothing is noted
-abbrev pub IsFollowed : ℕ → Event → Effect → model.World counted → Seen → Seen → Type 0
-IsFollowed place e effect after old new = IsFollowedBy place e effect.verdict effect.closed effect.hints after old new
+abbrev pub IsFollowed : ℕ → Event → Effect → model.World counted → model.World counted → Seen → Seen → Type 0
+IsFollowed place e effect before after old new =
+    IsFollowedBy place e effect.verdict effect.closed effect.hints before after old new

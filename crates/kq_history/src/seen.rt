@@ -1,28 +1,28 @@
-ghost use Rattle.std.specs.Prelude.{◌≡◌, ◌≤◌, ◌++◌, ℕ, ◌&&◌, nat_le, None, OnOk, if◌then◌else◌};
+ghost use Rattle.std.specs.Prelude.{◌≡◌, ◌≤◌, ◌++◌, ℕ, ◌&&◌, nat_le, OnOk, if◌then◌else◌};
 ghost use Rattle.std.specs.List.{flat_map};
 ghost use Rattle.kq_model.specs.Ticks.{last_moment};
 ghost use Rattle.kq_model.specs.Views as model;
-ghost use Rattle.kq_history.specs.Noted.{AreAllUpTo, IsNextWorld};
-ghost use Rattle.kq_history.specs.Keys.{pair_eq};
-ghost use Rattle.kq_history.specs.Seen.{left_by, IsBlank, seen_by, Shows};
+ghost use Rattle.kq_model.specs.World.{views_of};
+ghost use Rattle.kq_process.specs.World.{world_of};
+ghost use Rattle.kq_history.specs.Noted.{AreAllBefore, AreAllUpTo, IsNextWorld};
+ghost use Rattle.kq_history.specs.Numbers.{named_at, AreNumbersBefore, AreNumbersUpTo};
+ghost use Rattle.kq_history.specs.Seen.{left_at, IsBlank, seen_by, Shows};
 ghost use Rattle.kq_history.specs.Sights.{NotedViews};
-ghost use Rattle.kq_history.specs.Timeline.{value_at};
-ghost use Rattle.kq_history.specs.Timelines.{marks_at, AreUpTo};
-ghost use Rattle.kq_history.specs.Touched.{has_number, left_of, AreAmong};
+ghost use Rattle.kq_history.specs.Touched.{has_number, is_of, left_of, to_note, AreAmong, AreApart};
 
+use crate::numbers::Numbers;
 use crate::sights::Sights;
 use crate::timeline::Timeline;
-use crate::timelines::Timelines;
-use crate::touched::add_left;
-use kq_filters::Views;
-use kq_model::{Memory, Named, Target};
+use crate::touched::{Touched, add_left};
+use kq_model::{Memory, Target};
+use kq_process::World;
 use std::alloc::Global;
 
 /// What was seen of the world after each record: what numbers named, the clock, and of targets what
 /// was not handed over yet.
 #[derive(Drop)]
 pub struct Seen {
-    pub(crate) numbers: Timelines<(u32, u32), Option<Named>>,
+    pub(crate) numbers: Numbers,
     pub(crate) clock: Timeline<u64>,
     pub(crate) sights: Sights,
 }
@@ -33,69 +33,98 @@ impl Seen {
         ensures { IsBlank result }
     {
         Seen {
-            numbers: Timelines::new(alloc),
+            numbers: Numbers::new(alloc),
             clock: Timeline::new(alloc),
             sights: Sights::new(alloc),
         }
     }
 
-    /// Notes the world after the record of a place: of the numbers that the record touched, where
-    /// they name something else; of the targets that it touched and of what may have ended of those that these numbers
-    /// named, which it adds to the others; and of the clock. `tells` is whether it told a file. After Memory nothing is
-    /// known.
-    pub fn note<V: Views>(
+    /// Notes the world after the record of a place, behind all that was noted: of the process that the record
+    /// retables, and of the single numbers that it touched, what they name; of the targets that it touched, to which
+    /// it adds what may have ended of those that these numbers named; and of the clock. `tells` is whether it told a
+    /// file. After Memory nothing is known.
+    pub fn note(
         &mut self,
         place: u64,
-        numbers: &[(u32, u32)],
         tells: bool,
-        targets: &mut Vec<Target>,
-        views: &V,
+        touched: &mut Touched,
+        world: &World,
     ) -> Result<(), Memory>
-        requires { (noted : NotedViews) × AreAllUpTo noted place self.old }
-        ensures up_to { OnOk result ((noted : NotedViews) → AreAllUpTo noted place self.old
+        requires before { (noted : NotedViews) × AreAllBefore noted place self.old }
+        requires apart { AreApart touched.old.process touched.old.numbers.items }
+        ensures up_to { OnOk result ((noted : NotedViews) → AreAllBefore noted place self.old
             → AreAllUpTo noted place self.new) }
-        ensures shows { OnOk result ((noted : NotedViews) (worlds next : ℕ → model.Views)
-            → IsNextWorld place (V.sees views.now) numbers.now
-            (flat_map (left_of tells (seen_by noted self.old place)) numbers.now ++ targets.old.items) worlds next
+        ensures shows { OnOk result ((noted : NotedViews) (before : model.Views) (worlds next : ℕ → model.Views)
+            → IsNextWorld place before (views_of (world_of world.now))
+            (to_note touched.old.process touched.old.numbers.items)
+            (flat_map (left_of tells before) touched.old.numbers.items ++ touched.old.targets.items) worlds next
             → Shows worlds (seen_by noted self.old) → Shows next (seen_by noted self.new)) }
     {
-        note_numbers(&mut self.numbers, place, numbers, tells, targets, views)?;
-        self.sights.add(place, targets.as_slice(), views)?;
-        self.clock.note(place, 0, moment_of(views))?;
+        note_process(&mut self.numbers, place, touched.process, world)?;
+        let numbers = touched.numbers.as_slice();
+        note_numbers(
+            &mut self.numbers,
+            place,
+            numbers,
+            tells,
+            &mut touched.targets,
+            world,
+        )?;
+        self.sights.add(place, touched.targets.as_slice(), world)?;
+        self.clock.note(place, 0, moment_of(world))?;
         Ok(())
     }
 }
 
 /// The moment at which the clock is.
-fn moment_of<V: Views>(views: &V) -> u64
-    ensures moment { result ≡ (V.sees views.now).now }
-    ensures within { (V.sees views.now).now ≤ last_moment }
+#[tactic(auto, unfolding(kq_model::specs::World::views_of))]
+fn moment_of(world: &World) -> u64
+    ensures moment { result ≡ (views_of (world_of world.now)).now }
+    ensures within { (views_of (world_of world.now)).now ≤ last_moment }
 {
-    views.now() as u64
+    world.now() as u64
+}
+
+/// What all numbers of a process name.
+fn note_process(
+    numbers: &mut Numbers,
+    place: u64,
+    process: Option<u32>,
+    world: &World,
+) -> Result<(), Memory>
+    requires { AreNumbersBefore place numbers.old }
+    ensures up_to { OnOk result (AreNumbersUpTo place numbers.new) }
+    ensures noted { OnOk result ((pid number at : ℕ) → named_at numbers.new at pid number
+        ≡ (if is_of process pid && nat_le place at then (views_of (world_of world.now)).descriptor pid number
+        else named_at numbers.old at pid number)) }
+{
+    match process {
+        None => Ok(()),
+        Some(pid) => numbers.retable(pid, place, world.descriptors(pid)),
+    }
 }
 
 /// What these numbers name, and the targets that may have ended of those that they named before the place.
-fn note_numbers<V: Views>(
-    timelines: &mut Timelines<(u32, u32), Option<Named>>,
+fn note_numbers(
+    numbers: &mut Numbers,
     place: u64,
-    numbers: &[(u32, u32)],
+    touched: &[(u32, u32)],
     tells: bool,
     targets: &mut Vec<Target>,
-    views: &V,
+    world: &World,
 ) -> Result<(), Memory>
-    requires { AreUpTo pair_eq place timelines.old.table }
-    ensures up_to { OnOk result (AreUpTo pair_eq place timelines.new.table) }
-    ensures noted { OnOk result ((pid number at : ℕ) →
-        value_at at None (marks_at pair_eq timelines.new.table (pid, number))
-        ≡ (if has_number pid number numbers.now && nat_le place at
-        then (V.sees views.now).descriptor pid number
-        else value_at at None (marks_at pair_eq timelines.old.table (pid, number)))) }
+    requires { AreNumbersUpTo place numbers.old }
+    ensures up_to { OnOk result (AreNumbersUpTo place numbers.new) }
+    ensures noted { OnOk result ((pid number at : ℕ) → named_at numbers.new at pid number
+        ≡ (if has_number pid number touched.now && nat_le place at
+        then (views_of (world_of world.now)).descriptor pid number
+        else named_at numbers.old at pid number)) }
     ensures named { OnOk result (AreAmong
-        (flat_map (left_by timelines.old.table place tells) numbers.now ++ targets.old.items) targets.new.items) }
+        (flat_map (left_at numbers.old place tells) touched.now ++ targets.old.items) targets.new.items) }
 {
-    for number in numbers {
-        let named = views.descriptor(number.0, number.1);
-        let had = timelines.note(*number, place, None, named)?;
+    for pair in touched {
+        let (pid, number) = *pair;
+        let had = numbers.note(pid, number, place, world.descriptor(pid, number))?;
         add_left(targets, tells, had)?;
     }
     Ok(())

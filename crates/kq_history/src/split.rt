@@ -5,6 +5,7 @@ use crate::at::HistoryAt;
 use crate::guesses::Guesses;
 use crate::item::Source;
 use crate::looking::Looking;
+use crate::numbers::Numbers;
 use crate::private::Private;
 use crate::said::Said;
 use crate::splitting::Splitting;
@@ -18,7 +19,7 @@ use std::marker::Model;
 /// wherever that is.
 #[derive(Drop)]
 pub struct Spent {
-    numbers: Timelines<(u32, u32), Option<Named>>,
+    numbers: Numbers,
     views: Timelines<Target, Option<View>>,
     clock: Timeline<u64>,
     said: Said,
@@ -31,7 +32,7 @@ pub struct Spent {
 pub struct Split<'a> {
     pub(crate) version: u32,
     pub(crate) events: &'a [Event],
-    pub(crate) numbers: Timelines<(u32, u32), Option<Named>>,
+    pub(crate) numbers: Numbers,
     pub(crate) views: Timelines<Target, Option<View>>,
     pub(crate) clock: Timeline<u64>,
     pub(crate) said: Said,
@@ -186,7 +187,7 @@ impl<'a> Split<'a> {
     pub(crate) fn descriptor(&self, place: u64, pid: u32, number: u32) -> Option<Named>
         ensures { result ≡ (seen_at self.now place).descriptor pid number }
     {
-        self.numbers.at((pid, number), place, None)
+        self.numbers.at(pid, number, place)
     }
 
     /// The clock after a place, in ns.

@@ -1,5 +1,6 @@
 ghost use Rattle.std.specs.Prelude.{◌≡◌, ◌≤◌, ◌++◌, ◌∷◌, [], true, not, ℕ, length, IfOk, OnOk, OnErr};
-ghost use Rattle.kq_history.specs.Timeline.{last_value, mark, marked, value_at, HaveBegun, IsUpTo};
+ghost use Rattle.std.specs.Option.{option_copied};
+ghost use Rattle.kq_history.specs.Timeline.{last_value, mark, mark_at, mark_or, marked, value_at, HaveBegun, IsUpTo};
 
 use kq_model::Memory;
 use std::alloc::Global;
@@ -109,7 +110,18 @@ impl<V> Timeline<V> {
         self.behind(self.count_at(place), before)
     }
 
-    /// The same, and how many marks are at the place or before it, of which one has a guess. It costs a constant
+    /// The last mark at the place or before it, if there is one. It costs a constant where no mark is later.
+    pub fn mark_at(&self, place: u64) -> Option<&Mark<V>>
+        ensures { (before : Mark V) → mark_at place before self.now ≡ mark_or before (option_copied result) }
+    {
+        let count = self.count_to(place);
+        if count == 0 {
+            return None;
+        }
+        Some(&self.marks[count - 1])
+    }
+
+    /// The value, and how many marks are at the place or before it, of which one has a guess. It costs a constant
     /// where the guess is right or a little too small, else a search.
     pub fn at_from(&self, place: u64, before: V, guess: usize) -> (V, usize)
     where
@@ -139,6 +151,18 @@ impl<V> Timeline<V> {
         ensures begun { HaveBegun place result self.now }
     {
         self.marks.partition_point(|mark| mark.place <= place)
+    }
+
+    /// The same. It costs a constant where all are.
+    fn count_to(&self, place: u64) -> usize
+        ensures within { result ≤ length self.now }
+        ensures begun { HaveBegun place result self.now }
+    {
+        let all = self.marks.len();
+        if self.have_begun(all, place) {
+            return all;
+        }
+        self.count_at(place)
     }
 
     /// The same, where one has a guess.

@@ -1,10 +1,14 @@
 // The world over a trace, and what is seen of it after each record.
 ghost use Rattle.std.specs.Prelude.{◌≡◌, ◌+◌, ◌<◌, length, IfOk, OnOk};
+ghost use Rattle.kq_model.specs.Objects.{counted};
 ghost use Rattle.kq_model.specs.Plans.{plan};
+ghost use Rattle.kq_model.specs.World as model;
 ghost use Rattle.kq_process.specs.World.{last_of, world_of, IsEffectBy};
-ghost use Rattle.kq_history.specs.Noted.{AreAllUpTo};
+ghost use Rattle.kq_history.specs.Noted.{AreAllBefore, AreAllUpTo};
 ghost use Rattle.kq_history.specs.Seen.{seen_by};
 ghost use Rattle.kq_history.specs.Sights.{NotedViews};
+ghost use Rattle.kq_history.specs.Slots.{AreSlotsOf};
+ghost use Rattle.kq_history.specs.Spoken.{spoken_process};
 ghost use Rattle.kq_history.specs.Traced.{longer, Traced};
 ghost use Rattle.kq_history.specs.Tracked.{IsFollowed, IsNoted, IsTracked};
 
@@ -23,11 +27,12 @@ pub fn track(
     touched: &mut Touched,
 ) -> Result<Effect, Memory>
     requires places { last_of world.old < place }
-    requires up_to { (n : NotedViews) × AreAllUpTo n place seen.old }
+    requires before { (n : NotedViews) × AreAllBefore n place seen.old }
     ensures effect { IfOk result (IsEffectBy (plan place event.now) world.old) }
     ensures tracked { OnOk result ((n : NotedViews) (t : Traced) → length t.events + 1 ≡ place
         → IsTracked n t world.old seen.old → IsTracked n (longer t event.now) world.new seen.new) }
 {
+    touched.begin(event, world)?;
     let effect = world.apply(place, event)?;
     follow(place, event, &effect, world, seen, touched)?;
     Ok(effect)
@@ -42,8 +47,10 @@ fn follow(
     seen: &mut Seen,
     touched: &mut Touched,
 ) -> Result<(), Memory>
-    requires { (n : NotedViews) × AreAllUpTo n place seen.old }
-    ensures { OnOk result (IsFollowed place event.now effect.now (world_of world.now) seen.old seen.new) }
+    requires { (n : NotedViews) × AreAllBefore n place seen.old }
+    ensures { OnOk result ((before : model.World counted)
+        → AreSlotsOf (spoken_process event.now) before touched.old.before.items
+        → IsFollowed place event.now effect.now before (world_of world.now) seen.old seen.new) }
 {
     match effect.verdict {
         Err(_) => Ok(()),
@@ -60,17 +67,13 @@ fn note(
     seen: &mut Seen,
     touched: &mut Touched,
 ) -> Result<(), Memory>
-    requires { (n : NotedViews) × AreAllUpTo n place seen.old }
-    ensures up_to { OnOk result ((n : NotedViews) → AreAllUpTo n place seen.old → AreAllUpTo n place seen.new) }
-    ensures noted { OnOk result ((n : NotedViews) → IsNoted place event.now effect.now.closed effect.now.hints
-        (world_of world.now) (seen_by n seen.old) (seen_by n seen.new)) }
+    requires { (n : NotedViews) × AreAllBefore n place seen.old }
+    ensures up_to { OnOk result ((n : NotedViews) → AreAllBefore n place seen.old → AreAllUpTo n place seen.new) }
+    ensures noted { OnOk result ((before : model.World counted)
+        → AreSlotsOf (spoken_process event.now) before touched.old.before.items → (n : NotedViews)
+        → IsNoted place event.now effect.now.closed effect.now.hints before (world_of world.now)
+        (seen_by n seen.old) (seen_by n seen.new)) }
 {
     touched.fill(event, effect, world)?;
-    seen.note(
-        place,
-        touched.numbers.as_slice(),
-        tells_file(effect.hints.as_slice()),
-        &mut touched.targets,
-        world,
-    )
+    seen.note(place, tells_file(effect.hints.as_slice()), touched, world)
 }

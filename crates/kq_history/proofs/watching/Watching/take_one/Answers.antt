@@ -7,17 +7,14 @@ use Rattle.kq_history.specs.Splitting.{IsWatchedSoFar}
 use Rattle.kq_history.specs.Traced.{Traced}
 use Rattle.kq_history.proofs.SplitNext.{one-each, places-rise}
 use Rattle.kq_history.proofs.SplittingNext.{watching-next}
-use Rattle.kq_history.proofs.TrackedNext.{up-later}
 use Rattle.kq_history.proofs.watching.Watching.take_one.Goals as goal
 
 pub track-requires-clause-places : goal.track-requires-clause-places
 track-requires-clause-places c = omega (arith, c.requires.3, c.requires.4.tracked.after.last)
 
-pub track-requires-clause-up_to : goal.track-requires-clause-up_to
-track-requires-clause-up_to c = (
-  c.requires.0,
-  up-later c.requires.0 (length c.requires.2.events) c.args.place c.args.self.now.seen (omega (arith, c.requires.3)) c.requires.4.tracked.up_to,
-)
+pub track-requires-clause-before : goal.track-requires-clause-before
+track-requires-clause-before c =
+    (c.requires.0, (length c.requires.2.events, omega (arith, c.requires.3), c.requires.4.tracked.up_to))
 
 pub name_kqueue-requires-clause-rising : goal.name_kqueue-requires-clause-rising
 name_kqueue-requires-clause-rising c = places-rise c.requires.2 c.args.self.now.kqueues c.requires.4.kqueues

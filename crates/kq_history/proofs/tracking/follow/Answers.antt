@@ -1,0 +1,22 @@
+use Rattle.std.proofs.Common.{◌≡◌, ℕ, OnOk, Result, Ok, Err, sym, subst}
+use Rattle.kq_model.specs.declared.why.Why.{Why}
+use Rattle.kq_model.specs.Objects.{counted}
+use Rattle.kq_model.specs.World as model
+use Rattle.kq_process.specs.World.{world_of}
+use Rattle.kq_history.specs.Slots.{AreSlotsOf}
+use Rattle.kq_history.specs.Spoken.{spoken_process}
+use Rattle.kq_history.specs.Tracked.{IsFollowedBy}
+use Rattle.kq_history.proofs.tracking.follow.Goals as goal
+
+on_both : {T E : Type 0} {P Q R : Type 0} (r : Result T E) → (P → Q → R) → OnOk r P → OnOk r Q → OnOk r R
+on_both (Ok x) then p q = then p q
+on_both (Err e) then p q = tt
+
+pub returns-in-Ok : goal.returns-in-Ok
+returns-in-Ok c =
+    let e = c.args.event.now in
+    let effect = c.args.effect.now in
+    subst (λ (v : Result (Unit {0}) Why). OnOk c.note.result ((before : model.World counted)
+    → AreSlotsOf (spoken_process e) before c.args.touched.now.before.items
+    → IsFollowedBy c.args.place e v effect.closed effect.hints before (world_of c.args.world.now) c.args.seen.now c.note.new.seen)) (sym c.in-Ok.is)
+    (on_both c.note.result (λ up noted before are n given. (up n given, noted before are n)) c.note.ensures.up_to c.note.ensures.noted)
