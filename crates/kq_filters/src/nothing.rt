@@ -1,8 +1,7 @@
 ghost use Rattle.std.specs.Prelude.{◌≡◌};
 ghost use Rattle.kq_filters.specs.Nothing.{nothing_there};
 
-use crate::Views;
-use kq_model::{Named, Target, View};
+use kq_model::{Named, Target, View, Views};
 
 /// A world in which nothing is there and the clock stands at 0: for kqueues with nothing but user
 /// events, which need no world.

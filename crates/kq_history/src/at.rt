@@ -1,6 +1,5 @@
 use crate::split::Split;
-use kq_filters::Views;
-use kq_model::{Named, Target, View};
+use kq_model::{Named, Target, View, Views};
 
 /// The world after the record of a place, as kqueues see it.
 #[derive(Drop, Clone, Copy)]

@@ -10,9 +10,8 @@ ghost use Rattle.kq_history.specs.Sources.{call_sources, Grows};
 
 use crate::item::Source;
 use crate::sources::Sources;
-use kq_filters::Views;
 use kq_model::notes::NOTE_TRACK;
-use kq_model::{Change, Filter, Memory};
+use kq_model::{Change, Filter, Memory, Views};
 use std::alloc::Global;
 use std::collections::HashSet;
 

@@ -1,7 +1,6 @@
 use crate::guesses::Guesses;
 use crate::split::Split;
-use kq_filters::Views;
-use kq_model::{Named, Target, View};
+use kq_model::{Named, Target, View, Views};
 
 /// The world after the record of a place, as one kqueue sees it that goes from place to place: a look at a target goes
 /// on from where the last one ended.

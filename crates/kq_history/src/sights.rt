@@ -1,8 +1,7 @@
 ghost use Rattle.std.specs.Prelude.{◌≡◌, ◌++◌, [], OnOk};
 ghost use Rattle.kq_history.specs.Sights.{sights_of};
 
-use kq_filters::Views;
-use kq_model::{Memory, Target, View};
+use kq_model::{Memory, Target, View, Views};
 use std::alloc::Global;
 
 /// What was seen of a target after the record of a place.

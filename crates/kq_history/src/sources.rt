@@ -6,9 +6,7 @@ ghost use Rattle.kq_model.specs.Knote.{is_timer, watches_number};
 ghost use Rattle.kq_model.specs.References.{named_target, unless_file};
 
 use crate::item::Source;
-use kq_filters::Views;
-use kq_kevent::target_of;
-use kq_model::{Change, Filter, Memory, Target};
+use kq_model::{Change, Filter, Memory, Target, Views, target_of};
 use smallvec::SmallVec;
 use std::alloc::Global;
 use std::collections::HashSet;

@@ -2,9 +2,8 @@ ghost use Rattle.std.specs.Prelude.{MatchResult};
 ghost use Rattle.kq_model.specs.Kqueue.{IsSound};
 ghost use Rattle.kq_judge.specs.Pending.{IsPending, IsAbsence};
 
-use kq_filters::Views;
 use kq_kevent::{Kq, event_of, look_in};
-use kq_model::{Kevent, Key};
+use kq_model::{Kevent, Key, Views};
 
 /// Why a kevent is not to be returned.
 #[derive(Debug, Drop, Clone, Copy, PartialEq, Eq)]

@@ -12,9 +12,8 @@ ghost use Rattle.kq_judge.specs.Judged.{IsOwnFault, IsRightBehind, IsWrongAt};
 
 use crate::absence::{Absence, pending_event};
 use crate::member::{Ignored, Member, differing};
-use kq_filters::Views;
 use kq_kevent::Kq;
-use kq_model::{Kevent, Key, Memory};
+use kq_model::{Kevent, Key, Memory, Views};
 use kq_table::Table;
 use std::alloc::Global;
 

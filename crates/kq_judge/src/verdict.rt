@@ -8,9 +8,8 @@ ghost use Rattle.kq_judge.specs.Verdicts.{keys_looked_at, looked_at, verdict_in_
 
 use crate::absence::{Absence, pending_event};
 use crate::judging::{most_waiting, was_returned};
-use kq_filters::Views;
 use kq_kevent::Kq;
-use kq_model::{Key, Memory};
+use kq_model::{Key, Memory, Views};
 use kq_table::Table;
 use std::alloc::Global;
 

@@ -9,8 +9,7 @@ ghost use Rattle.kq_kevent.specs.Owned.{caller, limit};
 
 use crate::Kq;
 use crate::process::Ending;
-use kq_filters::Views;
-use kq_model::{Change, Filter, Kevent, Memory, Reply, Series};
+use kq_model::{Change, Filter, Kevent, Memory, Reply, Series, Views};
 
 /// The answer that has these events, and keeps no memory besides.
 pub fn answer(mut events: Vec<Kevent>) -> Reply

@@ -9,9 +9,8 @@ ghost use Rattle.kq_kevent.specs.Owned.{caller};
 use crate::Kq;
 use crate::refusals::{is_malformed, is_unopened, own_refusal};
 use crate::register::asks;
-use kq_filters::Views;
 use kq_knote::Knote;
-use kq_model::{Change, Errno, EvFlags};
+use kq_model::{Change, Errno, EvFlags, Views};
 use kq_table::Placed;
 
 /// What a change is to do.

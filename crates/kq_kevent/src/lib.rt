@@ -8,7 +8,6 @@ mod close;
 mod decide;
 mod kq;
 mod look;
-mod named;
 mod notify;
 mod process;
 mod queue;
@@ -19,4 +18,3 @@ mod steps;
 
 pub use kq::Kq;
 pub use look::{event_of, look_in};
-pub use named::target_of;

@@ -5,9 +5,9 @@ ghost use Rattle.kq_model.specs.ChangedKnote.{attended};
 ghost use Rattle.kq_model.specs.Retrieval.{event_flags, event_of};
 
 use bitflags::Flags;
-use kq_filters::{Seen, Views, look, look_user, notice_or};
+use kq_filters::{Seen, look, look_user, notice_or};
 use kq_knote::Knote;
-use kq_model::{EvFlags, Filter, Kevent};
+use kq_model::{EvFlags, Filter, Kevent, Views};
 
 /// The look of a filter at its target.
 fn look_at_target<V: Views>(views: &V, knote: &Knote) -> Option<Seen>

@@ -20,10 +20,10 @@ ghost use Rattle.kq_kevent.specs.Telling.{fork_told, told_one, told_all, LeaveIt
 
 use crate::Kq;
 use crate::look::look_in;
-use kq_filters::{Heard, Views, hear, stays, takes};
+use kq_filters::{Heard, hear, stays, takes};
 use kq_knote::{Knote, Tally};
 use kq_model::notes::NOTE_TRACK;
-use kq_model::{Filter, Hint, Key, Memory, Target};
+use kq_model::{Filter, Hint, Key, Memory, Target, Views};
 use kq_table::{Place, Placed};
 
 /// A knote that is being told the hints of a record.

@@ -6,8 +6,7 @@ ghost use Rattle.kq_kevent.specs.Owned.{caller, limit};
 
 use crate::Kq;
 use crate::register::asks;
-use kq_filters::Views;
-use kq_model::{Change, Errno, EvFlags, Kevent};
+use kq_model::{Change, Errno, EvFlags, Kevent, Views};
 
 /// How the changes of a call came to their end.
 #[derive(Debug, Drop, Clone, Copy)]

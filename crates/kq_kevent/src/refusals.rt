@@ -7,11 +7,9 @@ ghost use Rattle.kq_model.specs.Refusals.{is_live_process, process_refusal, own_
 ghost use Rattle.kq_model.specs.Ticks.{timing_of};
 ghost use Rattle.std.specs.Option.{is_none};
 
-use crate::named::{named_in, process_in};
 use crate::register::asks;
-use kq_filters::Views;
 use kq_model::notes::NOTE_TRACK;
-use kq_model::{Change, Errno, EvFlags, Filter, Named, View};
+use kq_model::{Change, Errno, EvFlags, Filter, Named, View, Views, named_in, process_in};
 use kq_timer::Timing;
 
 /// Whether changes of a filter do something; those of all others are refused.

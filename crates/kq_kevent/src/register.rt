@@ -15,13 +15,11 @@ ghost use Rattle.kq_kevent.specs.Owned.{caller, limit, IsTalliedRegistration};
 use crate::Kq;
 use crate::decide::Decision;
 use crate::look::attend;
-use crate::named::target_of;
 use crate::process::number_of;
 use crate::queue::Queue;
 use bitflags::Flags;
-use kq_filters::Views;
 use kq_knote::Knote;
-use kq_model::{Change, Errno, EvFlags, Filter, Key};
+use kq_model::{Change, Errno, EvFlags, Filter, Key, Views, target_of};
 use kq_table::Placed;
 
 /// Whether the flags have this one.

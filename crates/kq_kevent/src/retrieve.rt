@@ -11,9 +11,8 @@ ghost use Rattle.kq_kevent.specs.Owned.{kqueue_of, limit};
 use crate::Kq;
 use crate::look::{event_of, look_in};
 use crate::queue::Queue;
-use kq_filters::Views;
 use kq_knote::{Knote, Knotes};
-use kq_model::Kevent;
+use kq_model::{Kevent, Views};
 use kq_table::Placed;
 
 /// What becomes of a knote, and of its key, once it was delivered: with ONESHOT it is deleted;

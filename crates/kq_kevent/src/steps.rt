@@ -13,8 +13,7 @@ ghost use Rattle.kq_kevent.specs.Owned.{caller, limit};
 use crate::Kq;
 use crate::call::{answer, reads_pending, shared_in, timers_in};
 use crate::process::Ending;
-use kq_filters::Views;
-use kq_model::{Change, Kevent, Memory, Reply};
+use kq_model::{Change, Kevent, Memory, Reply, Views};
 
 /// The answer that has the entries that were placed; none where there are none.
 #[tactic(auto, unfolding(crate::specs::Beginning::answer_of_entries))]

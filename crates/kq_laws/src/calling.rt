@@ -5,9 +5,8 @@ ghost use Rattle.kq_kevent.specs.Owned.{caller};
 ghost use Rattle.kq_laws.specs.Timers.{TellsExpirations};
 ghost use Rattle.kq_laws.specs.Wakes.{LosesNoWakeUp};
 
-use kq_filters::Views;
 use kq_kevent::Kq;
-use kq_model::{Change, Memory, Reply};
+use kq_model::{Change, Memory, Reply, Views};
 
 /// One kevent call, as [`Kq::call`], with what a user may rely on over the whole life of the kqueue, whatever
 /// happened to it since it was made.

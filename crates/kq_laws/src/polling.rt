@@ -4,9 +4,8 @@ ghost use Rattle.kq_laws.specs.Timers.{TellsExpirations};
 ghost use Rattle.kq_laws.specs.Wakes.{LosesNoWakeUp};
 
 use crate::call;
-use kq_filters::Views;
 use kq_kevent::Kq;
-use kq_model::{Memory, Reply};
+use kq_model::{Memory, Reply, Views};
 
 /// A kevent call without changes, for at most `room` events.
 pub fn poll<V: Views>(kqueue: &mut Kq, room: u32, views: &V) -> Result<Reply, Memory>

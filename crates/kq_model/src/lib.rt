@@ -1,5 +1,5 @@
-//! What everything in kqsim means: the types of a trace and of a report, and in `specs/` the
-//! definitions of the simulated system.
+//! What everything in kqsim means: the types of a trace and of a report, a world as kqueues see it, and
+//! in `specs/` the definitions of the simulated system.
 #![tactic(auto)]
 
 mod act;
@@ -15,6 +15,7 @@ pub mod limits;
 mod line_fault;
 mod memory;
 mod mode;
+mod named;
 mod note;
 pub mod notes;
 mod object;
@@ -26,6 +27,7 @@ mod series;
 mod side;
 mod spreading;
 mod trace;
+mod views;
 mod why;
 
 pub use act::Act;
@@ -40,6 +42,7 @@ pub use key::Key;
 pub use line_fault::LineFault;
 pub use memory::Memory;
 pub use mode::Mode;
+pub use named::{named_in, process_in, target_of};
 pub use note::Note;
 pub use object::{Hint, Named, Target, View};
 pub use record_kind::{MemberType, RecordKind};
@@ -50,4 +53,5 @@ pub use series::Series;
 pub use side::Side;
 pub use spreading::spread;
 pub use trace::Trace;
+pub use views::Views;
 pub use why::Why;

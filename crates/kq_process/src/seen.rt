@@ -2,8 +2,7 @@ ghost use Rattle.kq_model.specs.World.{views_of};
 ghost use Rattle.kq_process.specs.World.{world_of};
 
 use crate::world::World;
-use kq_filters::Views;
-use kq_model::{Named, Target, View};
+use kq_model::{Named, Target, View, Views};
 
 /// The world as kqueues see it.
 impl Views for World {

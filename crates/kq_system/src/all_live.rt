@@ -18,9 +18,8 @@ use crate::showing::{drop_ended, show_concerned};
 use crate::ticking::ring_timed;
 use crate::watching::watch_all;
 use indexmap::IndexMap;
-use kq_filters::Views;
 use kq_kevent::Kq;
-use kq_model::{Change, Hint, Memory, Reply, Target};
+use kq_model::{Change, Hint, Memory, Reply, Target, Views};
 
 /// So few kqueues are all shown a record.
 const FEW: usize = 1;

@@ -10,9 +10,8 @@ use crate::all_live::owner_of;
 use crate::kqueues::Kqueues;
 use crate::renewing::renew;
 use crate::watching::watch_all;
-use kq_filters::Views;
 use kq_kevent::Kq;
-use kq_model::{Change, Key, Memory, Reply};
+use kq_model::{Change, Key, Memory, Reply, Views};
 
 /// The live kqueue that was made at a place.
 pub fn kqueue_at(live: &Kqueues, kqueue: u64) -> Option<&Kq>

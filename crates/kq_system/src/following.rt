@@ -23,8 +23,7 @@ use crate::kqueues::Kqueues;
 use crate::live::Live;
 use crate::renewing::renew;
 use indexmap::IndexMap;
-use kq_filters::Views;
-use kq_model::{Event, Hint, Memory, Target};
+use kq_model::{Event, Hint, Memory, Target, Views};
 use kq_process::{Effect, World};
 use std::alloc::Global;
 

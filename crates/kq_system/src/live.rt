@@ -7,9 +7,8 @@ ghost use Rattle.kq_model.specs.Ticks.{last_moment};
 ghost use Rattle.kq_process.specs.Effects.{pair_of, pairs_in};
 ghost use Rattle.kq_system.specs.Showing.{IsPassed, IsRung, IsTold};
 
-use kq_filters::Views;
 use kq_kevent::Kq;
-use kq_model::{Hint, Target};
+use kq_model::{Hint, Target, Views};
 use std::marker::Model;
 
 /// A live kqueue and the number under which its process opened it.

@@ -8,8 +8,7 @@ ghost use Rattle.kq_system.specs.Showing.{AreShown, Each, IsTold, asks_owned, as
 use crate::index::Index;
 use crate::live::Live;
 use indexmap::IndexMap;
-use kq_filters::Views;
-use kq_model::{Hint, Target};
+use kq_model::{Hint, Target, Views};
 
 fn either(one: bool, other: bool) -> bool
     ensures { result ≡ (one || other) }

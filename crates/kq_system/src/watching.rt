@@ -10,9 +10,7 @@ ghost use Rattle.kq_system.specs.Showing.{IsFound, IsListed, places_of};
 
 use crate::index::Index;
 use bitflags::Flags;
-use kq_filters::Views;
-use kq_kevent::target_of;
-use kq_model::{Change, EvFlags, Filter, Memory, Target};
+use kq_model::{Change, EvFlags, Filter, Memory, Target, Views, target_of};
 
 #[tactic(auto, unfolding(kq_model::specs::Knote::is_timer))]
 fn is_timer(filter: Filter) -> bool

@@ -9,10 +9,9 @@ ghost use Rattle.kq_judge.specs.Same.{AreSame, IsSame};
 ghost use Rattle.kqcheck.specs.Replies.{IsReply};
 
 use kq_answers::Given;
-use kq_filters::Views;
 use kq_judge::{Ignored, differing};
 use kq_kevent::{Kq, event_of, look_in};
-use kq_model::{Kevent, Key, Memory, Reply};
+use kq_model::{Kevent, Key, Memory, Reply, Views};
 use std::alloc::Global;
 
 /// Whether an answer is the reply to the record, to the last member.

@@ -2,9 +2,8 @@
 ghost use Rattle.std.specs.Prelude.{None, Some};
 ghost use Rattle.kq_model.specs.declared.object.View.TheVariants as view_as;
 
-use kq_filters::Views;
 use kq_kevent::Kq;
-use kq_model::{Change, EvFlags, Filter, Memory, Named, Reply, Target, View};
+use kq_model::{Change, EvFlags, Filter, Memory, Named, Reply, Target, View, Views};
 use std::alloc::Global;
 use std::test::Fail;
 

@@ -3,9 +3,8 @@ ghost use Rattle.std.specs.Prelude.{◌≤ℤ◌, ◌<◌, ◌^◌, pos, None};
 ghost use Rattle.kq_model.specs.Views as world;
 
 use bitflags::Flags;
-use kq_filters::Views;
 use kq_kevent::Kq;
-use kq_model::{Change, Errno, EvFlags, Filter, Memory, Named, Reply, Target, View};
+use kq_model::{Change, Errno, EvFlags, Filter, Memory, Named, Reply, Target, View, Views};
 use std::alloc::Global;
 use std::process::Abort;
 use std::test::Fail;

@@ -2,9 +2,8 @@
 ghost use Rattle.std.specs.Prelude.{◌≡◌, ◌<◌, IfOk, OnOk};
 ghost use Rattle.kq_process.specs.World.{last_of};
 
-use kq_filters::Views;
 use kq_history::{HistoryAt, Split};
-use kq_model::{Event, Memory, Mode, Note, Series, Side, Target, Trace};
+use kq_model::{Event, Memory, Mode, Note, Series, Side, Target, Trace, Views};
 use kq_process::World;
 use std::alloc::Global;
 use std::process::Abort;

@@ -2,11 +2,10 @@ ghost use Rattle.std.specs.Prelude.{◌≡◌};
 ghost use Rattle.kq_model.specs.Refusals.{process_in};
 ghost use Rattle.kq_model.specs.Targets.{named_in, object_of, file_of, target_of};
 
-use kq_filters::Views;
-use kq_model::{Change, Filter, Named, Target, View};
+use crate::{Change, Filter, Named, Target, View, Views};
 
 /// What an ident names in the process `owner`. A descriptor has 32 bits.
-#[tactic(auto, unfolding(kq_model::specs::Targets::named_in, kq_model::specs::Targets::number_in))]
+#[tactic(auto, unfolding(crate::specs::Targets::named_in, crate::specs::Targets::number_in))]
 pub fn named_in<V: Views>(owner: u32, ident: u64, views: &V) -> Option<Named>
     ensures { result ≡ named_in (V.sees views.now) owner ident }
 {
@@ -18,7 +17,7 @@ pub fn named_in<V: Views>(owner: u32, ident: u64, views: &V) -> Option<Named>
 }
 
 /// What there is to see of the process whose pid an ident is. A pid has 32 bits.
-#[tactic(auto, unfolding(kq_model::specs::Refusals::process_in, kq_model::specs::Targets::number_in))]
+#[tactic(auto, unfolding(crate::specs::Refusals::process_in, crate::specs::Targets::number_in))]
 pub fn process_in<V: Views>(ident: u64, views: &V) -> Option<View>
     ensures { result ≡ process_in (V.sees views.now) ident }
 {
@@ -30,7 +29,7 @@ pub fn process_in<V: Views>(ident: u64, views: &V) -> Option<View>
 }
 
 /// What READ and WRITE watch of an open number.
-#[tactic(auto, unfolding(kq_model::specs::Targets::object_of))]
+#[tactic(auto, unfolding(crate::specs::Targets::object_of))]
 fn object_of(named: Option<Named>) -> Option<Target>
     ensures { result ≡ object_of named }
 {
@@ -45,7 +44,7 @@ fn object_of(named: Option<Named>) -> Option<Target>
 }
 
 /// What VNODE watches of an open number.
-#[tactic(auto, unfolding(kq_model::specs::Targets::file_of))]
+#[tactic(auto, unfolding(crate::specs::Targets::file_of))]
 fn file_of(named: Option<Named>) -> Option<Target>
     ensures { result ≡ file_of named }
 {
@@ -56,7 +55,7 @@ fn file_of(named: Option<Named>) -> Option<Target>
 }
 
 /// What a change made by the process `owner` watches.
-#[tactic(auto, unfolding(kq_model::specs::Targets::target_of, kq_model::specs::Targets::number_in))]
+#[tactic(auto, unfolding(crate::specs::Targets::target_of, crate::specs::Targets::number_in))]
 pub fn target_of<V: Views>(owner: u32, change: &Change, views: &V) -> Option<Target>
     ensures { result ≡ target_of (V.sees views.now) owner change.now.filter change.now.ident }
 {

@@ -1,10 +1,11 @@
 ghost use Rattle.std.specs.Prelude.{◌≡◌, pos};
 ghost use Rattle.kq_model.specs.Views as world;
 
-use kq_model::{Named, Target, View};
+use crate::{Named, Target, View};
 
 /// A world as kqueues see it. All three answers are the model's for one and the same world, which
-/// contracts name by `sees`; what a kqueue does depends on nothing else of it.
+/// contracts name by `sees`; what a kqueue does depends on nothing else of it. Who implements it can put
+/// a kqueue into a simulator of their own.
 pub trait Views {
     ghost sees: { Self → world.Views };
 
