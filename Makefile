@@ -23,10 +23,12 @@ JOBS ?= $(shell echo $$((2 * $$(nproc))))
 
 .PHONY: all libkqsim libkqsim-joined run test bench install install-man
 
-# (rt all check proves what has changed of the program and its libraries, side by side where they do not stand on each
-# other; rt run builds the program over that and runs it, so it is given its stored run)
+# (rt all check proves what has changed of the libraries, side by side where they do not stand on each other; rt run
+# proves and builds a program over that, by as many jobs as there is room for, and runs it, so it is given its stored
+# run)
 all:
-	cd crates/kqsim && rt all check --jobs $(JOBS) && rt run < stdin
+	cd crates/kq_run && rt all check --jobs $(JOBS)
+	cd crates/kqsim && rt run < stdin
 	cd crates/kqstep && rt run < stdin
 	cd crates/kqcheck && rt run -- --explain 4 - < stdin
 	$(MAKE) libkqsim
