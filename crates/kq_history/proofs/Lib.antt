@@ -29,7 +29,6 @@ mod SlotLemmas
 mod TouchedNumbers
 mod NotedKeys
 mod NotedMarks
-mod SightLemmas
 mod SameValues
 mod ListedRecords
 mod TracedWorlds
@@ -38,8 +37,6 @@ mod WorldNext
 mod TrackedNext
 pub mod Sayings
 mod FirstTracked
-pub mod NotingLemmas
-pub mod HeardItems
 mod PlainRows
 mod NamedKqueues
 mod KeptCloses
@@ -49,7 +46,6 @@ mod SaidItems
 mod SaidNext
 pub mod PrivateOf
 mod AnsweringOf
-mod SplitShown
 mod SplitNext
 mod SplittingNext
 mod Events

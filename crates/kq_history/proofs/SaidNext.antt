@@ -3,7 +3,7 @@ use Rattle.std.proofs.Common.{◌≡◌, ◌∙◌, ◌<◌, ◌+◌, ◌==◌, 
 use Rattle.std.specs.HashSet.{contains}
 use Rattle.std.specs.Prelude.{All, IsOk}
 use Rattle.std.proofs.lemmas.Bool.{eqb-true, false≢true, not-true, true≢false}
-use Rattle.std.proofs.lemmas.List.{append-nil, append_assoc, length-append, length-map, map-append}
+use Rattle.std.proofs.lemmas.List.{append-nil, length-append, length-map, map-append}
 use Rattle.std.proofs.lemmas.List.Elements.{All-nil, All-cons, All-head, All-tail, All-append, All-weaker, filter-append}
 use Rattle.std.proofs.lemmas.List.Folds.{list_any-append}
 use Rattle.std.proofs.lemmas.Option.{none-some, same_Some}
@@ -33,10 +33,11 @@ use Rattle.kq_process.specs.Effects.{IsDone, IsEffectOf, pairs_in}
 use Rattle.kq_history.specs.declared.item.Item.{Item}
 use Rattle.kq_history.specs.declared.item.What.TheVariants as bare
 use Rattle.kq_history.specs.declared.kqueues.Kqueues.{Kqueues}
-use Rattle.kq_history.specs.Heard.{AreHeardBy, AreHeardNext, AreSaidBy, AreSaidNext}
+use Rattle.kq_history.specs.declared.said.Said.{Said}
+use Rattle.kq_history.specs.Heard.{IsHeard, IsHeardBy, IsSaidOnce}
 use Rattle.kq_history.specs.Items.{bare_items}
 use Rattle.kq_history.specs.Kept.{has_owner, heard_closes, is_gone, is_kept, is_silent, KeepsTo, SaysAll}
-use Rattle.kq_history.specs.Said.{called_items, kept_by, said_items, said_whats, AreAllSaid, AreHeard, AreNamedBy, AreTheKqueues, CallsBelow}
+use Rattle.kq_history.specs.Said.{called_items, kept_by, said_items, said_whats, AreAllSaid, AreHeard, AreNamedBy, AreTheKqueues, CallsBelow, IsSaid}
 use Rattle.kq_history.specs.Sayings.{born_of, call_by, call_of, call_on, clock_of, kqueue_named, kqueue_of, Says, SaysBy}
 use Rattle.kq_history.specs.Sources.{Grows, call_sources}
 use Rattle.kq_history.specs.Spoken.{opened_numbers, spoken_numbers, spoken_targets}
@@ -165,10 +166,10 @@ module _ (t : Traced) (e : Event) (counts : IsCountedWorld (end t e) (now t e)) 
     refused-kept : kept_by (longer t e) ≡ kept_by t
     refused-kept = ap₂ (λ bs (w : World counted). is_kept bs w.processes) refused-births refused-world
 
-    refused-said : (before items : List Item) → AreAllSaid before t items → AreAllSaid before (longer t e) items
-    refused-said before items said =
-        subst (λ kept. SaysAll kept (bare_items (all_items (moments_of (longer t e)))) (before ++ items)) (sym refused-kept)
-        (subst (λ ms. SaysAll (kept_by t) (bare_items (all_items ms)) (before ++ items)) (sym refused-moments) said)
+    refused-said : (items : List Item) → AreAllSaid t items → AreAllSaid (longer t e) items
+    refused-said items said =
+        subst (λ kept. SaysAll kept (bare_items (all_items (moments_of (longer t e)))) items) (sym refused-kept)
+        (subst (λ ms. SaysAll (kept_by t) (bare_items (all_items ms)) items) (sym refused-moments) said)
 
     refused-kqueues : (k : Kqueues) → AreTheKqueues t k → AreTheKqueues (longer t e) k
     refused-kqueues k are = record {
@@ -350,17 +351,17 @@ module _ (t : Traced) (e : Event) (counts : IsCountedWorld (end t e) (now t e)) 
         sym (ap (filter test) (closes-are effect.closed) ∙ none-pass (kept_by (longer t e)) test (end t e) exits.0 effect.closed none.1 keeps none.0)
 
     done-said : (silent : Bool) (owns : ℕ → Bool) → ((pid : ℕ) → owns pid ≡ has_owner pid (births_of t)) → silent ≡ is_silent e owns
-        → (before items more : List Item) → AreAllSaid before t items
+        → (items more : List Item) → AreAllSaid t items
         → more ≡ items ++ said_items (end t e) (heard_closes silent effect.closed) effect.hints (clock_of e (now t e).now) (kqueue_of e (now t e))
-        → AreAllSaid before (longer t e) more
-    done-said silent owns own is_one before items more said once =
+        → AreAllSaid (longer t e) more
+    done-said silent owns own is_one items more said once =
         let heard = said_items (end t e) (heard_closes silent effect.closed) effect.hints (clock_of e (now t e).now) (kqueue_of e (now t e)) in
         let these = said_items (end t e) effect.closed effect.hints (clock_of e (now t e).now) (kqueue_of e (now t e)) in
         let all : bare_items (all_items (moments_of (longer t e))) ≡ bare_items (all_items (moments_of t)) ++ these =
         ap (λ ms. bare_items (all_items ms)) same_moments ∙ items-longer (moments_of t) m ∙ ap (λ xs. bare_items (all_items (moments_of t)) ++ xs) m-items in
-        subst (λ xs. SaysAll (kept_by (longer t e)) xs (before ++ more)) (sym all)
-        (subst (λ xs. SaysAll (kept_by (longer t e)) (bare_items (all_items (moments_of t)) ++ these) xs) (append_assoc before items heard ∙ ap (λ xs. before ++ xs) (sym once))
-        (says-more (kept_by t) (kept_by (longer t e)) (bare_items (all_items (moments_of t))) (before ++ items) these heard
+        subst (λ xs. SaysAll (kept_by (longer t e)) xs more) (sym all)
+        (subst (λ xs. SaysAll (kept_by (longer t e)) (bare_items (all_items (moments_of t)) ++ these) xs) (sym once)
+        (says-more (kept_by t) (kept_by (longer t e)) (bare_items (all_items (moments_of t))) items these heard
         (λ pid kept. kept-earlier pid (ap (λ f. f pid) (sym kept-longer) ∙ kept)) said
         (λ test keeps.
         let rest = said_whats (end t e) (map Told effect.hints) ++ (said_whats (end t e) (clock_whats (clock_of e (now t e).now)) ++ called_items (end t e) (kqueue_of e (now t e))) in
@@ -383,32 +384,28 @@ module _ (t : Traced) (e : Event) (counts : IsCountedWorld (end t e) (now t e)) 
 
   -- ---- any
 
-  pub said-next : (silent : Bool) (owns : ℕ → Bool) → ((pid : ℕ) → owns pid ≡ has_owner pid (births_of t)) → silent ≡ is_silent e owns
-      → (q : Planned) → plan (end t e) e (now t e) ≡ q → (effect : Effect) → IsEffectOf q effect → (before items more : List Item)
-      → AreAllSaid before t items → AreSaidNext silent (end t e) e effect (now t e) items more → AreAllSaid before (longer t e) more
-  said-next silent owns own is_one (Impossible why) is effect refused before items more said next =
-      let none : more ≡ items = subst (λ v. AreSaidBy v silent (end t e) e effect (now t e) items more) refused.verdict next in
-      subst (AreAllSaid before (longer t e)) (sym none) (refused-said why is before items said)
-  said-next silent owns own is_one (Possible p) is effect done before items more said next =
-      done-said p is effect done silent owns own is_one before items more said (possible effect.verdict done.verdict next)
+  pub said-next : (q : Planned) → plan (end t e) e (now t e) ≡ q → (effect : Effect) → IsEffectOf q effect → (next : World counted)
+      → ((p : Plan) → q ≡ Possible p → next ≡ carried_out (end t e) p (now t e)) → (silent : Bool) → (s s' : Said) → IsSaid t s
+      → silent ≡ is_silent e (contains nat_eq s.kqueues.owners) → IsHeard silent (end t e) e effect (now t e) next s s' → IsSaid (longer t e) s'
+  said-next (Impossible why) is effect refused next leads silent s s' said silent_is heard =
+      let none : s' ≡ s = subst (λ v. IsHeardBy v silent (end t e) e effect (now t e) next s s') refused.verdict heard in
+      subst (IsSaid (longer t e)) (sym none) (record {
+        logged = record { items = refused-said why is s.log.items.items said.logged.items; shelved = said.logged.shelved };
+        kqueues = refused-kqueues why is s.kqueues said.kqueues;
+      })
+  said-next (Possible p) is effect done next leads silent s s' said silent_is heard =
+      let once = possible effect.verdict done.verdict heard in
+      record {
+        logged = record {
+          items = done-said p is effect done silent (contains nat_eq s.kqueues.owners) said.kqueues.owners silent_is s.log.items.items s'.log.items.items
+              said.logged.items once.items;
+          shelved = once.shelved said.logged.shelved;
+        };
+        kqueues = done-kqueues p is effect done s.kqueues s'.kqueues said.kqueues
+            (subst (λ w. AreHeard (end t e) (born_of e) (call_by e (kqueue_of e (now t e))) (views_of w) s.kqueues s'.kqueues) (leads p refl) once.kqueues);
+      }
     where
-      possible : (v : Result (Unit {0}) Why) → IsOk v → AreSaidBy v silent (end t e) e effect (now t e) items more
-          → more ≡ items ++ said_items (end t e) (heard_closes silent effect.closed) effect.hints (clock_of e (now t e).now) (kqueue_of e (now t e))
-      possible (Ok done) is next = next
-      possible (Err why) is next = absurd (false≢true is)
-
-  pub heard-next : (q : Planned) → plan (end t e) e (now t e) ≡ q → (effect : Effect) → IsEffectOf q effect → (after : World counted)
-      → ((p : Plan) → q ≡ Possible p → after ≡ carried_out (end t e) p (now t e)) → (k k' : Kqueues) → AreTheKqueues t k
-      → AreHeardNext (end t e) e effect (now t e) after k k' → AreTheKqueues (longer t e) k'
-  heard-next (Impossible why) is effect refused after leads k k' are next =
-      let none : k' ≡ k = subst (λ v. AreHeardBy v (end t e) e (now t e) after k k') refused.verdict next in
-      subst (AreTheKqueues (longer t e)) (sym none) (refused-kqueues why is k are)
-  heard-next (Possible p) is effect done after leads k k' are next =
-      done-kqueues p is effect done k k' are
-      (subst (λ w. AreHeard (end t e) (born_of e) (call_by e (kqueue_of e (now t e))) (views_of w) k k') (leads p refl)
-      (possible effect.verdict done.verdict next))
-    where
-      possible : (v : Result (Unit {0}) Why) → IsOk v → AreHeardBy v (end t e) e (now t e) after k k'
-          → AreHeard (end t e) (born_of e) (call_by e (kqueue_of e (now t e))) (views_of after) k k'
-      possible (Ok done) is next = next
-      possible (Err why) is next = absurd (false≢true is)
+      possible : (v : Result (Unit {0}) Why) → IsOk v → IsHeardBy v silent (end t e) e effect (now t e) next s s'
+          → IsSaidOnce silent (end t e) e effect (now t e) next s s'
+      possible (Ok done) is heard = heard
+      possible (Err why) is heard = absurd (false≢true is)

@@ -21,16 +21,17 @@ use Rattle.kq_process.specs.declared.effect.Effect.{Effect}
 use Rattle.kq_process.specs.declared.world.World.{World}
 use Rattle.kq_process.specs.Effects.{IsEffectOf}
 use Rattle.kq_process.specs.World.{world_of, IsEffectBy}
-use Rattle.kq_history.specs.declared.item.Item.{Item}
 use Rattle.kq_history.specs.declared.kqueues.Kqueues.{Kqueues}
-use Rattle.kq_history.specs.Heard.{AreHeardNext, AreSaidNext}
+use Rattle.kq_history.specs.declared.said.Said.{Said}
+use Rattle.kq_history.specs.Heard.{IsHeard}
 use Rattle.kq_history.specs.Kept.{is_silent}
-use Rattle.kq_history.specs.Said.{AreAllSaid, AreNamedBy, AreTheKqueues}
+use Rattle.kq_history.specs.Log.{AreShelved}
+use Rattle.kq_history.specs.Said.{AreNamedBy, AreTheKqueues, IsSaid}
 use Rattle.kq_history.specs.Sayings.{kqueue_of}
 use Rattle.kq_history.specs.Traced.{Traced, births_of, longer, places_of}
 use Rattle.kq_history.specs.Tracked.{IsWorldAfter}
 use Rattle.kq_history.proofs.NamedKqueues.{named-length}
-use Rattle.kq_history.proofs.SaidNext.{heard-next, said-next}
+use Rattle.kq_history.proofs.SaidNext.{said-next}
 use Rattle.kq_history.proofs.TracedWorlds.{end, now, plans-length, world-longer}
 use Rattle.kq_history.proofs.TrackedRecords.{next-is}
 use Rattle.kq_history.proofs.WorldNext.{counted_now, listed_now}
@@ -93,47 +94,41 @@ few-kqueues t =
 
 -- ---- no record
 
-pub first-said : (version : ℕ) (items : List Item) → items ≡ [] → AreAllSaid [] (record { version = version; events = [] }) items
-unfolding plans_from moments_from
-first-said version items none = λ test keeps. ap (filter test) none
-
-pub first-kqueues : (version : ℕ) (k : Kqueues) → k.places.items ≡ [] → k.concerned.items ≡ [] → ((pid : ℕ) → contains nat_eq k.owners pid ≡ false) → AreTheKqueues (record { version = version; events = [] }) k
+pub first-said : (version : ℕ) (s : Said) → s.log.items.items ≡ [] → AreShelved [] s.log.shelves.table → s.kqueues.places.items ≡ []
+    → s.kqueues.concerned.items ≡ [] → ((pid : ℕ) → contains nat_eq s.kqueues.owners pid ≡ false) → IsSaid (record { version = version; events = [] }) s
 unfolding plans_from moments_from births_from
-first-kqueues version k places concerned none = record {
-  births = places;
-  owners = none;
-  concerned = subst (AreNamedBy [] []) (sym concerned) tt;
-  calls = All-nil _;
+first-said version s items shelved places concerned none = record {
+  logged = record {
+    items = λ test keeps. ap (filter test) items;
+    shelved = subst (λ xs. AreShelved xs s.log.shelves.table) (sym items) shelved;
+  };
+  kqueues = record {
+    births = places;
+    owners = none;
+    concerned = subst (AreNamedBy [] []) (sym concerned) tt;
+    calls = All-nil _;
+  };
 }
 
 -- ---- one record more
 
-module _ (t : Traced) (e : Event) (place : ℕ) (old : World) (effect : Effect) (at : length t.events + 1 ≡ place) (before : IsWorldAfter t old)
-    (of : IsEffectBy (plan place e) old effect) where
-  counts : IsCountedWorld (end t e) (now t e)
-  counts = counted_now t e old before
+pub heard-next : (t : Traced) (e : Event) (place : ℕ) (old new : World) (effect : Effect) (clock : ℕ) (kqueue : Option ℕ) (silent : Bool) (s s' : Said)
+    → length t.events + 1 ≡ place → IsWorldAfter t old → IsWorldAfter (longer t e) new → IsEffectBy (plan place e) old effect
+    → clock ≡ (world_of old).now → kqueue ≡ kqueue_of e (world_of old) → silent ≡ is_silent e (contains nat_eq s.kqueues.owners)
+    → ((w : model.World counted) → clock ≡ w.now → kqueue ≡ kqueue_of e w → IsHeard silent place e effect w (world_of new) s s')
+    → IsSaid t s → IsSaid (longer t e) s'
+heard-next t e place old new effect clock kqueue silent s s' at before after of clock_is kqueue_is silent_is heard said =
+    said-next t e counts lists (plan (end t e) e (now t e)) refl effect
+    (subst (λ n. IsEffectOf (plan n e (now t e)) effect) (sym at) (subst (λ (w : model.World counted). IsEffectOf (plan place e w) effect) before.world of))
+    (world_of new) leads silent s s' said silent_is
+    (subst (λ n. IsHeard silent n e effect (now t e) (world_of new) s s') (sym at)
+    (heard (now t e) (clock_is ∙ ap (λ (w : model.World counted). w.now) before.world) (kqueue_is ∙ ap (kqueue_of e) before.world)))
+  where
+    counts : IsCountedWorld (end t e) (now t e)
+    counts = counted_now t e old before
 
-  lists : AreListed (now t e).objects
-  lists = listed_now t e old before
+    lists : AreListed (now t e).objects
+    lists = listed_now t e old before
 
-  by : IsEffectOf (plan (end t e) e (now t e)) effect
-  by = subst (λ n. IsEffectOf (plan n e (now t e)) effect) (sym at) (subst (λ (w : model.World counted). IsEffectOf (plan place e w) effect) before.world of)
-
-  pub items-next : (silent : Bool) (k : Kqueues) (clock : ℕ) (kqueue : Option ℕ) (kept items more : List Item) → AreTheKqueues t k
-      → silent ≡ is_silent e (contains nat_eq k.owners) → clock ≡ (world_of old).now → kqueue ≡ kqueue_of e (world_of old)
-      → ((w : model.World counted) → clock ≡ w.now → kqueue ≡ kqueue_of e w → AreSaidNext silent place e effect w items more)
-      → AreAllSaid kept t items → AreAllSaid kept (longer t e) more
-  items-next silent k clock kqueue kept items more are silent_is clock_is kqueue_is next said =
-      said-next t e counts lists silent (contains nat_eq k.owners) are.owners silent_is (plan (end t e) e (now t e)) refl effect by kept items more said
-      (subst (λ n. AreSaidNext silent n e effect (now t e) items more) (sym at)
-      (next (now t e) (clock_is ∙ ap (λ (w : model.World counted). w.now) before.world) (kqueue_is ∙ ap (kqueue_of e) before.world)))
-
-  pub kqueues-next : (new : World) (kqueue : Option ℕ) (k k' : Kqueues) → IsWorldAfter (longer t e) new → kqueue ≡ kqueue_of e (world_of old)
-      → ((w : model.World counted) → kqueue ≡ kqueue_of e w → AreHeardNext place e effect w (world_of new) k k') → AreTheKqueues t k → AreTheKqueues (longer t e) k'
-  kqueues-next new kqueue k k' after kqueue_is next are =
-      heard-next t e counts lists (plan (end t e) e (now t e)) refl effect by (world_of new) leads k k' are
-      (subst (λ n. AreHeardNext n e effect (now t e) (world_of new) k k') (sym at)
-      (next (now t e) (kqueue_is ∙ ap (kqueue_of e) before.world)))
-    where
-      leads : (p : Plan) → plan (end t e) e (now t e) ≡ Possible p → world_of new ≡ carried_out (end t e) p (now t e)
-      leads p is = after.world ∙ world-longer t e ∙ next-is t e counts lists p is
+    leads : (p : Plan) → plan (end t e) e (now t e) ≡ Possible p → world_of new ≡ carried_out (end t e) p (now t e)
+    leads p is = after.world ∙ world-longer t e ∙ next-is t e counts lists p is

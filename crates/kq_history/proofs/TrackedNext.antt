@@ -1,5 +1,5 @@
 -- The world and what was seen of it are those of the trace with the record that was applied and followed.
-use Rattle.std.proofs.Common.{◌≡◌, ◌+◌, ◌≤◌, ◌<◌, ℕ, length, [], ◌∷◌, ◌++◌, Result, Ok, Err, refl, sym, ap, subst, ◌∙◌, arith}
+use Rattle.std.proofs.Common.{◌≡◌, ◌+◌, ◌≤◌, ℕ, length, [], ◌∷◌, ◌++◌, Result, Ok, Err, refl, sym, subst, arith}
 use Rattle.std.specs.Prelude.{IsOk}
 use Rattle.std.proofs.lemmas.Bool.{false≢true}
 use Rattle.kq_model.specs.declared.event.Event.{Event}
@@ -9,64 +9,62 @@ use Rattle.kq_model.specs.ListedFiles.{AreListed}
 use Rattle.kq_model.specs.Objects.{counted}
 use Rattle.kq_model.specs.Plans.{plan}
 use Rattle.kq_model.specs.World as model
-use Rattle.kq_model.specs.World.{Plan, Planned, Impossible, Possible, carried_out, views_of}
+use Rattle.kq_model.specs.World.{Planned, Impossible, Possible, carried_out, views_of}
 use Rattle.kq_process.specs.declared.effect.Effect.{Effect}
 use Rattle.kq_process.specs.declared.world.World.{World}
 use Rattle.kq_process.specs.Effects.{IsEffectOf, world_after}
 use Rattle.kq_process.specs.World.{last_of, world_of, IsEffectBy, IsNext}
 use Rattle.kq_process.proofs.Applied.{counted-now}
 use Rattle.kq_history.specs.declared.seen.Seen.{Seen}
+use Rattle.kq_history.specs.Keys.{target_key}
 use Rattle.kq_history.specs.Noted.{AreAllBefore, AreAllUpTo, IsNextWorld}
 use Rattle.kq_history.specs.Seen.{seen_by, Shows}
-use Rattle.kq_history.specs.declared.sights.Sights.{Sights}
-use Rattle.kq_history.specs.Sights.{and_then, view_by, AreBetween, NotedViews}
+use Rattle.kq_history.specs.Timelines.{marks_at}
 use Rattle.kq_history.specs.Touched.{touched_targets, touches}
 use Rattle.kq_history.specs.Traced.{Traced, longer, seen_at}
 use Rattle.kq_history.specs.Tracked.{IsFollowed, IsFollowedBy, IsNoted, IsTracked}
 use Rattle.kq_history.proofs.Following.{marks-later}
 use Rattle.kq_history.proofs.NumberLemmas.{numbers-later}
-use Rattle.kq_history.proofs.SightLemmas.{between-later}
 use Rattle.kq_history.proofs.TracedWorlds.{end, now}
 use Rattle.kq_history.proofs.TrackedRecords.{next-world, shows-still}
 use Rattle.kq_history.proofs.WorldNext.{counted_now, length_is, listed_now, planned-next, world-by}
 
-pub up-later : (noted : NotedViews) (n m : ℕ) (s : Seen) → n ≤ m → AreAllUpTo noted n s → AreAllUpTo noted m s
-up-later noted n m s later up = record {
+pub up-later : (n m : ℕ) (s : Seen) → n ≤ m → AreAllUpTo n s → AreAllUpTo m s
+up-later n m s later up = record {
   numbers = numbers-later n m s.numbers later up.numbers;
+  views = λ t. marks-later n m later (marks_at target_key s.views.table t) (up.views t);
   clock = marks-later n m later s.clock up.clock;
-  sights = between-later noted.place n m s.sights.list.items later up.sights;
 }
 
-pub all-before : (noted : NotedViews) (place : ℕ) (s : Seen) → AreAllBefore noted place s → AreAllUpTo noted place s
-all-before noted place s given = let before = given.1 in up-later noted given.0 place s (omega (arith, before)) given.2
+pub all-before : (place : ℕ) (s : Seen) → AreAllBefore place s → AreAllUpTo place s
+all-before place s given = let before = given.1 in up-later given.0 place s (omega (arith, before)) given.2
 
-module _ (n : NotedViews) (t : Traced) (e : Event) (old new : World) (s s' : Seen) (effect : Effect) (tracked : IsTracked n t old s)
-    (last : last_of new ≡ end t e) where
+module _ (t : Traced) (e : Event) (old new : World) (s s' : Seen) (effect : Effect) (tracked : IsTracked t old s) (last : last_of new ≡ end t e) where
   abbrev counted_here : IsCountedWorld (end t e) (now t e)
   counted_here = counted_now t e old tracked.after
 
   abbrev listed_here : AreListed (now t e).objects
   listed_here = listed_now t e old tracked.after
 
-  up_here : AreAllUpTo n (end t e) s
-  up_here = up-later n (length t.events) (end t e) s (omega arith) tracked.up_to
+  up_here : AreAllUpTo (end t e) s
+  up_here = up-later (length t.events) (end t e) s (omega arith) tracked.up_to
 
-  up_next : (x : Seen) → AreAllUpTo n (end t e) x → AreAllUpTo n (length (t.events ++ e ∷ [])) x
-  up_next x up = subst (λ k. AreAllUpTo n k x) (sym (length_is t e)) up
+  up_next : (x : Seen) → AreAllUpTo (end t e) x → AreAllUpTo (length (t.events ++ e ∷ [])) x
+  up_next x up = subst (λ k. AreAllUpTo k x) (sym (length_is t e)) up
 
   followed_done : (v : Result (Unit {0}) Why) → IsOk v → IsFollowedBy (end t e) e v effect.closed effect.hints (now t e) (world_of new) s s'
-      → AreAllUpTo n (end t e) s' × IsNoted (end t e) e effect.closed effect.hints (now t e) (world_of new) (seen_by n s) (seen_by n s')
-  followed_done (Ok done) is followed = followed n (length t.events, omega arith, tracked.up_to)
+      → AreAllUpTo (end t e) s' × IsNoted (end t e) e effect.closed effect.hints (now t e) (world_of new) (seen_by s) (seen_by s')
+  followed_done (Ok done) is followed = followed
   followed_done (Err why) is followed = absurd (false≢true is)
 
   tracked-by : (q : Planned) → plan (end t e) e (now t e) ≡ q → IsEffectOf q effect → world_of new ≡ world_after (end t e) q (now t e)
-      → IsFollowed (end t e) e effect (now t e) (world_of new) s s' → IsTracked n (longer t e) new s'
+      → IsFollowed (end t e) e effect (now t e) (world_of new) s s' → IsTracked (longer t e) new s'
   tracked-by (Impossible why) is refused same followed =
       let none : s' ≡ s = subst (λ v. IsFollowedBy (end t e) e v effect.closed effect.hints (now t e) (world_of new) s s') refused.verdict followed in
       record {
         after = world-by t e old tracked.after new last (Impossible why) is same;
-        shows = subst (λ x. Shows (seen_at (longer t e)) (seen_by n x)) (sym none) (shows-still t e counted_here listed_here why is (seen_by n s) tracked.shows);
-        up_to = up_next s' (subst (AreAllUpTo n (end t e)) (sym none) up_here);
+        shows = subst (λ x. Shows (seen_at (longer t e)) (seen_by x)) (sym none) (shows-still t e counted_here listed_here why is (seen_by s) tracked.shows);
+        up_to = up_next s' (subst (AreAllUpTo (end t e)) (sym none) up_here);
       }
   tracked-by (Possible p) is done same followed =
       let noted = followed_done effect.verdict done.verdict followed in
@@ -86,34 +84,16 @@ module _ (n : NotedViews) (t : Traced) (e : Event) (old new : World) (s s' : See
       }
 
   tracked-here : IsEffectBy (plan (end t e) e) old effect → IsNext (end t e) (plan (end t e) e) old new
-      → IsFollowed (end t e) e effect (world_of old) (world_of new) s s' → IsTracked n (longer t e) new s'
+      → IsFollowed (end t e) e effect (world_of old) (world_of new) s s' → IsTracked (longer t e) new s'
   tracked-here of is followed =
       tracked-by (plan (end t e) e (now t e)) refl
       (subst (λ (w : model.World counted). IsEffectOf (plan (end t e) e w) effect) tracked.after.world of)
       (planned-next t e old tracked.after new is)
       (subst (λ (w : model.World counted). IsFollowed (end t e) e effect w (world_of new) s s') tracked.after.world followed)
 
-pub tracked-next : (n : NotedViews) (t : Traced) (e : Event) (place : ℕ) (old new : World) (s s' : Seen) (effect : Effect) → length t.events + 1 ≡ place → IsTracked n t old s
+pub tracked-next : (t : Traced) (e : Event) (place : ℕ) (old new : World) (s s' : Seen) (effect : Effect) → length t.events + 1 ≡ place → IsTracked t old s
     → last_of new ≡ place → IsEffectBy (plan place e) old effect → IsNext place (plan place e) old new
-    → IsFollowed place e effect (world_of old) (world_of new) s s' → IsTracked n (longer t e) new s'
-tracked-next n t e place old new s s' effect at tracked =
+    → IsFollowed place e effect (world_of old) (world_of new) s s' → IsTracked (longer t e) new s'
+tracked-next t e place old new s s' effect at tracked =
     subst (λ p. last_of new ≡ p → IsEffectBy (plan p e) old effect → IsNext p (plan p e) old new
-    → IsFollowed p e effect (world_of old) (world_of new) s s' → IsTracked n (longer t e) new s') at (λ last. tracked-here n t e old new s s' effect tracked last)
-
--- what was seen of targets was noted, and none of it is left
-pub all-noted : (n : NotedViews) (t : Traced) (w : World) (s : Seen) (left : Sights) → left.list.items ≡ [] → IsTracked n t w s
-    → IsTracked (and_then n (length t.events) s.sights.list.items) t w (record { numbers = s.numbers; clock = s.clock; sights = left })
-all-noted n t w s left none tracked = record {
-  after = tracked.after;
-  shows = record {
-    view = λ place x. ap (λ ss. view_by ss place x (view_by s.sights.list.items place x (n.view place x))) none ∙ tracked.shows.view place x;
-    descriptor = tracked.shows.descriptor;
-    now = tracked.shows.now;
-    within = tracked.shows.within;
-  };
-  up_to = record {
-    numbers = tracked.up_to.numbers;
-    clock = tracked.up_to.clock;
-    sights = subst (AreBetween (length t.events) (length t.events)) (sym none) (omega arith);
-  };
-}
+    → IsFollowed p e effect (world_of old) (world_of new) s s' → IsTracked (longer t e) new s') at (λ last. tracked-here t e old new s s' effect tracked last)

@@ -17,7 +17,6 @@ pub mod Within
 pub mod Keys
 pub mod Numbers
 pub mod Slots
-pub mod Sights
 pub mod Seen
 pub mod Noted
 pub mod Traced

@@ -3,20 +3,21 @@ use Rattle.std.specs.Prelude.{◌≡◌, ◌<◌, ℕ, Bool, false, List, nat_lt
 use Rattle.kq_model.specs.declared.object.Target.{Target}
 use Rattle.kq_model.specs.Views.{Views}
 use Rattle.kq_history.specs.declared.seen.Seen.{Seen}
+use Rattle.kq_history.specs.Keys.{target_key}
 use Rattle.kq_history.specs.Numbers.{AreNumbersUpTo}
-use Rattle.kq_history.specs.Sights.{NotedViews, AreBetween}
 use Rattle.kq_history.specs.Timeline.{IsUpTo}
+use Rattle.kq_history.specs.Timelines.{AreUpTo}
 use Rattle.kq_history.specs.Touched.{has_target}
 
--- nothing was noted behind a place, and the sights came behind what was noted of targets
-pub record AreAllUpTo (n : NotedViews) (place : ℕ) (s : Seen) : Type 0 where
+-- nothing was noted behind a place
+pub record AreAllUpTo (place : ℕ) (s : Seen) : Type 0 where
   pub numbers : AreNumbersUpTo place s.numbers
+  pub views : AreUpTo target_key place s.views.table
   pub clock : IsUpTo place s.clock
-  pub sights : AreBetween n.place place s.sights.list.items
 
 -- all was noted before it
-abbrev pub AreAllBefore : NotedViews → ℕ → Seen → Type 0
-AreAllBefore n place s = (before : ℕ) × (before < place) × AreAllUpTo n before s
+abbrev pub AreAllBefore : ℕ → Seen → Type 0
+AreAllBefore place s = (before : ℕ) × (before < place) × AreAllUpTo before s
 
 -- from `place` on the world is another one, `after` in place of `before`, which differs in these numbers and targets at
 -- most

@@ -77,13 +77,13 @@ CallsBelow next m = (c : Call) → m.call ≡ Some c → c.kqueue < next
 abbrev pub kept_by : Traced → ℕ → Bool
 kept_by t = is_kept (births_of t) (world_at_end t).processes
 
--- these, behind what came before them, say all that they say
-abbrev pub AreAllSaid : List Item → Traced → List Item → Type 0
-AreAllSaid before t items = SaysAll (kept_by t) (bare_items (all_items (moments_of t))) (before ++ items)
+-- these items say all that they say, but for closes that concern no kqueue
+abbrev pub AreAllSaid : Traced → List Item → Type 0
+AreAllSaid t items = SaysAll (kept_by t) (bare_items (all_items (moments_of t))) items
 
 -- the log has all that they say
 pub record IsLogged (t : Traced) (l : Log) : Type 0 where
-  pub items : SaysAll (kept_by t) (bare_items (all_items (moments_of t))) l.items.items
+  pub items : AreAllSaid t l.items.items
   pub shelved : AreShelved l.items.items l.shelves.table
 
 -- these are their kqueues, with what concerns each

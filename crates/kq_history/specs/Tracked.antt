@@ -12,9 +12,8 @@ use Rattle.kq_process.specs.World.{last_of, world_of}
 use Rattle.kq_process.specs.declared.effect.Effect.{Effect}
 use Rattle.kq_process.specs.declared.world.World.{World}
 use Rattle.kq_history.specs.declared.seen.Seen.{Seen}
-use Rattle.kq_history.specs.Noted.{AreAllBefore, AreAllUpTo, IsNextWorld}
+use Rattle.kq_history.specs.Noted.{AreAllUpTo, IsNextWorld}
 use Rattle.kq_history.specs.Seen.{seen_by, Shows}
-use Rattle.kq_history.specs.Sights.{NotedViews}
 use Rattle.kq_history.specs.Touched.{touched_targets, touches}
 use Rattle.kq_history.specs.Traced.{Traced, seen_at, world_at_end}
 
@@ -24,11 +23,11 @@ pub record IsWorldAfter (t : Traced) (w : World) : Type 0 where
   pub last : last_of w ≡ length t.events
   pub listed : AreListed (world_of w).objects
 
--- and this is what was seen of the worlds up to it, where this was noted of targets before
-pub record IsTracked (n : NotedViews) (t : Traced) (w : World) (s : Seen) : Type 0 where
+-- and this is what was seen of the worlds up to it
+pub record IsTracked (t : Traced) (w : World) (s : Seen) : Type 0 where
   pub after : IsWorldAfter t w
-  pub shows : Shows (seen_at t) (seen_by n s)
-  pub up_to : AreAllUpTo n (length t.events) s
+  pub shows : Shows (seen_at t) (seen_by s)
+  pub up_to : AreAllUpTo (length t.events) s
 
 -- ---- one record more, with the worlds before it and after it
 
@@ -45,8 +44,7 @@ abbrev pub IsFollowedBy : ℕ → Event → Result (Unit {0}) Why → List (ℕ 
     → model.World counted → Seen → Seen → Type 0
 IsFollowedBy place e (Err why) closed hints before after old new = new ≡ old
 IsFollowedBy place e (Ok done) closed hints before after old new =
-    (n : NotedViews) → AreAllBefore n place old
-    → AreAllUpTo n place new × IsNoted place e closed hints before after (seen_by n old) (seen_by n new)
+    AreAllUpTo place new × IsNoted place e closed hints before after (seen_by old) (seen_by new)
 
 -- of an impossible record nothing is noted
 abbrev pub IsFollowed : ℕ → Event → Effect → model.World counted → model.World counted → Seen → Seen → Type 0

@@ -7,7 +7,7 @@ ghost use Rattle.kq_history.specs.Children.{child_told, children_at, children_of
 ghost use Rattle.kq_history.specs.Children.{AreWithChildren};
 ghost use Rattle.kq_history.specs.Items.{has_source, is_from, source_eq};
 ghost use Rattle.kq_history.specs.Log.{all_standing, comes_from, is_within, item_at, AreShelved};
-ghost use Rattle.kq_history.specs.Log.{others_within, steps_within, within_of};
+ghost use Rattle.kq_history.specs.Log.{others_within, steps_within, within_of, StaysShelved};
 ghost use Rattle.kq_history.specs.Sources.{AreKnown, Begins, Grows};
 ghost use Rattle.kq_history.specs.Steps.{joined};
 ghost use Rattle.kq_history.specs.declared.item.Source.{Source};
@@ -48,8 +48,7 @@ impl Log {
     /// Room for so many items more, and for their sources, if these are not very many.
     pub fn reserve(&mut self, count: usize) -> Result<(), Memory>
         ensures items { self.new.items.items ≡ self.old.items.items }
-        ensures shelved { AreShelved self.old.items.items self.old.shelves.table
-            → AreShelved self.new.items.items self.new.shelves.table }
+        ensures shelved { StaysShelved self.old self.new }
     {
         self.items.reserve(count).map_err(|_| Memory)?;
         self.shelves.reserve(count.min(MANY_SOURCES))
@@ -58,8 +57,7 @@ impl Log {
     /// One item more.
     pub fn push(&mut self, item: Item) -> Result<(), Memory>
         ensures items { OnOk result (self.new.items.items ≡ self.old.items.items ++ item ∷ []) }
-        ensures shelved { OnOk result (AreShelved self.old.items.items self.old.shelves.table
-            → AreShelved self.new.items.items self.new.shelves.table) }
+        ensures shelved { OnOk result (StaysShelved self.old self.new) }
     {
         let number = self.items.len();
         self.items.push(item).map_err(|_| Memory)?;

@@ -7,17 +7,17 @@ ghost use Rattle.kq_model.specs.World as model;
 ghost use Rattle.kq_model.specs.World.{views_of};
 ghost use Rattle.kq_process.specs.Effects.{pairs_in};
 ghost use Rattle.kq_process.specs.World.{world_of};
-ghost use Rattle.kq_history.specs.Heard.{AreSaidNext};
 ghost use Rattle.kq_history.specs.Kept.{heard_closes, is_silent};
+ghost use Rattle.kq_history.specs.Log.{StaysShelved};
 ghost use Rattle.kq_history.specs.Said.{called_items, said_items, said_whats, AreHeard};
 ghost use Rattle.kq_history.specs.Sayings.{born_of, call_by, clock_of, kqueue_of};
 
 use crate::item::{Item, What};
-use crate::items::Items;
 use crate::kqueues::Kqueues;
 use crate::log::Log;
 use kq_model::{Event, Hint, Memory, Named, Target};
 use kq_process::{Effect, World};
+use std::alloc::Global;
 
 /// What the records of a trace say to kqueues.
 #[derive(Drop)]
@@ -73,90 +73,116 @@ pub fn called(event: &Event, world: &World) -> Option<u64>
     }
 }
 
-/// Adds what the record of a place says, where it was possible. After Memory nothing is known.
-pub fn say(
-    items: &mut Items,
-    place: u64,
-    event: &Event,
-    effect: &Effect,
-    before: Before,
-) -> Result<(), Memory>
-    ensures { OnOk result ((old : model.World counted) → before.clock ≡ old.now
-        → before.kqueue ≡ kqueue_of event.now old
-        → AreSaidNext before.silent place event.now effect.now old items.old.list.items items.new.list.items) }
-{
-    match effect.verdict {
-        Err(_) => Ok(()),
-        Ok(()) => say_record(items, place, event, effect, before),
+impl Said {
+    ghost use Rattle.std.specs.Prelude.{[], ℕ};
+    ghost use Rattle.kq_history.specs.Heard.{IsHeard};
+    ghost use Rattle.kq_history.specs.Said.{IsSaid};
+
+    /// Of no record.
+    pub fn new(alloc: Global) -> Self
+        ensures { (version : ℕ) → IsSaid (record { version = version; events = [] }) result }
+    {
+        let log = Log::new(alloc);
+        let kqueues = Kqueues::new(alloc);
+        Said { log, kqueues }
+    }
+
+    /// What the record of a place says, where it was possible. The world is that after it. After Memory nothing is
+    /// known.
+    pub fn hear(
+        &mut self,
+        place: u64,
+        event: &Event,
+        effect: &Effect,
+        before: Before,
+        world: &World,
+    ) -> Result<(), Memory>
+        requires rising { IsStrictlyIncreasing self.old.kqueues.places.items }
+        requires one_each { length self.old.kqueues.concerned.items ≡ length self.old.kqueues.places.items }
+        ensures { OnOk result ((old : model.World counted) → before.clock ≡ old.now
+            → before.kqueue ≡ kqueue_of event.now old
+            → IsHeard before.silent place event.now effect.now old (world_of world.now) self.old self.new) }
+    {
+        match effect.verdict {
+            Err(_) => Ok(()),
+            Ok(()) => self.hear_record(place, event, effect, before, world),
+        }
+    }
+
+    /// What a possible record says.
+    fn hear_record(
+        &mut self,
+        place: u64,
+        event: &Event,
+        effect: &Effect,
+        before: Before,
+        world: &World,
+    ) -> Result<(), Memory>
+        requires rising { IsStrictlyIncreasing self.old.kqueues.places.items }
+        requires one_each { length self.old.kqueues.concerned.items ≡ length self.old.kqueues.places.items }
+        ensures items { OnOk result (self.new.log.items.items ≡ self.old.log.items.items
+            ++ said_items place (heard_closes before.silent effect.now.closed) effect.now.hints
+            (clock_of event.now before.clock) before.kqueue) }
+        ensures shelved { OnOk result (StaysShelved self.old.log self.new.log) }
+        ensures kqueues { OnOk result (AreHeard place (born_of event.now) (call_by event.now before.kqueue)
+            (views_of (world_of world.now)) self.old.kqueues self.new.kqueues) }
+    {
+        let log = &mut self.log;
+        push_closes(log, place, effect.closed.as_slice(), before.silent)?;
+        push_told(log, place, effect.hints.as_slice())?;
+        push_clock(log, place, event, before.clock)?;
+        push_call(log, place, before.kqueue)?;
+        hear_kqueue(&mut self.kqueues, place, event, before.kqueue, world)
     }
 }
 
-/// Adds what a possible record says.
-fn say_record(
-    items: &mut Items,
-    place: u64,
-    event: &Event,
-    effect: &Effect,
-    before: Before,
-) -> Result<(), Memory>
-    ensures { OnOk result (items.new.list.items ≡ items.old.list.items
-        ++ said_items place (heard_closes before.silent effect.now.closed) effect.now.hints
-        (clock_of event.now before.clock) before.kqueue) }
-{
-    push_closes(items, place, effect.closed.as_slice(), before.silent)?;
-    push_told(items, place, effect.hints.as_slice())?;
-    push_clock(items, place, event, before.clock)?;
-    push_call(items, place, before.kqueue)
-}
-
 /// Adds the closes of a record, unless they concern no kqueue.
-fn push_closes(
-    items: &mut Items,
-    place: u64,
-    closed: &[(u32, u32)],
-    silent: bool,
-) -> Result<(), Memory>
-    ensures { OnOk result (items.new.list.items
-        ≡ items.old.list.items ++ said_whats place (map Closed (pairs_in (heard_closes silent closed.now)))) }
+fn push_closes(log: &mut Log, place: u64, closed: &[(u32, u32)], silent: bool) -> Result<(), Memory>
+    ensures items { OnOk result (log.new.items.items
+        ≡ log.old.items.items ++ said_whats place (map Closed (pairs_in (heard_closes silent closed.now)))) }
+    ensures shelved { OnOk result (StaysShelved log.old log.new) }
 {
     if silent {
         return Ok(());
     }
-    push_closed(items, place, closed)
+    push_closed(log, place, closed)
 }
 
-fn push_closed(items: &mut Items, place: u64, closed: &[(u32, u32)]) -> Result<(), Memory>
-    ensures { OnOk result (items.new.list.items
-        ≡ items.old.list.items ++ said_whats place (map Closed (pairs_in closed.now))) }
+fn push_closed(log: &mut Log, place: u64, closed: &[(u32, u32)]) -> Result<(), Memory>
+    ensures items { OnOk result (log.new.items.items
+        ≡ log.old.items.items ++ said_whats place (map Closed (pairs_in closed.now))) }
+    ensures shelved { OnOk result (StaysShelved log.old log.new) }
 {
     for pair in closed {
         let what = What::Closed {
             pid: pair.0,
             number: pair.1,
         };
-        items.push(Item { place, what })?;
+        log.push(Item { place, what })?;
     }
     Ok(())
 }
 
-fn push_told(items: &mut Items, place: u64, hints: &[(Target, Hint)]) -> Result<(), Memory>
-    ensures { OnOk result (items.new.list.items
-        ≡ items.old.list.items ++ said_whats place (map Told hints.now)) }
+fn push_told(log: &mut Log, place: u64, hints: &[(Target, Hint)]) -> Result<(), Memory>
+    ensures items { OnOk result (log.new.items.items
+        ≡ log.old.items.items ++ said_whats place (map Told hints.now)) }
+    ensures shelved { OnOk result (StaysShelved log.old log.new) }
 {
     for told in hints {
         let what = What::Told {
             target: told.0,
             hint: told.1,
         };
-        items.push(Item { place, what })?;
+        log.push(Item { place, what })?;
     }
     Ok(())
 }
 
 #[tactic(auto, unfolding(crate::specs::Sayings::clock_of, crate::specs::Sayings::span_to, kq_model::specs::Items::clock_whats))]
-fn push_clock(items: &mut Items, place: u64, event: &Event, from: u64) -> Result<(), Memory>
-    ensures { OnOk result (items.new.list.items
-        ≡ items.old.list.items ++ said_whats place (clock_whats (clock_of event.now from))) }
+fn push_clock(log: &mut Log, place: u64, event: &Event, from: u64) -> Result<(), Memory>
+    ensures items { OnOk result (log.new.items.items
+        ≡ log.old.items.items ++ said_whats place (clock_whats (clock_of event.now from))) }
+    ensures shelved { OnOk result (StaysShelved log.old log.new) }
 {
     match event {
         Event::Clock { ns } => {
@@ -167,27 +193,28 @@ fn push_clock(items: &mut Items, place: u64, event: &Event, from: u64) -> Result
                 from,
                 to: *ns as u64,
             };
-            items.push(Item { place, what })
+            log.push(Item { place, what })
         }
         _ => Ok(()),
     }
 }
 
-fn push_call(items: &mut Items, place: u64, kqueue: Option<u64>) -> Result<(), Memory>
-    ensures { OnOk result (items.new.list.items ≡ items.old.list.items ++ called_items place kqueue) }
+fn push_call(log: &mut Log, place: u64, kqueue: Option<u64>) -> Result<(), Memory>
+    ensures items { OnOk result (log.new.items.items ≡ log.old.items.items ++ called_items place kqueue) }
+    ensures shelved { OnOk result (StaysShelved log.old log.new) }
 {
     match kqueue {
         None => Ok(()),
         Some(kqueue) => {
             let what = What::Called { kqueue };
-            items.push(Item { place, what })
+            log.push(Item { place, what })
         }
     }
 }
 
 /// The birth or the call of a kqueue by a possible record. The world is that after it. After Memory nothing is known.
 #[tactic(auto, unfolding(crate::specs::Sayings::born_of, crate::specs::Sayings::call_by))]
-pub fn hear_kqueue(
+fn hear_kqueue(
     kqueues: &mut Kqueues,
     place: u64,
     event: &Event,

@@ -1,30 +1,31 @@
-ghost use Rattle.std.specs.Prelude.{◌≡◌, ◌≤◌, ◌++◌, ℕ, ◌&&◌, nat_le, OnOk, if◌then◌else◌};
+ghost use Rattle.std.specs.Prelude.{◌≡◌, ◌≤◌, ◌++◌, ℕ, ◌&&◌, nat_le, None, OnOk, if◌then◌else◌};
 ghost use Rattle.std.specs.List.{flat_map};
 ghost use Rattle.kq_model.specs.Ticks.{last_moment};
 ghost use Rattle.kq_model.specs.Views as model;
 ghost use Rattle.kq_model.specs.World.{views_of};
 ghost use Rattle.kq_process.specs.World.{world_of};
+ghost use Rattle.kq_history.specs.Keys.{target_key};
 ghost use Rattle.kq_history.specs.Noted.{AreAllBefore, AreAllUpTo, IsNextWorld};
 ghost use Rattle.kq_history.specs.Numbers.{named_at, AreNumbersBefore, AreNumbersUpTo};
 ghost use Rattle.kq_history.specs.Seen.{left_at, IsBlank, seen_by, Shows};
-ghost use Rattle.kq_history.specs.Sights.{NotedViews};
-ghost use Rattle.kq_history.specs.Touched.{has_number, is_of, left_of, to_note, AreAmong, AreApart};
+ghost use Rattle.kq_history.specs.Timeline.{value_at};
+ghost use Rattle.kq_history.specs.Timelines.{marks_at, AreUpTo};
+ghost use Rattle.kq_history.specs.Touched.{has_number, has_target, is_of, left_of, to_note, AreAmong, AreApart};
 
 use crate::numbers::Numbers;
-use crate::sights::Sights;
 use crate::timeline::Timeline;
+use crate::timelines::Timelines;
 use crate::touched::{Touched, add_left};
-use kq_model::{Memory, Target};
+use kq_model::{Memory, Target, View};
 use kq_process::World;
 use std::alloc::Global;
 
-/// What was seen of the world after each record: what numbers named, the clock, and of targets what
-/// was not handed over yet.
+/// What was seen of the world after each record: what numbers named, the views of targets, and the clock.
 #[derive(Drop)]
 pub struct Seen {
     pub(crate) numbers: Numbers,
+    pub(crate) views: Timelines<Target, Option<View>>,
     pub(crate) clock: Timeline<u64>,
-    pub(crate) sights: Sights,
 }
 
 impl Seen {
@@ -34,8 +35,8 @@ impl Seen {
     {
         Seen {
             numbers: Numbers::new(alloc),
+            views: Timelines::new(alloc),
             clock: Timeline::new(alloc),
-            sights: Sights::new(alloc),
         }
     }
 
@@ -50,15 +51,14 @@ impl Seen {
         touched: &mut Touched,
         world: &World,
     ) -> Result<(), Memory>
-        requires before { (noted : NotedViews) × AreAllBefore noted place self.old }
+        requires before { AreAllBefore place self.old }
         requires apart { AreApart touched.old.process touched.old.numbers.items }
-        ensures up_to { OnOk result ((noted : NotedViews) → AreAllBefore noted place self.old
-            → AreAllUpTo noted place self.new) }
-        ensures shows { OnOk result ((noted : NotedViews) (before : model.Views) (worlds next : ℕ → model.Views)
+        ensures up_to { OnOk result (AreAllUpTo place self.new) }
+        ensures shows { OnOk result ((before : model.Views) (worlds next : ℕ → model.Views)
             → IsNextWorld place before (views_of (world_of world.now))
             (to_note touched.old.process touched.old.numbers.items)
             (flat_map (left_of tells before) touched.old.numbers.items ++ touched.old.targets.items) worlds next
-            → Shows worlds (seen_by noted self.old) → Shows next (seen_by noted self.new)) }
+            → Shows worlds (seen_by self.old) → Shows next (seen_by self.new)) }
     {
         note_process(&mut self.numbers, place, touched.process, world)?;
         let numbers = touched.numbers.as_slice();
@@ -70,7 +70,7 @@ impl Seen {
             &mut touched.targets,
             world,
         )?;
-        self.sights.add(place, touched.targets.as_slice(), world)?;
+        note_targets(&mut self.views, place, touched.targets.as_slice(), world)?;
         self.clock.note(place, 0, moment_of(world))?;
         Ok(())
     }
@@ -126,6 +126,26 @@ fn note_numbers(
         let (pid, number) = *pair;
         let had = numbers.note(pid, number, place, world.descriptor(pid, number))?;
         add_left(targets, tells, had)?;
+    }
+    Ok(())
+}
+
+/// What is seen of these targets.
+fn note_targets(
+    timelines: &mut Timelines<Target, Option<View>>,
+    place: u64,
+    targets: &[Target],
+    world: &World,
+) -> Result<(), Memory>
+    requires { AreUpTo target_key place timelines.old.table }
+    ensures up_to { OnOk result (AreUpTo target_key place timelines.new.table) }
+    ensures noted { OnOk result ((t : Target) (at : ℕ) →
+        value_at at None (marks_at target_key timelines.new.table t)
+        ≡ (if has_target t targets.now && nat_le place at then (views_of (world_of world.now)).view t
+        else value_at at None (marks_at target_key timelines.old.table t))) }
+{
+    for target in targets {
+        timelines.note(*target, place, None, world.view(*target))?;
     }
     Ok(())
 }

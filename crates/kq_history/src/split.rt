@@ -5,12 +5,11 @@ use crate::at::HistoryAt;
 use crate::guesses::Guesses;
 use crate::item::Source;
 use crate::looking::Looking;
-use crate::numbers::Numbers;
 use crate::private::Private;
 use crate::said::Said;
+use crate::seen::Seen;
 use crate::splitting::Splitting;
-use crate::timeline::Timeline;
-use crate::timelines::{Found, Timelines};
+use crate::timelines::Found;
 use kq_model::{Event, Memory, Named, Row, Target, Trace, View};
 use std::alloc::Global;
 use std::marker::Model;
@@ -19,9 +18,7 @@ use std::marker::Model;
 /// wherever that is.
 #[derive(Drop)]
 pub struct Spent {
-    numbers: Numbers,
-    views: Timelines<Target, Option<View>>,
-    clock: Timeline<u64>,
+    seen: Seen,
     said: Said,
     plain: Vec<Row>,
 }
@@ -32,15 +29,13 @@ pub struct Spent {
 pub struct Split<'a> {
     pub(crate) version: u32,
     pub(crate) events: &'a [Event],
-    pub(crate) numbers: Numbers,
-    pub(crate) views: Timelines<Target, Option<View>>,
-    pub(crate) clock: Timeline<u64>,
+    pub(crate) seen: Seen,
     pub(crate) said: Said,
     pub(crate) plain: Vec<Row>,
 }
 
 impl<'a> Model for Split<'a> {
-    ghost use Rattle.kq_history.specs.Split.{IsSplit, shown_by};
+    ghost use Rattle.kq_history.specs.Split.{IsSplit};
     ghost use Rattle.kq_history.specs.Traced.{Traced};
 
     ghost Value = { Traced };
@@ -48,8 +43,7 @@ impl<'a> Model for Split<'a> {
     ghost view = { λ s. record { version = s.version; events = s.events.now } };
 
     ghost invariant = { λ s.
-        IsSplit (record { version = s.version; events = s.events.now }) (shown_by s.numbers s.views s.clock)
-        s.said s.plain.items };
+        IsSplit (record { version = s.version; events = s.events.now }) s.seen s.said s.plain.items };
 }
 
 impl<'a> Split<'a> {
@@ -68,20 +62,12 @@ impl<'a> Split<'a> {
     /// What it kept, to be let go of. It costs nothing.
     pub fn spend(self) -> Spent {
         let Split {
-            numbers,
-            views,
-            clock,
+            seen,
             said,
             plain,
             ..
         } = self;
-        Spent {
-            numbers,
-            views,
-            clock,
-            said,
-            plain,
-        }
+        Spent { seen, said, plain }
     }
 
     /// The places where kqueues were made, rising.
@@ -168,7 +154,7 @@ impl<'a> Split<'a> {
     pub(crate) fn view(&self, place: u64, target: Target) -> Option<View>
         ensures { result ≡ (seen_at self.now place).view target }
     {
-        self.views.at(target, place, None)
+        self.seen.views.at(target, place, None)
     }
 
     /// The same, and where it was found, of which one has a guess.
@@ -180,21 +166,21 @@ impl<'a> Split<'a> {
     ) -> (Option<View>, Found)
         ensures { result.0 ≡ (seen_at self.now place).view target }
     {
-        self.views.at_from(target, place, None, guess)
+        self.seen.views.at_from(target, place, None, guess)
     }
 
     /// What a number of a process names after a place.
     pub(crate) fn descriptor(&self, place: u64, pid: u32, number: u32) -> Option<Named>
         ensures { result ≡ (seen_at self.now place).descriptor pid number }
     {
-        self.numbers.at(pid, number, place)
+        self.seen.numbers.at(pid, number, place)
     }
 
     /// The clock after a place, in ns.
     pub(crate) fn now(&self, place: u64) -> i64
         ensures { result ≡ pos (seen_at self.now place).now }
     {
-        self.clock.at(place, 0) as i64
+        self.seen.clock.at(place, 0) as i64
     }
 }
 

@@ -1,21 +1,25 @@
 ghost use Rattle.std.specs.Prelude.{◌≡◌, ◌+◌, ◌<◌, ◌^◌, ◌++◌, [], ℕ, length, IfOk, OnOk};
 ghost use Rattle.kq_history.specs.Splitting.{AreSoMany, IsSplitSoFar};
-ghost use Rattle.kq_history.specs.Traced.{traced, Traced};
+ghost use Rattle.kq_history.specs.Traced.{longer, traced, Traced};
 
-use crate::hearing::Hearing;
-use crate::noting::Noting;
-use crate::said::Said;
+use crate::plain::put_plain;
+use crate::said::{Before, Said};
+use crate::seen::Seen;
 use crate::split::Split;
-use crate::watching::Watching;
-use kq_model::{Event, Memory, Trace};
+use crate::touched::Touched;
+use crate::tracking::track;
+use kq_model::{Event, Memory, Row, Trace};
+use kq_process::World;
 use std::alloc::Global;
 
 /// A split of the records that came so far, part by part: so that it can run beside their reading.
 #[derive(Drop)]
 pub struct Splitting {
-    pub(crate) watching: Watching,
-    pub(crate) noting: Noting,
-    pub(crate) hearing: Hearing,
+    pub(crate) world: World,
+    pub(crate) seen: Seen,
+    pub(crate) said: Said,
+    pub(crate) plain: Vec<Row>,
+    touched: Touched,
 }
 
 impl Splitting {
@@ -23,13 +27,17 @@ impl Splitting {
     pub fn new(alloc: Global) -> Result<Self, Memory>
         ensures { IfOk result (λ s. (version : ℕ) → IsSplitSoFar (record { version = version; events = [] }) s) }
     {
-        let watching = Watching::new(alloc)?;
-        let noting = Noting::new(alloc);
-        let hearing = Hearing::new(alloc);
+        let world = World::new(alloc)?;
+        let seen = Seen::new(alloc);
+        let said = Said::new(alloc);
+        let plain = Vec::new(alloc);
+        let touched = Touched::new(alloc);
         Ok(Splitting {
-            watching,
-            noting,
-            hearing,
+            world,
+            seen,
+            said,
+            plain,
+            touched,
         })
     }
 
@@ -42,14 +50,25 @@ impl Splitting {
             → IsSplitSoFar (record { version = t.version; events = t.events ++ events.now }) self.new) }
     {
         // Most records say one thing to kqueues.
-        self.hearing.reserve(events.len())?;
+        self.said.log.reserve(events.len())?;
         for (taken, event) in events.iter().enumerate() {
-            self.watching.take_one(before + taken as u64 + 1, event)?;
-            self.noting.take(&self.watching.seen.sights)?;
-            self.hearing.take(&self.watching.items)?;
-            self.watching.forget();
+            self.take_one(before + taken as u64 + 1, event)?;
         }
         Ok(())
+    }
+
+    /// The record of the next place: the world takes it. After Memory nothing is known.
+    fn take_one(&mut self, place: u64, event: &Event) -> Result<(), Memory>
+        requires { (t : Traced) × (length t.events + 1 ≡ place) × IsSplitSoFar t self.old }
+        ensures { OnOk result ((t : Traced) → length t.events + 1 ≡ place → IsSplitSoFar t self.old
+            → IsSplitSoFar (longer t event.now) self.new) }
+    {
+        let before_it = Before::of(event, &self.world, &self.said.kqueues);
+        let world = &mut self.world;
+        let effect = track(place, event, world, &mut self.seen, &mut self.touched)?;
+        let said = &mut self.said;
+        said.hear(place, event, &effect, before_it, &self.world)?;
+        put_plain(&mut self.plain, place, &effect.verdict)
     }
 
     /// The split of a trace all of whose records came. Its cost is that of dropping the world.
@@ -59,26 +78,16 @@ impl Splitting {
     {
         let events = trace.events.as_slice();
         let Splitting {
-            watching,
-            noting,
-            hearing,
-        } = self;
-        let Watching {
             seen,
-            kqueues,
+            said,
             plain,
             ..
-        } = watching;
+        } = self;
         Split {
             version: trace.version,
             events,
-            numbers: seen.numbers,
-            views: noting.timelines,
-            clock: seen.clock,
-            said: Said {
-                log: hearing.log,
-                kqueues,
-            },
+            seen,
+            said,
             plain,
         }
     }

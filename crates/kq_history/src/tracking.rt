@@ -6,7 +6,6 @@ ghost use Rattle.kq_model.specs.World as model;
 ghost use Rattle.kq_process.specs.World.{last_of, world_of, IsEffectBy};
 ghost use Rattle.kq_history.specs.Noted.{AreAllBefore, AreAllUpTo};
 ghost use Rattle.kq_history.specs.Seen.{seen_by};
-ghost use Rattle.kq_history.specs.Sights.{NotedViews};
 ghost use Rattle.kq_history.specs.Slots.{AreSlotsOf};
 ghost use Rattle.kq_history.specs.Spoken.{spoken_process};
 ghost use Rattle.kq_history.specs.Traced.{longer, Traced};
@@ -27,10 +26,10 @@ pub fn track(
     touched: &mut Touched,
 ) -> Result<Effect, Memory>
     requires places { last_of world.old < place }
-    requires before { (n : NotedViews) × AreAllBefore n place seen.old }
+    requires before { AreAllBefore place seen.old }
     ensures effect { IfOk result (IsEffectBy (plan place event.now) world.old) }
-    ensures tracked { OnOk result ((n : NotedViews) (t : Traced) → length t.events + 1 ≡ place
-        → IsTracked n t world.old seen.old → IsTracked n (longer t event.now) world.new seen.new) }
+    ensures tracked { OnOk result ((t : Traced) → length t.events + 1 ≡ place
+        → IsTracked t world.old seen.old → IsTracked (longer t event.now) world.new seen.new) }
 {
     touched.begin(event, world)?;
     let effect = world.apply(place, event)?;
@@ -47,7 +46,7 @@ fn follow(
     seen: &mut Seen,
     touched: &mut Touched,
 ) -> Result<(), Memory>
-    requires { (n : NotedViews) × AreAllBefore n place seen.old }
+    requires { AreAllBefore place seen.old }
     ensures { OnOk result ((before : model.World counted)
         → AreSlotsOf (spoken_process event.now) before touched.old.before.items
         → IsFollowed place event.now effect.now before (world_of world.now) seen.old seen.new) }
@@ -67,12 +66,12 @@ fn note(
     seen: &mut Seen,
     touched: &mut Touched,
 ) -> Result<(), Memory>
-    requires { (n : NotedViews) × AreAllBefore n place seen.old }
-    ensures up_to { OnOk result ((n : NotedViews) → AreAllBefore n place seen.old → AreAllUpTo n place seen.new) }
+    requires { AreAllBefore place seen.old }
+    ensures up_to { OnOk result (AreAllUpTo place seen.new) }
     ensures noted { OnOk result ((before : model.World counted)
-        → AreSlotsOf (spoken_process event.now) before touched.old.before.items → (n : NotedViews)
+        → AreSlotsOf (spoken_process event.now) before touched.old.before.items
         → IsNoted place event.now effect.now.closed effect.now.hints before (world_of world.now)
-        (seen_by n seen.old) (seen_by n seen.new)) }
+        (seen_by seen.old) (seen_by seen.new)) }
 {
     touched.fill(event, effect, world)?;
     seen.note(place, tells_file(effect.hints.as_slice()), touched, world)

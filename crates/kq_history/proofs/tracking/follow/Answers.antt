@@ -1,4 +1,4 @@
-use Rattle.std.proofs.Common.{◌≡◌, ℕ, OnOk, Result, Ok, Err, sym, subst}
+use Rattle.std.proofs.Common.{OnOk, Result, Ok, Err, sym, subst}
 use Rattle.kq_model.specs.declared.why.Why.{Why}
 use Rattle.kq_model.specs.Objects.{counted}
 use Rattle.kq_model.specs.World as model
@@ -19,4 +19,4 @@ returns-in-Ok c =
     subst (λ (v : Result (Unit {0}) Why). OnOk c.note.result ((before : model.World counted)
     → AreSlotsOf (spoken_process e) before c.args.touched.now.before.items
     → IsFollowedBy c.args.place e v effect.closed effect.hints before (world_of c.args.world.now) c.args.seen.now c.note.new.seen)) (sym c.in-Ok.is)
-    (on_both c.note.result (λ up noted before are n given. (up n given, noted before are n)) c.note.ensures.up_to c.note.ensures.noted)
+    (on_both c.note.result (λ up noted before are. (up, noted before are)) c.note.ensures.up_to c.note.ensures.noted)

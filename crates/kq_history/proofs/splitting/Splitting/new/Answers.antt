@@ -1,10 +1,11 @@
-use Rattle.std.proofs.Common.{ℕ, []}
-use Rattle.kq_history.specs.Sights.{nothing_noted}
+use Rattle.std.proofs.Common.{ℕ, ◌∙◌}
+use Rattle.kq_history.proofs.FirstTracked.{first-plain, first-tracked}
 use Rattle.kq_history.proofs.splitting.Splitting.new.Goals as goal
 
 pub returns : goal.returns
 returns c =
     λ (version : ℕ). record {
-      parts = (nothing_noted, [], c.new-noting.ensures, c.new-hearing.ensures, c.in_ok-watching.ensures.watched version);
-      handed_over = c.in_ok-watching.ensures.handed_over;
+      tracked = first-tracked version c.in_ok-world.world c.new-seen.result c.in_ok-world.ensures.world c.in_ok-world.ensures.last c.new-seen.ensures;
+      said = c.new-said.ensures version;
+      plain_is = c.new-plain.ensures.items ∙ first-plain version;
     }
