@@ -1,6 +1,10 @@
 pub mod ByPlace
 pub mod EventsText
 pub mod Written
-pub mod Parts
 pub mod Merged
 pub mod AtPlaces
+pub mod Bounds
+pub mod Extents
+pub mod Output
+pub mod Pieces
+pub mod Unwritten

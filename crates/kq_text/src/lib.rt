@@ -3,6 +3,8 @@
 
 mod flags;
 mod pieces;
+mod room;
 
-pub use flags::put_flags;
+pub use flags::{FLAGS_BYTES, push_flags, put_flags};
 pub use pieces::{put, put_i64, put_number, put_u32, put_u64};
+pub use room::{push, push_number};
