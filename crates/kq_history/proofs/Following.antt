@@ -10,7 +10,7 @@ use Rattle.kq_model.proofs.KnoteLaws.{by_test}
 use Rattle.kq_history.specs.declared.timeline.Mark.{Mark}
 use Rattle.kq_history.specs.Noted.{IsNextWorld}
 use Rattle.kq_history.specs.Seen.{Shows}
-use Rattle.kq_history.specs.Timeline.{last_value, mark, mark_at, marked, value_at, IsUpTo}
+use Rattle.kq_history.specs.Timeline.{last_mark, last_value, mark, mark_at, marked, value_at, IsUpTo}
 use Rattle.kq_history.specs.Touched.{has_target}
 
 module _ {V : Type 0} where
@@ -43,6 +43,13 @@ module _ {V : Type 0} where
       (by_test (λ b. (cond b m before).place ≤ place) (leb m.place at)
       (λ _. All-head (λ (x : Mark V). x.place ≤ place) m ms up) (λ _. first))
       (All-tail (λ (x : Mark V). x.place ≤ place) m ms up)
+
+  -- and it is the last one at their place
+  pub mark-last : (place : ℕ) (before : Mark V) (ms : List (Mark V)) → IsUpTo place ms → mark_at place before ms ≡ last_mark before ms
+  mark-last place before [] up = refl
+  mark-last place before (m ∷ ms) up =
+      ap (λ b. mark_at place (cond b m before) ms) (le-leb m.place place (All-head (λ (x : Mark V). x.place ≤ place) m ms up))
+      ∙ mark-last place m ms (All-tail (λ (x : Mark V). x.place ≤ place) m ms up)
 
   -- and it is found at each place behind them
   pub mark-settled : (place at : ℕ) (before : Mark V) (ms : List (Mark V)) → IsUpTo place ms → place ≤ at

@@ -1,13 +1,13 @@
 -- The value at a place is that of the mark before the first one that is later.
 use Rattle.std.proofs.Common.{◌≡◌, ℕ, zero, suc, ◌+◌, ◌-◌, ◌<◌, ◌≤◌, Bool, true, false, cond, leb, length, get_or, List, [], ◌∷◌, None, Some, refl, sym, ap, ◌∙◌, arith}
 use Rattle.std.specs.List.Sorted.{IsNonDecreasingBy}
-use Rattle.std.proofs.lemmas.Bool.{both_ways, false_from_ne_true}
+use Rattle.std.proofs.lemmas.Bool.{both_ways, false_from_ne_true, le-leb}
 use Rattle.std.proofs.lemmas.List.Sorted.{IsPartitionedBy-leb}
 use Rattle.std.specs.List.{slice_get}
-use Rattle.std.proofs.lemmas.Option.{get_or_from_slice_get, none-some, slice_get-get_or, slice_get_within}
+use Rattle.std.proofs.lemmas.Option.{get_or_from_slice_get, slice_get_within}
 use Rattle.kq_model.proofs.KnoteLaws.{by_test}
 use Rattle.kq_history.specs.declared.timeline.Mark.{Mark}
-use Rattle.kq_history.specs.Timeline.{last_value, mark, mark_at, value_at, HaveBegun}
+use Rattle.kq_history.specs.Timeline.{last_mark, last_value, mark, mark_at, since_or, value_at, value_since, HaveBegun}
 
 module _ {V : Type 0} (place : ℕ) where
   abbrev has_begun : Mark V → Bool
@@ -84,19 +84,25 @@ module _ {V : Type 0} (place : ℕ) where
 -- ---- behind all marks
 
 module _ {V : Type 0} where
-  ends-at : (ms : List (Mark V)) (before : V) (d : Mark V) (n : ℕ) → length ms ≡ n + 1 → last_value before ms ≡ (get_or ms n d).value
-  ends-at [] before d n e = absurd (omega (arith, e))
-  ends-at (m ∷ []) before d zero e = refl
-  ends-at (m ∷ (x ∷ ms)) before d zero e = absurd (omega (arith, e))
-  ends-at (m ∷ ms) before d (suc n) e = ends-at ms m.value d n (omega (arith, e))
+  ends-at : (ms : List (Mark V)) (m d : Mark V) (n : ℕ) → length ms ≡ n → last_mark m ms ≡ get_or (m ∷ ms) n d
+  ends-at [] m d zero e = refl
+  ends-at [] m d (suc n) e = absurd (omega (arith, e))
+  ends-at (x ∷ ms) m d zero e = absurd (omega (arith, e))
+  ends-at (x ∷ ms) m d (suc n) e = ends-at ms x d n (omega (arith, e))
 
-  pub last-some : (ms : List (Mark V)) (before : V) (m : Mark V) → slice_get ms (length ms - 1) ≡ Some m → last_value before ms ≡ m.value
-  last-some ms before m got =
-      let within : length ms - 1 < length ms = slice_get_within ms (length ms - 1) m got in
-      ends-at ms before m (length ms - 1) (omega (arith, within))
-      ∙ ap (λ (x : Mark V). x.value) (get_or_from_slice_get ms (length ms - 1) m m got)
+  pub since-last : (ms : List (Mark V)) (since : ℕ) (other : V) (m : Mark V) → slice_get ms (length ms - 1) ≡ Some m
+      → value_since since other ms ≡ since_or since other m
+  since-last [] since other m got = let within : 0 < 0 = slice_get_within [] (0 - 1) m got in absurd (omega (arith, within))
+  since-last (x ∷ ms) since other m got =
+      ap (since_or since other)
+      (ends-at ms x m (length (x ∷ ms) - 1) (omega arith) ∙ get_or_from_slice_get (x ∷ ms) (length (x ∷ ms) - 1) m m got)
 
-  pub last-none : (ms : List (Mark V)) (before : V) → slice_get ms (length ms - 1) ≡ None → last_value before ms ≡ before
-  last-none [] before none = refl
-  last-none (m ∷ ms) before none =
-      absurd (none-some _ (sym none ∙ slice_get-get_or (m ∷ ms) (length (m ∷ ms) - 1) m (omega arith)))
+  last-value : (ms : List (Mark V)) (m : Mark V) → (last_mark m ms).value ≡ last_value m.value ms
+  last-value [] m = refl
+  last-value (x ∷ ms) m = last-value ms x
+
+  -- since the beginning all count
+  pub since_zero : (ms : List (Mark V)) (before : V) → value_since 0 before ms ≡ last_value before ms
+  since_zero [] before = refl
+  since_zero (m ∷ ms) before =
+      ap (λ b. cond b (last_mark m ms).value before) (le-leb 0 (last_mark m ms).place (omega arith)) ∙ last-value ms m

@@ -27,6 +27,20 @@ module _ {V : Type 0} where
   abbrev pub mark : ℕ → V → Mark V
   mark place value = record { place = place; value = value }
 
+  -- the last mark; `before` where there is none
+  abbrev pub last_mark : Mark V → List (Mark V) → Mark V
+  last_mark before [] = before
+  last_mark before (m ∷ ms) = last_mark m ms
+
+  -- the mark's value, unless it is before `since`; then the other one
+  abbrev pub since_or : ℕ → V → Mark V → V
+  since_or since other m = if nat_le since m.place then m.value else other
+
+  -- the value behind all marks, where it is the other one if none of them came since
+  abbrev pub value_since : ℕ → V → List (Mark V) → V
+  value_since since other [] = other
+  value_since since other (m ∷ ms) = since_or since other (last_mark m ms)
+
   -- a mark at this place, where there is to be one
   abbrev pub marked : Bool → ℕ → V → List (Mark V)
   marked is place value = if is then mark place value ∷ [] else []

@@ -42,7 +42,8 @@ impl Numbers {
         later(mark, self.tables.mark_at(pid, place), number)
     }
 
-    /// From this place on a number names this; what it named is returned. After Memory nothing is known.
+    /// From this place on a number names this; what it named is returned. It costs one look-up of the number, two of a
+    /// new one, and one of the process. After Memory nothing is known.
     pub fn note(
         &mut self,
         pid: u32,
@@ -57,12 +58,10 @@ impl Numbers {
             ≡ (if pair_eq (pid, number) (other, another) && nat_le place at then named
             else named_at self.old at other another)) }
     {
-        let had = self.at(pid, number, place);
-        if had == named {
-            return Ok(had);
-        }
-        self.marks.push((pid, number), place, named)?;
-        Ok(had)
+        let table = self.tables.mark_at(pid, place);
+        let other = later(mark_or_none(None), table, number);
+        self.marks
+            .note_since((pid, number), place, begin(table), other, named)
     }
 
     /// From this place on, behind all that was noted, the numbers of a process name what is in these slots, and all
@@ -95,6 +94,16 @@ fn mark_or_none(mark: Option<&Mark<Option<Named>>>) -> Mark<Option<Named>>
             place: 0,
             value: None,
         },
+    }
+}
+
+/// Where a table begins; 0, where there is none.
+fn begin(table: Option<&Mark<Listing>>) -> u64
+    ensures { result ≡ (mark_or no_table (option_copied table.entry)).place }
+{
+    match table {
+        Some(table) => table.place,
+        None => 0,
     }
 }
 

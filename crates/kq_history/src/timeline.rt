@@ -1,6 +1,7 @@
 ghost use Rattle.std.specs.Prelude.{◌≡◌, ◌≤◌, ◌++◌, ◌∷◌, [], true, not, ℕ, length, IfOk, OnOk, OnErr};
 ghost use Rattle.std.specs.Option.{option_copied};
 ghost use Rattle.kq_history.specs.Timeline.{last_value, mark, mark_at, mark_or, marked, value_at, HaveBegun, IsUpTo};
+ghost use Rattle.kq_history.specs.Timeline.{since_or, value_since};
 
 use kq_model::Memory;
 use std::alloc::Global;
@@ -17,6 +18,18 @@ const FEW_COUNTS: usize = 6;
 pub struct Mark<V> {
     pub place: u64,
     pub value: V,
+}
+
+impl<V: Copy> Mark<V> {
+    /// Its value, unless it is before a place; then the other one.
+    fn since_or(&self, since: u64, other: V) -> V
+        ensures { result ≡ since_or since other self.now }
+    {
+        if self.place < since {
+            return other;
+        }
+        self.value
+    }
 }
 
 /// A value that changes from place to place, by its marks in rising order of their places.
@@ -80,7 +93,19 @@ impl<V> Timeline<V> {
         ensures pushed { OnOk result (self.new
             ≡ self.old ++ marked (not (V.eq (last_value before self.old) value)) place value) }
     {
-        let had = self.last(before);
+        self.note_since(place, 0, before, value)
+    }
+
+    /// The same, where the value is the other one if it was not marked since a place.
+    pub fn note_since(&mut self, place: u64, since: u64, other: V, value: V) -> Result<V, Memory>
+    where
+        V: Copy + Drop + PartialEq,
+        requires { IsUpTo place self.old }
+        ensures had { IfOk result (λ had. had ≡ value_since since other self.old) }
+        ensures pushed { OnOk result (self.new
+            ≡ self.old ++ marked (not (V.eq (value_since since other self.old) value)) place value) }
+    {
+        let had = self.last_since(since, other);
         if had == value {
             return Ok(had);
         }
@@ -88,15 +113,15 @@ impl<V> Timeline<V> {
         Ok(had)
     }
 
-    /// The value behind all marks, else the value before them.
-    pub fn last(&self, before: V) -> V
+    /// The value behind all marks, where it is the other one if it was not marked since a place.
+    fn last_since(&self, since: u64, other: V) -> V
     where
         V: Copy + Drop,
-        ensures { result ≡ last_value before self.now }
+        ensures { result ≡ value_since since other self.now }
     {
         match self.marks.last() {
-            Some(mark) => mark.value,
-            None => before,
+            Some(mark) => mark.since_or(since, other),
+            None => other,
         }
     }
 

@@ -1,6 +1,6 @@
 ghost use Rattle.std.specs.Prelude.{◌≡◌, ◌++◌, ◌&&◌, [], not, IfNone, IfOk, IfSome, OnOk};
 ghost use Rattle.std.specs.Option.{option_copied};
-ghost use Rattle.kq_history.specs.Timeline.{last_value, mark_at, mark_or, marked, value_at};
+ghost use Rattle.kq_history.specs.Timeline.{last_value, mark_at, mark_or, marked, value_at, value_since};
 ghost use Rattle.kq_history.specs.Timelines.{marks_at, AreUpTo};
 
 use crate::timeline::{Mark, Timeline};
@@ -113,15 +113,36 @@ impl<K: Copy + Eq + Hash, V: Copy + Drop> Timelines<K, V> {
             ≡ marks_at K.eq self.old.table other ++ marked (K.eq key other
             && not (V.eq (last_value before (marks_at K.eq self.old.table key)) value)) place value) }
     {
+        self.note_since(key, place, 0, before, value)
+    }
+
+    /// The same, where a key has the other value if it was not marked since a place. It is looked up once, and a new
+    /// one twice.
+    pub fn note_since(
+        &mut self,
+        key: K,
+        place: u64,
+        since: u64,
+        other: V,
+        value: V,
+    ) -> Result<V, Memory>
+    where
+        V: PartialEq,
+        requires { AreUpTo K.eq place self.old.table }
+        ensures had { IfOk result (λ had. had ≡ value_since since other (marks_at K.eq self.old.table key)) }
+        ensures noted { OnOk result ((another : K) → marks_at K.eq self.new.table another
+            ≡ marks_at K.eq self.old.table another ++ marked (K.eq key another
+            && not (V.eq (value_since since other (marks_at K.eq self.old.table key)) value)) place value) }
+    {
         match self.table.get_mut(&key) {
-            Some(timeline) => timeline.note(place, before, value),
+            Some(timeline) => timeline.note_since(place, since, other, value),
             None => {
-                if before == value {
-                    return Ok(before);
+                if other == value {
+                    return Ok(other);
                 }
                 let timeline = Timeline::one(self.alloc, place, value)?;
                 self.table.insert(key, timeline).map_err(|_| Memory)?;
-                Ok(before)
+                Ok(other)
             }
         }
     }
