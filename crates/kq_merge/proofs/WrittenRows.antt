@@ -9,7 +9,7 @@ use Rattle.kq_model.specs.Errno.{error_number}
 use Rattle.kq_model.specs.Report.{call_count, calls_in, event_count, events_data, events_in, last_line, reply_line, report, row_data, row_lines}
 use Rattle.kq_model.specs.Spelling.{line_text, natural}
 use Rattle.kq_text.specs.Adds.{Adds}
-use Rattle.kq_merge.specs.Written.{Written, nothing_written, with_part, with_reply, written}
+use Rattle.kq_merge.specs.Written.{Written, nothing_written, with_reply, written}
 
 -- ---- a reply that counts as a call has a line, so there are no more calls than bytes
 
@@ -51,7 +51,7 @@ calls-in-lines at r calls more old new added is within =
 
 -- ---- rows one behind the other
 
-lines-behind : (rows later : List Row) → row_lines (rows ++ later) ≡ row_lines rows ++ row_lines later
+pub lines-behind : (rows later : List Row) → row_lines (rows ++ later) ≡ row_lines rows ++ row_lines later
 unfolding row_lines
 lines-behind [] later = refl
 lines-behind (row ∷ rows) later =
@@ -68,26 +68,33 @@ unfolding event_count
 events-behind [] later = omega arith
 events-behind (row ∷ rows) later = omega (arith, events-behind rows later)
 
-pub written-behind : (rows later : List Row) → written (rows ++ later) ≡ with_part (written rows) (written later)
-written-behind rows later =
-    ap (λ (l : List ℕ). record { lines = l; calls = call_count (rows ++ later); events = event_count (rows ++ later) }) (lines-behind rows later)
-    ∙ ap₂ (λ (c e : ℕ). record { lines = row_lines rows ++ row_lines later; calls = c; events = e }) (calls-behind rows later) (events-behind rows later)
-
 pub nothing_is : nothing_written ≡ written []
 unfolding row_lines call_count event_count
 nothing_is = refl
 
-one_row : (before : List Row) (row : Row) → with_part (written before) (written (row ∷ [])) ≡ with_reply row.at row.reply (written before)
-unfolding row_lines call_count event_count
-one_row before row =
-    ap (λ (l : List ℕ). record { lines = row_lines before ++ l; calls = call_count before + (calls_in row.reply + 0); events = event_count before + (events_in row.reply + 0) })
-    (append-nil (reply_line row.at row.reply))
-    ∙ ap₂ (λ (c e : ℕ). record { lines = row_lines before ++ reply_line row.at row.reply; calls = c; events = e }) (omega arith) (omega arith)
+-- ---- one row more
+
+pub lines_more : (rows : List Row) (row : Row) → row_lines (rows ++ row ∷ []) ≡ row_lines rows ++ reply_line row.at row.reply
+unfolding row_lines
+lines_more rows row =
+    lines-behind rows (row ∷ []) ∙ ap (λ l. row_lines rows ++ l) (append-nil (reply_line row.at row.reply))
+
+pub calls_more : (rows : List Row) (row : Row) → call_count (rows ++ row ∷ []) ≡ call_count rows + calls_in row.reply
+unfolding call_count
+calls_more rows row = omega (arith, calls-behind rows (row ∷ []))
+
+pub events_more : (rows : List Row) (row : Row) → event_count (rows ++ row ∷ []) ≡ event_count rows + events_in row.reply
+unfolding event_count
+events_more rows row = omega (arith, events-behind rows (row ∷ []))
+
+written_more : (before : List Row) (row : Row) → written (before ++ row ∷ []) ≡ with_reply row.at row.reply (written before)
+written_more before row =
+    ap (λ (l : List ℕ). record { lines = l; calls = call_count (before ++ row ∷ []); events = event_count (before ++ row ∷ []) }) (lines_more before row)
+    ∙ ap₂ (λ (c e : ℕ). record { lines = row_lines before ++ reply_line row.at row.reply; calls = c; events = e }) (calls_more before row) (events_more before row)
 
 -- one row more is written
 pub row_more : (before : List Row) (row : Row) (w : Written) → w ≡ written before → with_reply row.at row.reply w ≡ written (before ++ row ∷ [])
-row_more before row w done =
-    ap (with_reply row.at row.reply) done ∙ sym (written-behind before (row ∷ []) ∙ one_row before row)
+row_more before row w done = ap (with_reply row.at row.reply) done ∙ sym (written_more before row)
 
 -- ---- the whole text
 

@@ -1,6 +1,9 @@
 pub mod ByPlace
 pub mod EventsText
 pub mod Written
-pub mod Parts
 pub mod Merged
 pub mod AtPlaces
+pub mod Bounds
+pub mod Extents
+pub mod Pieces
+pub mod Unwritten

@@ -20,14 +20,6 @@ with_reply at reply w = record {
   events = w.events + events_in reply;
 }
 
--- the lines of the one, and behind them those of the other
-abbrev pub with_part : Written → Written → Written
-with_part w later = record {
-  lines = w.lines ++ later.lines;
-  calls = w.calls + later.calls;
-  events = w.events + later.events;
-}
-
 -- the lines of these rows, and what the last line is to count of them
 abbrev pub written : List Row → Written
 written rows = record { lines = row_lines rows; calls = call_count rows; events = event_count rows }

@@ -3,11 +3,14 @@
 
 mod by_place;
 mod merging;
+mod output;
 mod report;
 mod row_lists;
+mod unwritten;
 
 pub use merging::merge;
 pub use report::{
-    Pieces, ReportText, calls_in, events_in, put_counts, put_reply, report_by_place, report_text,
+    ReportText, calls_in, events_in, put_counts, put_reply, report_text, write_by_place,
 };
 pub use row_lists::RowLists;
+pub use unwritten::Unwritten;

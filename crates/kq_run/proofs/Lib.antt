@@ -1,3 +1,3 @@
 pub mod LiveFaults
 pub mod ReplayedTraces
-pub mod PiecesWritten
+pub mod WrittenTexts

@@ -25,7 +25,7 @@ use Rattle.kq_trace.specs.Source.{Ahead, Had as HadAhead}
 use Rattle.kq_trace.specs.declared.input_error.InputError.{InputError}
 use Rattle.kq_trace.specs.declared.input_error.InputError.TheVariants as input
 use Rattle.kq_run.specs.Fault.{input_fault_of}
-use Rattle.kq_run.specs.Replay.{AreRowsOf, IsFault, IsInputFault, IsReplayFault, IsReport, IsReportFrom, IsSourceFault}
+use Rattle.kq_run.specs.Replay.{AreRowsOf, IsFault, IsInputFault, IsReplayFault, IsReport, IsSourceFault}
 use Rattle.kq_run.specs.Workers.{IsWorkerCount}
 use Rattle.kq_run.specs.declared.fault.Fault.{Fault}
 use Rattle.kq_run.specs.declared.fault.Fault.TheVariants.{Usage, Read, Trace, Memory, Spawn, Write}
@@ -115,9 +115,6 @@ lent_fault bytes workers (Trace line fault) (given, had, is) = subst (λ (bs : L
 lent_fault bytes workers Memory h = tt
 lent_fault bytes workers Spawn (given, had, is) = subst (λ (bs : List ℕ). IsFault bs workers Spawn) had.0 is
 lent_fault bytes workers Write h = h
-
-pub lent_report : (bytes text : List ℕ) → IsReportFrom (record { known = Some bytes; most = length bytes }) text → IsReport bytes text
-lent_report bytes text (given, had, is) = subst (λ (bs : List ℕ). IsReport bs text) had.0 is
 
 -- an input is such a source
 pub input_fault : (given : Option (List ℕ)) (limit workers : ℕ) (fault : Fault)

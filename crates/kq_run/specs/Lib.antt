@@ -3,3 +3,4 @@ pub mod Living
 pub mod Replay
 pub mod Splitter
 pub mod Workers
+pub mod Written

@@ -27,6 +27,10 @@ abbrev pub IsReport : List ℕ → List ℕ → Type 0
 IsReport bytes text =
     (version : ℕ) × (events : List Event) × (reading bytes ≡ Good version events) × (text ≡ report_of version events)
 
+-- the text is the report of this trace
+abbrev pub IsReportOf : ℕ → List Event → List ℕ → Type 0
+IsReportOf version events text = text ≡ report_of version events
+
 -- the bytes are a trace, whatever its events are
 abbrev pub IsTrace : List ℕ → Type 0
 IsTrace bytes = (version : ℕ) × (events : List Event) × (reading bytes ≡ Good version events)
@@ -74,10 +78,6 @@ IsSplitFrom ahead trace splitting =
     (bytes : List ℕ) × HadAhead ahead bytes × (reading bytes ≡ Good trace.version trace.events)
     × IsSplitSoFar (traced trace) splitting
 
--- the text is the report of the trace that a source had
-abbrev pub IsReportFrom : Ahead → List ℕ → Type 0
-IsReportFrom ahead text = (bytes : List ℕ) × HadAhead ahead bytes × IsReport bytes text
-
 -- the fault can come from what a source had and so many workers
 abbrev pub IsSourceFault : Type 0 → Ahead → ℕ → Fault → Type 0
 IsSourceFault may_fail ahead workers Usage = ⊥
@@ -91,6 +91,10 @@ IsSourceFault may_fail ahead workers Write = ⊥
 -- an input of no more bytes than so many had these bytes, where it is known what it had
 abbrev pub Had : Option (List ℕ) → ℕ → List ℕ → Type 0
 Had given limit bytes = WereGiven given bytes × (length bytes ≤ limit)
+
+-- the text is the report of the trace that such an input had
+abbrev pub IsReportIn : Option (List ℕ) → ℕ → List ℕ → Type 0
+IsReportIn given limit text = (bytes : List ℕ) × Had given limit bytes × IsReport bytes text
 
 -- the fault can come from such an input and so many workers
 abbrev pub IsInputFault : Option (List ℕ) → ℕ → ℕ → Fault → Type 0

@@ -12,8 +12,7 @@ mod workers;
 
 pub use fault::Fault;
 pub use input::read_in;
-pub use kq_merge::Pieces;
 pub use living::{book_text, live_report, live_run, live_run_with};
-pub use output::{write_out, write_pieces};
+pub use output::write_out;
 pub use replaying::{replay, replay_input, replay_with};
 pub use workers::{MOST_THREADS, MOST_WORKERS, is_thread_count, is_worker_count};

@@ -1,18 +1,20 @@
 //! A trace on one live system.
-ghost use Rattle.std.specs.Prelude.{◌≡◌, ◌↔◌, IfErr, IfOk, IsErrOf};
+ghost use Rattle.std.specs.Prelude.{◌≡◌, ◌↔◌, IfErr, IfOk, IsErrOf, OnOk};
 ghost use Rattle.kq_live.specs.Recorded.{IsRun};
-ghost use Rattle.kq_model.specs.Report.{report_of};
 ghost use Rattle.kq_run.specs.Living.{IsBookOf, IsBookText, IsLiveFault, IsLiveReport, IsRunFault};
+ghost use Rattle.kq_run.specs.Replay.{IsReportOf};
 ghost use Rattle.kq_run.specs.Workers.{IsThreadCount};
+ghost use Rattle.kq_run.specs.Written.{Leaves, Writes};
 
 use crate::fault::Fault;
 use crate::workers::is_thread_count;
 use kq_gate::{Always, Gate, Open, Starts};
 use kq_live::Book;
-use kq_merge::{Pieces, RowLists, report_by_place};
-use kq_model::{Memory, Trace};
+use kq_merge::{RowLists, write_by_place};
+use kq_model::Trace;
 use kq_serve::ServeError;
 use kq_trace::{read_trace_with, write_trace};
+use std::io::Write;
 use std::sync::Wait;
 use std::thread::Threads;
 
@@ -69,33 +71,45 @@ fn book_of<R: AllocGlobal + Threads + Wait + Sync>(
     live_run(rt, &trace, threads)
 }
 
-/// The report of a book of the trace that the bytes are, run by so many threads, 1 to 64; any other
+/// Writes the report of a book of the trace that the bytes are, run by so many threads, 1 to 64; any other
 /// number is [`Fault::Usage`], before all else.
-pub fn live_report<R: AllocGlobal + Threads + Wait + Sync>(
+///
+/// After [`Fault::Write`] a prefix of the report was written, after any other fault nothing.
+pub fn live_report<R: AllocGlobal + Threads + Wait + Sync, O: Write>(
     rt: &R,
     bytes: &[u8],
     threads: u32,
-) -> Result<Pieces, Fault>
+    out: &mut O,
+) -> Result<(), Fault>
     ensures threads { IsErrOf result Fault.Usage ↔ ¬ IsThreadCount threads }
-    ensures report { IfOk result (λ text. IsLiveReport bytes.now threads text) }
-    ensures fault { IfErr result (IsLiveFault bytes.now threads) }
+    ensures whole { OnOk result
+        (Writes (IsLiveReport bytes.now threads) (O.contents out.old) (O.contents out.new)) }
+    ensures fault { IfErr result (λ f.
+        Leaves (IsLiveReport bytes.now threads) (IsLiveFault bytes.now threads) f
+        (O.contents out.old) (O.contents out.new)) }
 {
     let book = book_of(rt, bytes, threads)?;
-    written(rt, &book, threads).map_err(|_| Fault::Memory)
+    write_book(rt, &book, threads, out)
 }
 
-/// The report of a book's trace.
-fn written<R: AllocGlobal + Threads + Sync>(
+/// Writes the report of a book's trace, by so many threads.
+fn write_book<R: AllocGlobal + Threads + Sync, O: Write>(
     rt: &R,
     book: &Book,
     threads: u32,
-) -> Result<Pieces, Memory>
-    ensures { IfOk result (λ text. text ≡ report_of book.now.version book.now.events) }
+    out: &mut O,
+) -> Result<(), Fault>
+    ensures whole { OnOk result (Writes (IsReportOf book.now.version book.now.events)
+        (O.contents out.old) (O.contents out.new)) }
+    ensures fault { IfErr result (λ f.
+        Leaves (IsReportOf book.now.version book.now.events) (λ g. g ≡ Fault.Memory) f
+        (O.contents out.old) (O.contents out.new)) }
 {
     let rows = book.rows()?;
     let records = book.len() as u64;
     let rows = RowLists::one(rt.alloc(), rows);
-    report_by_place(rt, &rows, records, threads)
+    write_by_place(rt, &rows, records, threads, out)?;
+    Ok(())
 }
 
 /// The canonical text of the trace of such a book.
@@ -103,13 +117,12 @@ pub fn book_text<R: AllocGlobal + Threads + Wait + Sync>(
     rt: &R,
     bytes: &[u8],
     threads: u32,
-) -> Result<Pieces, Fault>
+) -> Result<Vec<u8>, Fault>
     ensures threads { IsErrOf result Fault.Usage ↔ ¬ IsThreadCount threads }
-    ensures text { IfOk result (λ text. IsBookText bytes.now threads text) }
+    ensures text { IfOk result (λ text. IsBookText bytes.now threads text.items) }
     ensures fault { IfErr result (IsLiveFault bytes.now threads) }
 {
     let book = book_of(rt, bytes, threads)?;
     let trace = book.trace()?;
-    let text = write_trace(rt.alloc(), &trace)?;
-    Ok(Pieces::one(rt.alloc(), text)?)
+    Ok(write_trace(rt.alloc(), &trace)?)
 }

@@ -1,20 +1,22 @@
 //! The rows of a trace: it is split while it is read, and each of its kqueues is replayed alone.
 
-ghost use Rattle.std.specs.Prelude.{IfErr, IfOk};
+ghost use Rattle.std.specs.Prelude.{◌≡◌, IfErr, IfOk, OnOk};
 ghost use Rattle.kq_history.specs.Splitting.{IsSplitSoFar};
 ghost use Rattle.kq_history.specs.Traced.{traced};
-ghost use Rattle.kq_run.specs.Replay.{AreRowsOf, IsReplayedFrom, IsReplayFault, IsSourceFault, IsSplitFrom};
+ghost use Rattle.kq_run.specs.Replay.{AreRowsOf, IsReplayedFrom, IsReplayFault, IsReportOf, IsSourceFault, IsSplitFrom};
 ghost use Rattle.kq_run.specs.Workers.{IsWorkerCount};
+ghost use Rattle.kq_run.specs.Written.{Leaves, Writes};
 
 use crate::fault::Fault;
 use crate::splitter::Splitter;
 use crate::workers::threads_of;
 use kq_gate::{Gate, Starts};
 use kq_history::{Spent, Split, Splitting};
-use kq_merge::RowLists;
+use kq_merge::{RowLists, write_by_place};
 use kq_model::{Series, Trace};
 use kq_replay::{RunFault, replay_all_with};
 use kq_trace::{Source, read_trace_into};
+use std::io::Write;
 use std::sync::Wait;
 use std::thread::Threads;
 
@@ -44,6 +46,25 @@ impl Replayed {
         let (trace, splitting) = split_from(rt, source, workers)?;
         let (rows, spent) = replay_split(rt, &trace, splitting, workers, gate, starts)?;
         Ok(Replayed { trace, rows, spent })
+    }
+
+    /// Writes the report of the trace, by so many threads.
+    pub fn write<R: AllocGlobal + Threads + Sync, O: Write>(
+        &self,
+        rt: &R,
+        threads: u32,
+        out: &mut O,
+    ) -> Result<(), Fault>
+        requires { AreRowsOf self.now.trace.version self.now.trace.events self.now.rows }
+        ensures whole { OnOk result (Writes (IsReportOf self.now.trace.version self.now.trace.events)
+            (O.contents out.old) (O.contents out.new)) }
+        ensures fault { IfErr result (λ f.
+            Leaves (IsReportOf self.now.trace.version self.now.trace.events) (λ g. g ≡ Fault.Memory) f
+            (O.contents out.old) (O.contents out.new)) }
+    {
+        let records = self.trace.events.len() as u64;
+        write_by_place(rt, &self.rows, records, threads, out)?;
+        Ok(())
     }
 }
 

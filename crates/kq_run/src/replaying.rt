@@ -1,14 +1,14 @@
-ghost use Rattle.std.specs.Prelude.{◌↔◌, ℕ, IfErr, IfOk, IsErrOf, List};
-ghost use Rattle.kq_run.specs.Replay.{Had, IsFault, IsInputFault, IsReport, IsReportFrom, IsSourceFault};
+ghost use Rattle.std.specs.Prelude.{◌↔◌, IfErr, IfOk, IsErrOf, OnOk};
+ghost use Rattle.kq_run.specs.Replay.{IsFault, IsInputFault, IsReport, IsReportIn};
 ghost use Rattle.kq_run.specs.Workers.{IsWorkerCount};
+ghost use Rattle.kq_run.specs.Written.{Leaves, Writes};
 
 use crate::fault::Fault;
 use crate::replayed::Replayed;
 use crate::workers::is_worker_count;
 use kq_gate::{Always, Gate, Open, Starts};
-use kq_merge::{Pieces, report_by_place};
-use kq_trace::{Input, Lent, Source};
-use std::io::Read;
+use kq_trace::{Input, Lent};
+use std::io::{Read, Write};
 use std::mem::forget;
 use std::sync::Wait;
 use std::thread::Threads;
@@ -48,48 +48,40 @@ pub fn replay_with<R: AllocGlobal + Threads + Wait + Sync, G: Gate + Sync, S: St
     if !is_worker_count(workers) {
         return Err(Fault::Usage);
     }
-    let (report, _) = report_of(rt, &mut Lent::new(bytes), workers, gate, starts)?;
-    Ok(report.joined(rt.alloc())?)
+    let replayed = Replayed::of(rt, &mut Lent::new(bytes), workers, gate, starts)?;
+    let mut text = Vec::new(rt.alloc());
+    match replayed.write(rt, workers, &mut text) {
+        Ok(()) => Ok(text),
+        // What a vector does not take is a growth that was refused.
+        Err(_) => Err(Fault::Memory),
+    }
 }
 
-/// The report of the trace that an input has, which is no more bytes than so many, as [`replay`] gives it, by so many
-/// workers, 1 to 256. By two and more it is read while it comes. A read that fails, an interrupted one too, and an
+/// Writes the report of the trace that an input has, which is no more bytes than so many, as [`replay`] gives it, by so
+/// many workers, 1 to 256. By two and more it is read while it comes. A read that fails, an interrupted one too, and an
 /// input of more bytes are [`Fault::Read`], whatever the trace.
+///
+/// After [`Fault::Write`] a prefix of the report was written, after any other fault nothing.
 ///
 /// It is for a program that ends once the report is out: the trace, its rows and what the split kept are left to the
 /// end of the process, which gives all memory back at once.
-pub fn replay_input<R: AllocGlobal + Threads + Wait + Sync, I: Read + Send>(
+pub fn replay_input<R: AllocGlobal + Threads + Wait + Sync, I: Read + Send, O: Write>(
     rt: &R,
     input: &mut I,
     limit: usize,
     workers: u32,
-) -> Result<Pieces, Fault>
+    out: &mut O,
+) -> Result<(), Fault>
     requires { IsWorkerCount workers }
-    ensures report { IfOk result (λ text. (bytes : List ℕ) × Had (I.remaining input.old) limit bytes
-        × IsReport bytes text) }
-    ensures fault { IfErr result (IsInputFault (I.remaining input.old) limit workers) }
+    ensures whole { OnOk result
+        (Writes (IsReportIn (I.remaining input.old) limit) (O.contents out.old) (O.contents out.new)) }
+    ensures fault { IfErr result (λ f.
+        Leaves (IsReportIn (I.remaining input.old) limit) (IsInputFault (I.remaining input.old) limit workers) f
+        (O.contents out.old) (O.contents out.new)) }
 {
     let mut source = Input::new(input, limit);
-    let (report, left) = report_of(rt, &mut source, workers, &Open, &Always)?;
-    forget(left);
-    Ok(report)
-}
-
-/// The report of the trace that a source has, by so many workers, 1 to 256, and the replay that it is of. The gate is
-/// asked before each kqueue is replayed, and `starts` before each worker but the first is started.
-fn report_of<R: AllocGlobal + Threads + Wait + Sync, I: Source + Send, G: Gate + Sync, S: Starts>(
-    rt: &R,
-    source: &mut I,
-    workers: u32,
-    gate: &G,
-    starts: &S,
-) -> Result<(Pieces, Replayed), Fault>
-    requires { IsWorkerCount workers }
-    ensures report { IfOk result (λ r. IsReportFrom (I.ahead source.old) r.0) }
-    ensures fault { IfErr result (IsSourceFault I.may_fail (I.ahead source.old) workers) }
-{
-    let replayed = Replayed::of(rt, source, workers, gate, starts)?;
-    let records = replayed.trace.events.len() as u64;
-    let report = report_by_place(rt, &replayed.rows, records, workers)?;
-    Ok((report, replayed))
+    let replayed = Replayed::of(rt, &mut source, workers, &Open, &Always)?;
+    let written = replayed.write(rt, workers, out);
+    forget(replayed);
+    written
 }

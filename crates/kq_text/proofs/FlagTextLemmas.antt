@@ -1,5 +1,5 @@
 -- The list of the names of flags, name by name.
-use Rattle.std.proofs.Common.{◌≡◌, ◌∙◌, ℕ, Bool, true, false, List, [], ◌∷◌, ◌++◌, map, refl, sym, ap, append_assoc, eqb, ◌+◌, ◌<◌, ◌≤◌, length, drop, get_or, add-one, drop-cons, drop_of_length-le}
+use Rattle.std.proofs.Common.{◌≡◌, ◌∙◌, ℕ, Bool, true, false, List, [], ◌∷◌, ◌++◌, map, refl, sym, ap, append_assoc, arith, eqb, ◌+◌, ◌<◌, ◌≤◌, length, drop, get_or, add-one, drop-cons, drop_of_length-le}
 use Rattle.std.proofs.lemmas.Bool.{eqb-true}
 use Rattle.std.specs.Prelude.{filter, if◌then◌else◌}
 use Rattle.json.specs.Print.{escape, escape_byte}
@@ -76,6 +76,22 @@ names_ended flags later items i first before out new past table begin kept end =
     let none : drop i items ≡ [] = drop_of_length-le items past in
     let closed : names_text flags later (rows_of (drop i items)) ≡ 93 ∷ [] = rw none refl in
     record { is = end.is ∙ ap (λ l. out ++ l) (sym closed) ∙ kept ∙ rw (begin.is, table, flags_text) (simp append_assoc) }
+
+-- how many bytes names and the closing bracket have at most
+abbrev pub names_bytes : List (List ℕ × ℕ) → ℕ
+names_bytes [] = 1
+names_bytes (row ∷ rows) = length row.0 + 3 + names_bytes rows
+
+pub names_bytes-more : (items : List (Flag EvFlags)) (i : ℕ) (d : Flag EvFlags) → i < length items
+    → names_bytes (rows_of (drop i items)) ≡ length (get_or items i d).name.now + 3 + names_bytes (rows_of (drop (i + 1) items))
+names_bytes-more items i d lt = rw (add-one, drop-cons items i d) refl
+
+pub names_bytes-some : (rows : List (List ℕ × ℕ)) → 1 ≤ names_bytes rows
+names_bytes-some [] = omega arith
+names_bytes-some (row ∷ rows) = omega arith
+
+pub names_bytes-all : (items : List (Flag EvFlags)) → rows_of items ≡ flag_table → names_bytes (rows_of items) ≡ 88
+names_bytes-all items table = ap names_bytes table
 
 -- where no flag is set, there is no name
 unset : (flags : EvFlags) (n : ℕ) → flags.0 ≡ n → n ≡ 0 → names_text flags false flag_table ≡ 93 ∷ []

@@ -1,2 +1,4 @@
 pub mod Adds
 pub mod FlagText
+pub mod Room
+pub mod Output

@@ -4,13 +4,16 @@ ghost use Rattle.std.specs.Int.{w64};
 ghost use Rattle.std.specs.Int.RustNames.{FitsSigned};
 ghost use Rattle.kq_text.specs.Adds.{Adds};
 
+use crate::room::push;
 use kq_model::Memory;
 
 /// Adds a text.
 pub fn put(out: &mut Vec<u8>, text: &str) -> Result<(), Memory>
     ensures { OnOk result (Adds out.old.items text.now out.new.items) }
 {
-    out.extend_from_slice(text.as_bytes()).map_err(|_| Memory)
+    out.reserve(text.len()).map_err(|_| Memory)?;
+    push(out, text);
+    Ok(())
 }
 
 /// Adds an integer in decimal digits.

@@ -14,12 +14,5 @@ pub fn write_out<W: Write>(bytes: &[u8], writer: &mut W) -> Result<(), Fault>
         × Appends (W.contents writer.old) (W.contents writer.new) done) }
     ensures fault { IfErr result (λ f. f ≡ Fault.Write) }
 {
-    let mut rest = bytes;
-    while !rest.is_empty() {
-        match writer.write(rest) {
-            Ok(n) if n > 0 => rest = &rest[n..],
-            _ => return Err(Fault::Write),
-        }
-    }
-    Ok(())
+    kq_text::write_out(bytes, writer).map_err(|_| Fault::Write)
 }

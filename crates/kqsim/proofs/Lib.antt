@@ -1,1 +1,1 @@
-pub mod LiveFaults
+pub mod Outputs

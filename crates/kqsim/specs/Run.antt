@@ -37,6 +37,10 @@ IsOutputFault (order.Replay workers file) bytes fault = IsFault bytes workers fa
 IsOutputFault (order.Live threads file) bytes fault = IsLiveFault bytes threads fault
 IsOutputFault (order.Book threads file) bytes fault = IsLiveFault bytes threads fault
 
+-- what the order makes of the bytes that a reader has
+abbrev pub IsReaderOutput : Order → Option (List ℕ) → List ℕ → Type 0
+IsReaderOutput o given text = (bytes : List ℕ) × Had given most_bytes bytes × IsOutput o bytes text
+
 -- the fault can come from what a reader has, if that is in range
 abbrev pub IsReaderFault : Order → Option (List ℕ) → Fault → Type 0
 IsReaderFault o given Usage = ⊥

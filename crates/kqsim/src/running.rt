@@ -1,12 +1,12 @@
-ghost use Rattle.std.specs.Prelude.{◌≡◌, ◌↔◌, ℕ, IfErr, IfOk, IsErrOf, IsTrue, List, OnOk};
+ghost use Rattle.std.specs.Prelude.{◌≡◌, ◌↔◌, IfErr, IsErrOf, IsTrue, OnOk};
 ghost use Rattle.std.specs.Io.KnownBytes.{Keeps};
-ghost use Rattle.kq_run.specs.Replay.{Had};
-ghost use Rattle.kqsim.specs.Run.{EndsBy, IsInRange, IsOutput, IsReaderFault, LeavesBy, WritesOutput, most_bytes};
+ghost use Rattle.kq_run.specs.Written.{Leaves, Writes};
+ghost use Rattle.kqsim.specs.Run.{EndsBy, IsInRange, IsReaderFault, IsReaderOutput, LeavesBy, WritesOutput};
 
 use crate::order::Order;
 use kq_run::{
-    Fault, Pieces, book_text, is_thread_count, is_worker_count, live_report, read_in, replay_input,
-    write_pieces,
+    Fault, book_text, is_thread_count, is_worker_count, live_report, read_in, replay_input,
+    write_out,
 };
 use std::io::{Read, Write};
 use std::sync::Wait;
@@ -56,8 +56,7 @@ fn carry_out<R: AllocGlobal + Threads + Wait + Sync, I: Read + Send, O: Write>(
     if !is_in_range(order) {
         return Err(Fault::Usage);
     }
-    let text = output_of(rt, order, reader)?;
-    write_pieces(&text, out)
+    write_output(rt, order, reader, out)
 }
 
 /// Whether the order's number of workers or threads is in range.
@@ -70,26 +69,30 @@ fn is_in_range(order: &Order) -> bool
     }
 }
 
-/// What the order makes of the trace that a reader has.
-fn output_of<R: AllocGlobal + Threads + Wait + Sync, I: Read + Send>(
+/// Writes what the order makes of the trace that a reader has.
+fn write_output<R: AllocGlobal + Threads + Wait + Sync, I: Read + Send, O: Write>(
     rt: &R,
     order: &Order,
     reader: &mut I,
-) -> Result<Pieces, Fault>
+    out: &mut O,
+) -> Result<(), Fault>
     requires { IsInRange order.now }
-    ensures output { IfOk result (λ text. (bytes : List ℕ) × Had (I.remaining reader.old) most_bytes bytes
-        × IsOutput order.now bytes text) }
-    ensures fault { IfErr result (IsReaderFault order.now (I.remaining reader.old)) }
+    ensures whole { OnOk result (Writes (IsReaderOutput order.now (I.remaining reader.old))
+        (O.contents out.old) (O.contents out.new)) }
+    ensures fault { IfErr result (λ f.
+        Leaves (IsReaderOutput order.now (I.remaining reader.old)) (IsReaderFault order.now (I.remaining reader.old)) f
+        (O.contents out.old) (O.contents out.new)) }
 {
     match order {
-        Order::Replay { workers, .. } => replay_input(rt, reader, MOST_BYTES, *workers),
+        Order::Replay { workers, .. } => replay_input(rt, reader, MOST_BYTES, *workers, out),
         Order::Live { threads, .. } => {
             let bytes = read_in(rt.alloc(), reader, MOST_BYTES)?;
-            live_report(rt, bytes.as_slice(), *threads)
+            live_report(rt, bytes.as_slice(), *threads, out)
         }
         Order::Book { threads, .. } => {
             let bytes = read_in(rt.alloc(), reader, MOST_BYTES)?;
-            book_text(rt, bytes.as_slice(), *threads)
+            let text = book_text(rt, bytes.as_slice(), *threads)?;
+            write_out(text.as_slice(), out)
         }
     }
 }

@@ -4,7 +4,7 @@ use crate::watch::Watch;
 use anyhow::Context;
 use kq_gate::Open;
 use kq_history::Split;
-use kq_merge::{RowLists, report_by_place};
+use kq_merge::{RowLists, write_by_place};
 use kq_model::Trace;
 use kq_replay::replay_all;
 use kq_trace::read_trace_with;
@@ -68,21 +68,9 @@ fn of_rows<R: AllocGlobal + Clock + CpuClock + Threads + Sync, O: Write, W: Writ
     times: &mut W,
 ) -> anyhow::Result<()> {
     watch.lap(rt, "merge", times)?;
-    let report = report_by_place(rt, rows, records, workers).map_err(|_| AllocError)?;
-    of_report(rt, report.as_slice(), watch, out, times)
-}
-
-/// The report is written.
-fn of_report<R: Clock + CpuClock, O: Write, W: Write>(
-    rt: &R,
-    pieces: &[Vec<u8>],
-    watch: &mut Watch,
-    out: &mut O,
-    times: &mut W,
-) -> anyhow::Result<()> {
-    for piece in pieces {
-        out.write_all(piece.as_slice())?;
-    }
+    let mut report = Vec::new(rt.alloc());
+    write_by_place(rt, rows, records, workers, &mut report).map_err(|_| AllocError)?;
+    out.write_all(report.as_slice())?;
     watch.lap(rt, "write", times)?;
     Ok(())
 }

@@ -16,3 +16,5 @@ mod replaying;
 mod streams;
 #[cfg(test)]
 mod workers;
+#[cfg(test)]
+mod writing;

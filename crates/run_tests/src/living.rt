@@ -17,11 +17,10 @@ const THIRD_LINE: &str = "{\"fd\":9,\"op\":\"kqueue\",\"pid\":1}\n";
 
 #[test]
 fn one_thread_reports_what_a_replay_does(rt: HostRuntime) -> Result<(), Fail> {
-    let report = live_report(&rt, STORED.as_bytes(), 1)?.joined(rt.alloc());
-    let report = report.map_err(|_| "memory")?;
+    let mut report = Vec::new(rt.alloc());
+    live_report(&rt, STORED.as_bytes(), 1, &mut report)?;
     assert_eq!(rt; report.as_slice(), REPORT.as_bytes());
-    let text = book_text(&rt, STORED.as_bytes(), 1)?.joined(rt.alloc());
-    let text = text.map_err(|_| "memory")?;
+    let text = book_text(&rt, STORED.as_bytes(), 1)?;
     let mut lines = text
         .as_slice()
         .split_inclusive(|byte| *byte == b'\n')
@@ -34,11 +33,14 @@ fn one_thread_reports_what_a_replay_does(rt: HostRuntime) -> Result<(), Fail> {
 #[test]
 fn threads_out_of_range_are_refused(rt: HostRuntime) -> Result<(), Fail> {
     let trace = read_trace(&rt, STORED.as_bytes())?;
+    let mut report = Vec::new(rt.alloc());
     for threads in [0, 65] {
         assert!(rt; matches!(live_run(&rt, &trace, threads), Err(Fault::Usage)));
-        assert!(rt; matches!(live_report(&rt, b"", threads), Err(Fault::Usage)));
+        let refused = live_report(&rt, b"", threads, &mut report);
+        assert!(rt; matches!(refused, Err(Fault::Usage)));
         assert!(rt; matches!(book_text(&rt, b"", threads), Err(Fault::Usage)));
     }
+    assert!(rt; report.is_empty());
     Ok(())
 }
 

@@ -1,6 +1,6 @@
-//! A replay of bytes.
+//! A replay of bytes, and of an input.
 use crate::given::{REPORT, STORED};
-use kq_run::{Fault, replay};
+use kq_run::{Fault, replay, replay_input};
 use std::test::Fail;
 
 #[test]
@@ -13,6 +13,17 @@ fn the_stored_run_is_reported(rt: HostRuntime) -> Result<(), Fail> {
         replay(&rt, STORED.as_bytes(), 256)?.as_slice(),
         REPORT.as_bytes()
     );
+    Ok(())
+}
+
+#[test]
+fn the_stored_run_is_reported_of_an_input(rt: HostRuntime) -> Result<(), Fail> {
+    for workers in [1, 2, 256] {
+        let mut input = STORED.as_bytes();
+        let mut report = Vec::new(rt.alloc());
+        replay_input(&rt, &mut input, STORED.len(), workers, &mut report)?;
+        assert_eq!(rt; report.as_slice(), REPORT.as_bytes());
+    }
     Ok(())
 }
 

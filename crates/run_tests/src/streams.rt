@@ -1,8 +1,11 @@
 //! What happens where a reader or a writer fails midway.
-use kq_run::{Fault, read_in, write_out};
+use crate::given::{REPORT, STORED};
+use kq_run::{Fault, live_report, read_in, replay_input, write_out};
 use std::io;
 use std::io::{ErrorKind, Read, Write};
+use std::sync::Wait;
 use std::test::Fail;
+use std::thread::Threads;
 
 /// Gives one byte a read, and fails once it was read so often.
 #[derive(Drop)]
@@ -139,4 +142,48 @@ fn a_failed_write_leaves_a_prefix(rt: HostRuntime) {
     let mut whole = taking(&rt, 35, None);
     assert!(rt; matches!(write_out(report, &mut whole), Ok(())));
     assert_eq!(rt; whole.got.as_slice(), report.as_slice());
+}
+
+/// How a replay ends whose writer takes so many bytes and then fails, and what it took.
+fn replayed_into<R: AllocGlobal + Threads + Wait + Sync>(
+    rt: &R,
+    writes: usize,
+) -> (Result<(), Fault>, Vec<u8>) {
+    let mut input = giving(STORED.as_bytes(), 1000);
+    let mut out = taking(rt, writes, Some(ErrorKind::Other));
+    let ended = replay_input(rt, &mut input, STORED.len(), 2, &mut out);
+    (ended, out.got)
+}
+
+/// The same of a live system.
+fn live_into<R: AllocGlobal + Threads + Wait + Sync>(
+    rt: &R,
+    writes: usize,
+) -> (Result<(), Fault>, Vec<u8>) {
+    let mut out = taking(rt, writes, Some(ErrorKind::Other));
+    let ended = live_report(rt, STORED.as_bytes(), 1, &mut out);
+    (ended, out.got)
+}
+
+/// Whether a write failed, and before that so many bytes of the report were taken.
+fn is_cut_off((ended, got): (Result<(), Fault>, Vec<u8>), writes: usize) -> bool {
+    matches!(ended, Err(Fault::Write))
+        && got.len() == writes
+        && REPORT.as_bytes().starts_with(got.as_slice())
+}
+
+#[test]
+fn a_report_is_cut_off_where_a_write_fails(rt: HostRuntime) {
+    for writes in 0..REPORT.len() {
+        assert!(rt;
+            is_cut_off(replayed_into(&rt, writes), writes),
+            "a replay at {writes}"
+        );
+        assert!(rt;
+            is_cut_off(live_into(&rt, writes), writes),
+            "a live run at {writes}"
+        );
+    }
+    let (ended, got) = replayed_into(&rt, REPORT.len());
+    assert!(rt; matches!(ended, Ok(())) && got.as_slice() == REPORT.as_bytes());
 }

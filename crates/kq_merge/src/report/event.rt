@@ -1,35 +1,39 @@
-ghost use Rattle.std.specs.Prelude.{◌≡◌, ◌++◌, codes, OnOk};
+ghost use Rattle.std.specs.Prelude.{◌≡◌, ◌≤◌, ◌++◌, codes, length};
 ghost use Rattle.serde_json.specs.Written.{comma_if, compact_text};
 ghost use Rattle.kq_model.specs.Report.{kevent_data};
 ghost use Rattle.kq_text.specs.Adds.{Adds};
+ghost use Rattle.kq_text.specs.Room.{HasRoom, TakesAtMost};
 ghost use Rattle.kq_merge.specs.EventsText.{before_flags};
 
-use kq_model::{Filter, Kevent, Memory};
-use kq_text::{put, put_flags, put_i64, put_number};
+use super::bound::EVENT_BYTES;
+use kq_model::{Filter, Kevent};
+use kq_text::{push, push_flags, push_number};
 
 // A report has many events, so what stands between their numbers is added in pieces as long as can be.
 
 /// Adds an event of a list as JSON, behind a comma where one stands before.
-pub fn put_event(out: &mut Vec<u8>, event: &Kevent, is_later: bool) -> Result<(), Memory>
-    ensures { OnOk result
-        (Adds out.old.items (comma_if is_later ++ compact_text (kevent_data event.now)) out.new.items) }
+pub fn push_event(out: &mut Vec<u8>, event: &Kevent, is_later: bool)
+    requires { HasRoom out.old EVENT_BYTES }
+    ensures text { Adds out.old.items (comma_if is_later ++ compact_text (kevent_data event.now)) out.new.items }
+    ensures room { TakesAtMost out.old out.new EVENT_BYTES }
 {
-    put(out, before_data(is_later))?;
-    put_i64(out, event.datum)?;
-    put(out, ",\"fflags\":")?;
-    put_number(out, event.fflags)?;
-    put(out, before_flags(event.filter))?;
-    put_flags(out, event.flags)?;
-    put(out, ",\"ident\":")?;
-    put_number(out, event.ident)?;
-    put(out, ",\"udata\":")?;
-    put_number(out, event.udata)?;
-    put(out, "}")
+    push(out, before_data(is_later));
+    push_number(out, event.datum);
+    push(out, ",\"fflags\":");
+    push_number(out, event.fflags);
+    push(out, before_flags(event.filter));
+    push_flags(out, event.flags);
+    push(out, ",\"ident\":");
+    push_number(out, event.ident);
+    push(out, ",\"udata\":");
+    push_number(out, event.udata);
+    push(out, "}");
 }
 
 /// What stands before the data of an event.
 fn before_data(is_later: bool) -> &'static str
-    ensures { result.now ≡ comma_if is_later ++ codes "{\"data\":" }
+    ensures text { result.now ≡ comma_if is_later ++ codes "{\"data\":" }
+    ensures short { length result.now ≤ 9 }
 {
     if is_later {
         ",{\"data\":"
@@ -40,7 +44,8 @@ fn before_data(is_later: bool) -> &'static str
 
 /// An event's filter, and the name of its flags.
 fn before_flags(filter: Filter) -> &'static str
-    ensures { result.now ≡ before_flags filter }
+    ensures text { result.now ≡ before_flags filter }
+    ensures short { length result.now ≤ 29 }
 {
     match filter {
         Filter::Read => ",\"filter\":\"READ\",\"flags\":",

@@ -1,139 +1,97 @@
-//! The text of a report in pieces, so that it need not be copied into one.
+//! The lines of rows in pieces, whose memory is there before they are made.
 
-ghost use Rattle.std.specs.Prelude.{◌≡◌, ◌+◌, ◌<◌, ◌^◌, ◌++◌, IfOk, List, length};
-ghost use Rattle.std.specs.List.{flat_map};
-ghost use Rattle.kq_model.specs.declared.row.Row.{Row};
-ghost use Rattle.kq_model.specs.Report.{last_line, report};
-ghost use Rattle.kq_merge.specs.Parts.{AreWritten};
-ghost use Rattle.kq_merge.specs.Written.{nothing_written, with_part};
+ghost use Rattle.std.specs.Prelude.{◌≡◌, ◌≤◌, ◌<◌, ◌++◌, drop, IfOk, length, take, vec_capacity};
+ghost use Rattle.kq_model.specs.Report.{row_lines};
+ghost use Rattle.kq_text.specs.Adds.{Adds};
+ghost use Rattle.kq_text.specs.Room.{HasRoom};
+ghost use Rattle.kq_merge.specs.AtPlaces.{present};
+ghost use Rattle.kq_merge.specs.Bounds.{AreWithin, lines_bound};
 
-use super::line::put_counts;
-use super::parts::Part;
-use super::text::ReportText;
-use kq_model::Memory;
+use super::bound::line_bound;
+use super::line::push_reply;
+use kq_model::{Memory, Row};
 use std::alloc::Global;
-use std::collections::VecDeque;
-use std::marker::Model;
 
-/// A text in pieces. Contracts see it whole.
+/// How many bytes the lines of a piece have at most, where no line has more.
+pub const PIECE_BYTES: u128 = 1 << 18;
+
+/// A run of slots, from one place to another, and a buffer for the lines of their rows.
 #[derive(Drop)]
-pub struct Pieces {
-    pieces: Vec<Vec<u8>>,
+pub struct Piece {
+    pub start: usize,
+    pub end: usize,
+    pub text: Vec<u8>,
 }
 
-impl Model for Pieces {
-    ghost use Rattle.std.specs.List.{flat_map};
-    ghost use Rattle.std.specs.Prelude.{ℕ, List};
+impl Piece {
+    ghost use Rattle.kq_merge.specs.Pieces.{IsFilled, IsReady, run_of};
 
-    ghost Value = { List ℕ };
-
-    ghost view = { λ p. flat_map (λ piece. piece.items) p.pieces.items };
-}
-
-impl Pieces {
-    /// A text in one piece.
-    pub fn one(alloc: Global, text: Vec<u8>) -> Result<Self, Memory>
-        ensures { IfOk result (λ pieces. pieces ≡ text.items) }
+    /// No slot yet, and room for so many bytes.
+    pub fn new(alloc: Global, bytes: usize) -> Result<Self, Memory>
+        ensures { IfOk result (λ piece. bytes ≤ vec_capacity piece.text) }
     {
-        let mut pieces = Vec::new(alloc);
-        pieces.push(text).map_err(|_| Memory)?;
-        Ok(Pieces { pieces })
+        let text = Vec::with_capacity(alloc, bytes).map_err(|_| Memory)?;
+        Ok(Piece {
+            start: 0,
+            end: 0,
+            text,
+        })
     }
 
-    /// The pieces, one behind the other.
-    pub fn as_slice(&self) -> &[Vec<u8>]
-        ensures { flat_map (λ piece. piece.items) result.now ≡ self.now }
+    /// Takes a run of these slots that begins at a place, the lines of which have so many bytes at most. Where it ends
+    /// is returned.
+    pub fn take_run(&mut self, slots: &[Option<&Row>], start: usize, bytes: usize) -> usize
+        requires room { bytes ≤ vec_capacity self.old.text }
+        requires start { start ≤ length slots.now }
+        ensures ready { IsReady slots.now self.new }
+        ensures text { self.new.text ≡ self.old.text }
+        ensures forth { start ≤ result }
+        ensures within { result ≤ length slots.now }
+        ensures cut { drop start slots.now ≡ run_of slots.now self.new ++ drop result slots.now }
+        ensures some { AreWithin bytes (present (drop start slots.now)) → start < length slots.now → start < result }
     {
-        self.pieces.as_slice()
+        self.start = start;
+        self.end = start + run_len(&slots[start..], bytes);
+        self.end
     }
 
-    /// The whole text. Only the first piece is not copied.
-    pub fn joined(self, alloc: Global) -> Result<Vec<u8>, Memory>
-        ensures { IfOk result (λ text. text.items ≡ self) }
+    /// Puts the lines of its run of these slots into its buffer, in place of what was there.
+    pub fn fill(&mut self, slots: &[Option<&Row>])
+        requires { IsReady slots.now self.old }
+        ensures { IsFilled slots.now self.old self.new }
     {
-        let Pieces { pieces } = self;
-        let mut ahead = VecDeque::from(pieces);
-        let mut text = ahead.pop_front().unwrap_or(Vec::new(alloc));
-        let mut more: usize = 0;
-        for piece in &ahead {
-            more = more.saturating_add(piece.len());
-        }
-        text.reserve_exact(more).map_err(|_| Memory)?;
-        'pieces: while let Some(mut piece) = ahead.pop_front() {
-            text.append(&mut piece).map_err(|_| Memory)?;
-        }
-        Ok(text)
-    }
-}
-
-/// The pieces of a report so far, and what the last line is to count of them.
-#[derive(Drop)]
-struct Piecing {
-    pieces: Vec<Vec<u8>>,
-    calls: u64,
-    events: u128,
-}
-
-impl Model for Piecing {
-    ghost use Rattle.std.specs.List.{flat_map};
-    ghost use Rattle.std.specs.Prelude.{◌≤◌, ◌*◌, ◌^◌};
-    ghost use Rattle.kq_merge.specs.Written.{Written};
-
-    ghost Value = { Written };
-
-    ghost view = { λ p. record {
-      lines = flat_map (λ piece. piece.items) p.pieces.items;
-      calls = p.calls;
-      events = p.events;
-    } };
-
-    ghost invariant = { λ p. p.events ≤ p.calls * 2 ^ 64 };
-}
-
-impl Piecing {
-    fn new(alloc: Global) -> Self
-        ensures { result ≡ nothing_written }
-    {
-        Piecing {
-            pieces: Vec::new(alloc),
-            calls: 0,
-            events: 0,
-        }
-    }
-
-    /// The pieces with the lines of a part behind them.
-    fn with_part(mut self, part: ReportText) -> Result<Self, Memory>
-        requires { self.calls + part.calls < 2 ^ 64 }
-        ensures { IfOk result (λ pieces. pieces ≡ with_part self part) }
-    {
-        let (lines, calls, events) = part.into_parts();
-        self.pieces.push(lines).map_err(|_| Memory)?;
-        self.calls += calls;
-        self.events += events;
-        Ok(self)
-    }
-
-    /// The whole text, with the last line.
-    fn end(mut self, alloc: Global, records: u64) -> Result<Pieces, Memory>
-        ensures { IfOk result (λ text. text ≡ self.lines ++ last_line self.calls self.events records) }
-    {
-        let mut last = Vec::new(alloc);
-        put_counts(&mut last, self.calls, self.events, records)?;
-        self.pieces.push(last).map_err(|_| Memory)?;
-        let Piecing { pieces, .. } = self;
-        Ok(Pieces { pieces })
+        self.text.clear();
+        push_rows(&mut self.text, &slots[self.start..self.end]);
     }
 }
 
-/// The report of the rows of which these parts were written, each part as a piece.
-pub fn pieced(alloc: Global, parts: Vec<Part>, records: u64) -> Result<Pieces, Memory>
-    requires { (rows : List Row) × AreWritten rows parts.items × (length rows < 2 ^ 64) }
-    ensures { (rows : List Row) → AreWritten rows parts.items → IfOk result (λ text. text ≡ report rows records) }
+/// How many of these slots, from the first, have rows whose lines have together so many bytes at most.
+fn run_len(slots: &[Option<&Row>], bytes: usize) -> usize
+    ensures within { result ≤ length slots.now }
+    ensures short { lines_bound (present (take result slots.now)) ≤ bytes }
+    ensures some { AreWithin bytes (present slots.now) → 0 < length slots.now → 0 < result }
 {
-    let mut pieces = Piecing::new(alloc);
-    let mut ahead = VecDeque::from(parts);
-    'parts: while let Some(part) = ahead.pop_front() {
-        pieces = pieces.with_part(part?)?;
+    let mut bound: u128 = 0;
+    for (count, slot) in slots.iter().enumerate() {
+        if let Some(row) = slot {
+            bound += line_bound(&row.reply);
+        }
+        if bound > bytes as u128 {
+            return count;
+        }
     }
-    pieces.end(alloc, records)
+    slots.len()
+}
+
+/// Adds the lines of the rows in these slots, for which there is room.
+fn push_rows(out: &mut Vec<u8>, slots: &[Option<&Row>])
+    requires { HasRoom out.old (lines_bound (present slots.now)) }
+    ensures text { Adds out.old.items (row_lines (present slots.now)) out.new.items }
+    ensures capacity { vec_capacity out.old ≤ vec_capacity out.new }
+{
+    for slot in slots {
+        if let Some(row) = slot {
+            push_reply(out, row.at, &row.reply);
+        }
+    }
 }

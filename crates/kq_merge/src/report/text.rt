@@ -1,4 +1,4 @@
-ghost use Rattle.std.specs.Prelude.{◌≡◌, ◌≤◌, ◌<◌, ◌*◌, ◌^◌, ◌++◌, [], IfOk};
+ghost use Rattle.std.specs.Prelude.{◌≡◌, ◌≤◌, ◌++◌, IfOk};
 ghost use Rattle.kq_model.specs.Report.{calls_in, events_in, last_line};
 ghost use Rattle.kq_merge.specs.Written.{nothing_written, with_reply};
 
@@ -6,9 +6,6 @@ use super::line::{put_counts, put_reply};
 use kq_model::{Memory, Reply};
 use std::alloc::Global;
 use std::marker::Model;
-
-/// The bytes of the line of a call that returned an event.
-const USUAL_LINE: usize = 96;
 
 /// The text of a report as it grows, for who has one row after the other and keeps none.
 #[derive(Drop)]
@@ -41,16 +38,6 @@ impl ReportText {
         }
     }
 
-    /// No row yet, and room for the lines of so many, if they are of the usual length.
-    pub(crate) fn with_room(alloc: Global, rows: usize) -> Result<Self, Memory>
-        ensures { IfOk result (λ text. text ≡ nothing_written) }
-    {
-        let mut text = ReportText::new(alloc);
-        let bytes = rows.saturating_mul(USUAL_LINE);
-        text.lines.reserve(bytes).map_err(|_| Memory)?;
-        Ok(text)
-    }
-
     /// The text with the row of the reply to the record at a place; a record that was only done has
     /// no row.
     pub fn with_row(mut self, at: u64, reply: &Reply) -> Result<Self, Memory>
@@ -60,19 +47,6 @@ impl ReportText {
         self.calls += calls_in(reply);
         self.events += u128::from(events_in(reply));
         Ok(self)
-    }
-
-    /// Its lines, and how many calls and events they have.
-    pub(crate) fn into_parts(self) -> (Vec<u8>, u64, u128)
-        ensures parts { (result.0.items ≡ self.lines) × (result.1 ≡ self.calls) × (result.2 ≡ self.events) }
-        ensures few { result.2 ≤ result.1 * 2 ^ 64 }
-    {
-        let ReportText {
-            lines,
-            calls,
-            events,
-        } = self;
-        (lines, calls, events)
     }
 
     /// The whole text, with the last line, which counts the calls and events of the rows, and the
