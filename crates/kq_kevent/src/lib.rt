@@ -10,7 +10,6 @@ mod kq;
 mod look;
 mod notify;
 mod process;
-mod queue;
 mod refusals;
 mod register;
 mod retrieve;

@@ -20,6 +20,7 @@ ghost use Rattle.kq_kevent.specs.Telling.{fork_told, told_one, told_all, LeaveIt
 
 use crate::Kq;
 use crate::look::look_in;
+use crate::register::place;
 use kq_filters::{Heard, hear, stays, takes};
 use kq_knote::{Knote, Tally};
 use kq_model::notes::NOTE_TRACK;
@@ -277,8 +278,7 @@ impl Kq {
         }
     }
 
-    /// Room for one knote and its key in the queue, where the children of the process are followed. It
-    /// changes nothing else.
+    /// Room for one knote, where the children of the process are followed. It changes nothing else.
     pub fn reserve_fork(&mut self, pid: u32) -> Result<(), Memory>
         ensures kq { self.new.kq ≡ self.old.kq }
         ensures owner { self.new.owner ≡ self.old.owner }
@@ -294,7 +294,7 @@ impl Kq {
         if !self.tracks(pid) {
             return Ok(());
         }
-        self.reserve_for(1, 1, 0)
+        self.reserve_for(1, 0)
     }
 
     /// Room for the knotes of all children of which these hints tell, as `notify` wants it. It changes
@@ -312,7 +312,7 @@ impl Kq {
             return Ok(());
         }
         let children = children_in(hints);
-        self.reserve_for(children, children, 0)
+        self.reserve_for(children, 0)
     }
 
     /// Whether the children of a process are followed.
@@ -341,9 +341,9 @@ impl Kq {
             let Some(watcher) = next else {
                 return;
             };
-            let met = self.knotes.step(hints, &watcher);
-            next = met.next;
-            self.notice(met.row, watcher.key, hints, views);
+            let knote = watcher.row;
+            next = self.knotes.next_watcher(hints, watcher.place, knote.key);
+            self.notice(watcher.place, knote.key, hints, views);
         }
     }
 
@@ -397,7 +397,7 @@ impl Kq {
         ensures limit { limit self.new ≡ limit self.old }
     {
         if done && told.has_nothing() {
-            self.unmake_at(told.key, found);
+            self.unmake_at(found.place, told.key);
         } else {
             self.put_back(found, looked_at(views, told));
         }
@@ -413,9 +413,7 @@ impl Kq {
         ensures room { self.new.room ≡ self.old.room }
         ensures limit { limit self.new ≡ limit self.old }
     {
-        // The queue holds just the knotes that are active and enabled, so it need not be asked.
-        let waits = found.row.is_waiting();
         self.knotes.modify_at(found.place, knote);
-        self.queue.place(&knote, waits);
+        place(&mut self.knotes, found.place, &knote);
     }
 }

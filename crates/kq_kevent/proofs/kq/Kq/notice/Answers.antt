@@ -26,7 +26,7 @@ returns-then-leave_active-clause-kq g c =
     ∙ sym c.in-Some.ensures.knote in
     let there = ap (λ key. find_knote key kq.knotes) (sym (find_knote-key c.args.key kq.knotes row here)) ∙ here in
     let left = c.if-leave_active.true in
-    left-noticed views hints kq row (subst (λ (v : OwnedKqueue). IsSound v.kq) c.self.view_is c.self.invariant.sound) there
+    left-noticed views hints kq row (subst (λ (v : OwnedKqueue). IsSound v.kq) c.self.view_is c.self.invariant) there
     (c.leave_active.ensures.active left) (c.leave_active.ensures.hints left)
     ∙ ap (λ o. noticed_at views hints o kq) (sym here)
 
