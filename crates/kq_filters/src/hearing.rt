@@ -1,4 +1,4 @@
-ghost use Rattle.std.specs.Prelude.{◌≡◌, true, false, if◌then◌else◌};
+ghost use Rattle.std.specs.Prelude.{◌≡◌, if◌then◌else◌};
 ghost use Rattle.kq_model.specs.Hearing.{listed};
 ghost use Rattle.kq_model.specs.Hints.{takes, kept, is_exit, added, after_hint, is_done};
 ghost use Rattle.kq_model.specs.Knote as model;
@@ -108,23 +108,4 @@ pub fn hear(knote: &mut Knote, hint: Hint) -> Heard
         × (result ≡ (if is_done hint m then Heard.Drop else Heard.Kept)) }
 {
     after(tell(knote, hint))
-}
-
-/// Whether a knote knows all that is kept of a hint.
-#[tactic(auto, unfolding(kq_model::specs::Hints::added))]
-fn knows(knote: &Knote, kept: Option<Hint>) -> bool
-    ensures { result ≡ true → added kept knote.now ≡ knote.now }
-{
-    match kept {
-        Some(hint) => knote.tally.knows(hint),
-        None => true,
-    }
-}
-
-/// Whether a hint for its target leaves a knote as it is: it is no exit, and the knote knows all that is kept of it.
-pub fn stays(knote: &Knote, hint: Hint) -> bool
-    ensures knote { result ≡ true → after_hint hint knote.now ≡ knote.now }
-    ensures done { result ≡ true → is_done hint knote.now ≡ false }
-{
-    !is_exit(knote.key.filter, hint) && knows(knote, kept(knote.fflags, hint))
 }

@@ -9,6 +9,6 @@ mod seen;
 mod told;
 
 pub use filter::{look, look_user, notice_or};
-pub use hearing::{Heard, hear, stays, takes};
+pub use hearing::{Heard, hear, takes};
 pub use nothing::NothingThere;
 pub use seen::Seen;

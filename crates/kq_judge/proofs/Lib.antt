@@ -1,3 +1,4 @@
+pub mod TableLaws
 pub mod OrderLaws
 pub mod PendingLaws
 pub mod FirstLaws

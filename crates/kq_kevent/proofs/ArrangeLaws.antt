@@ -1,23 +1,21 @@
 -- Another order of a queue: it has the same keys, those that are named first come first, and putting them in one after
 -- the other gives it.
-use Rattle.std.proofs.Common.{◌≡◌, ℕ, zero, suc, ◌+◌, ◌<◌, ◌≤◌, Bool, true, false, cond, not, ◌&&◌, ◌||◌, List, [], ◌∷◌, ◌++◌, filter, length, take, drop, get_or, slice_get, Option, Some, append-nil, append_assoc, refl, sym, ap, ◌∙◌, subst}
-use Rattle.std.proofs.lemmas.Bool.{and_parts, or_left, or_right, true≢false}
+use Rattle.std.proofs.Common.{◌≡◌, ℕ, zero, suc, ◌+◌, ◌<◌, Bool, true, false, cond, not, ◌&&◌, ◌||◌, List, [], ◌∷◌, ◌++◌, filter, length, take, drop, get_or, slice_get, Some, append-nil, append_assoc, refl, sym, ap, ◌∙◌, subst}
+use Rattle.std.proofs.lemmas.Bool.{or_left, or_right, true≢false}
 use Rattle.std.proofs.lemmas.List.{drop_at, drop_more, take_at, take_more}
 use Rattle.std.proofs.lemmas.List.Sorted.{IsPermutation-refl, IsPermutation-cons, IsPermutation-to_front, IsPermutation-append_left, IsPermutation-trans}
 use Rattle.std.proofs.lemmas.Option.{none-some, same_Some}
 use Rattle.std.specs.Prelude.{IsPermutation}
 use Rattle.kq_model.specs.declared.key.Key.{Key}
-use Rattle.kq_model.specs.Knote.{key_eq, has_key, without_key, find_knote}
+use Rattle.kq_model.specs.Knote.{key_eq, has_key, without_key, find_knote, queued}
 use Rattle.kq_model.specs.Kqueue.{AreOnce, IsSound, is_waiting}
-use Rattle.kq_model.specs.Tallied.{Knote, Kqueue}
+use Rattle.kq_model.specs.Tallied.{Kqueue}
 use Rattle.kq_model.proofs.KeyLaws.{same_key, key_eq-refl, key_eq-sym, has_key-without_same, has_key-without_other}
 use Rattle.kq_model.proofs.KeyLists.{filter_true, filter_both, filter_agree_among, has_key-filter, and_false, without_key-absent, AreOnce-filter}
 use Rattle.kq_model.proofs.KnoteLaws.{by_test}
-use Rattle.kq_table.specs.Rows.{row_after}
+use Rattle.kq_table.specs.Rows.{key_behind}
 use Rattle.kq_kevent.specs.Arranged.{key_after, named_in, without_keys, arranged, AreAllIn, all_queued}
-use Rattle.kq_knote.proofs.CountLaws.{length-keys}
-use Rattle.kq_kevent.proofs.QueueLaws.{AreOnce-without, has_key-push_same, has_key-push_other}
-use Rattle.kq_kevent.proofs.SoundLaws.{waiting-none}
+use Rattle.kq_kevent.proofs.QueueLaws.{AreOnce-queued, AreOnce-without, has_key-push_same, has_key-push_other}
 
 -- ---- one key more
 
@@ -113,6 +111,13 @@ AreOnce-arranged (k ∷ ks) q once =
     ))
     (λ _ absent. subst AreOnce (sym (arranged-absent k ks q absent)) (AreOnce-arranged ks q once)) refl
 
+pub IsSound-arranged : (kq : Kqueue) (ks : List Key) → IsSound kq → IsSound (record kq { queue = arranged ks kq.queue })
+IsSound-arranged kq ks sound = record {
+  own_keys = sound.own_keys;
+  once = AreOnce-arranged ks kq.queue sound.once;
+  waiting = λ key. has_key-arranged key ks kq.queue ∙ sound.waiting key;
+}
+
 -- ---- keys of the queue, of which none stands twice
 
 key_here : (k : Key) (ks : List Key) → has_key k (k ∷ ks) ≡ true
@@ -149,22 +154,28 @@ module _ (waits : Key → Bool) where
   abbrev put_if_absent : Key → List Key → Bool → List Key
   put_if_absent k q b = cond b q (q ++ k ∷ [])
 
-  pub queue-passes : (k : Key) (ks q : List Key) → waits k ≡ false
-      → all_queued (filter waits (k ∷ ks)) q ≡ all_queued (filter waits ks) q
-  queue-passes k ks q idle = ap (λ b. all_queued (waiting_of k ks b) q) idle
-
-  pub queue-has : (k : Key) (ks q : List Key) → has_key k q ≡ true
-      → all_queued (filter waits (k ∷ ks)) q ≡ all_queued (filter waits ks) q
+  -- the first of them is put in, where it waits
+  pub queue-first : (k : Key) (ks q : List Key)
+      → all_queued (filter waits (k ∷ ks)) q ≡ all_queued (filter waits ks) (cond (waits k) (queued k q) q)
   unfolding all_queued
+  queue-first k ks q =
+      by_test (λ b. all_queued (waiting_of k ks b) q ≡ all_queued (filter waits ks) (cond b (queued k q) q)) (waits k)
+      (λ _. refl) (λ _. refl)
+
+  queue-passes : (k : Key) (ks q : List Key) → waits k ≡ false
+      → all_queued (filter waits (k ∷ ks)) q ≡ all_queued (filter waits ks) q
+  queue-passes k ks q idle = queue-first k ks q ∙ ap (λ b. all_queued (filter waits ks) (cond b (queued k q) q)) idle
+
+  queue-has : (k : Key) (ks q : List Key) → has_key k q ≡ true
+      → all_queued (filter waits (k ∷ ks)) q ≡ all_queued (filter waits ks) q
   queue-has k ks q there =
-      by_test (λ b. all_queued (waiting_of k ks b) q ≡ all_queued (filter waits ks) q) (waits k)
-      (λ _. ap (λ b. all_queued (filter waits ks) (put_if_absent k q b)) there) (λ _. refl)
+      queue-first k ks q ∙ ap (λ b. all_queued (filter waits ks) (cond (waits k) (put_if_absent k q b) q)) there
+      ∙ by_test (λ b. all_queued (filter waits ks) (cond b q q) ≡ all_queued (filter waits ks) q) (waits k) (λ _. refl) (λ _. refl)
 
-  pub queue-places : (k : Key) (ks q : List Key) → waits k ≡ true → has_key k q ≡ false
+  queue-places : (k : Key) (ks q : List Key) → waits k ≡ true → has_key k q ≡ false
       → all_queued (filter waits (k ∷ ks)) q ≡ all_queued (filter waits ks) (q ++ k ∷ [])
-  unfolding all_queued
   queue-places k ks q waiting absent =
-      ap (λ b. all_queued (waiting_of k ks b) q) waiting
+      queue-first k ks q ∙ ap (λ b. all_queued (filter waits ks) (cond b (queued k q) q)) waiting
       ∙ ap (λ b. all_queued (filter waits ks) (put_if_absent k q b)) absent
 
   pub queue-nil : (q : List Key) → all_queued [] q ≡ q
@@ -189,7 +200,7 @@ module _ (waits : Key → Bool) where
       and-false false = refl
 
   -- Where `left` are those that wait and are not in the queue, the ones of them that are named go behind it.
-  pub queued-named : (ks q left : List Key)
+  queued-named : (ks q left : List Key)
       → ((key : Key) → has_key key ks ≡ true → has_key key left ≡ waits key && not (has_key key q))
       → all_queued (filter waits ks) q ≡ q ++ named_in ks left
   unfolding named_in
@@ -218,14 +229,6 @@ module _ (waits : Key → Bool) where
 
 -- ---- a walk over the queue
 
-module _ (same : Key → Key → Bool) (same_is : (a b : Key) → same a b ≡ key_eq a b) where
-  pub row_after-key : (key : Key) (keys : List Key) → row_after same (λ (k : Key). k) key keys ≡ key_after key keys
-  unfolding row_after key_after
-  row_after-key key [] = refl
-  row_after-key key (x ∷ keys) =
-      ap (λ b. cond b (slice_get keys 0) (row_after same (λ (k : Key). k) key keys)) (same_is key x)
-      ∙ ap (λ (o : Option Key). cond (key_eq key x) (slice_get keys 0) o) (row_after-key key keys)
-
 has_key-at : (q : List Key) (i : ℕ) (key : Key) → slice_get q i ≡ Some key → has_key key q ≡ true
 has_key-at [] i key is = absurd (none-some key is)
 has_key-at (x ∷ q) zero key is =
@@ -235,7 +238,7 @@ has_key-at (x ∷ q) (suc i) key is = key_later key x q (has_key-at q i key is)
 -- behind the key of a place comes that of the next place
 pub key_after-next : (q : List Key) (i : ℕ) (key : Key) → AreOnce q → slice_get q i ≡ Some key
     → key_after key q ≡ slice_get q (suc i)
-unfolding key_after
+unfolding key_behind
 key_after-next [] i key once is = absurd (none-some key is)
 key_after-next (x ∷ q) zero key once is =
     subst (λ (o : Key). cond (key_eq o x) (slice_get q 0) (key_after o q) ≡ slice_get q 0) (same_Some x key is)
@@ -246,23 +249,6 @@ key_after-next (x ∷ q) (suc i) key once is =
     ∙ key_after-next q i key once.1 is
 
 -- ---- keys of knotes that wait
-
--- the keys of knotes that wait, of which one comes to the others
-module _ (ks : List Knote) (k : Key) (q : List Key)
-    (waits : is_waiting (find_knote k ks) ≡ true)
-    (waiting : (key : Key) → has_key key q ≡ true → is_waiting (find_knote key ks) ≡ true) where
-  pub waiting-more : (key : Key) → has_key key (q ++ k ∷ []) ≡ true → is_waiting (find_knote key ks) ≡ true
-  waiting-more key there =
-      by_test (λ b. key_eq k key ≡ b → is_waiting (find_knote key ks) ≡ true) (key_eq k key)
-      (λ _ same. subst (λ (o : Key). is_waiting (find_knote o ks) ≡ true) (same_key k key same) waits)
-      (λ _ apart. waiting key (sym (has_key-push_other key k q apart) ∙ there)) refl
-
--- no more of them than there are knotes
-pub waiting-fits : (ks : List Knote) (q : List Key) → AreOnce q
-    → ((key : Key) → has_key key q ≡ true → is_waiting (find_knote key ks) ≡ true) → length q ≤ length ks
-waiting-fits ks q once waiting =
-    length-keys q ks once (λ key there none.
-    true≢false (sym (waiting key there) ∙ ap is_waiting none ∙ waiting-none))
 
 -- The keys that were taken out come back behind the others.
 pub placed-behind : (kq : Kqueue) → IsSound kq → (keys : List Key)
@@ -281,13 +267,11 @@ placed-behind kq sound keys =
     and_true true = refl
     and_true false = refl
 
--- those that were not taken out wait
-pub left-waiting : (kq : Kqueue) → IsSound kq → (keys : List Key) (key : Key)
-    → has_key key (without_keys keys kq.queue) ≡ true → is_waiting (find_knote key kq.knotes) ≡ true
-left-waiting kq sound keys key there =
-    let both = and_parts (has_key key kq.queue) (not (has_key key keys))
-    (sym (has_key-filter (λ o. not (has_key o keys)) key kq.queue) ∙ there) in
-    sym (sound.waiting key) ∙ both.0
+-- none of them stands twice
+pub AreOnce-all_queued : (ks q : List Key) → AreOnce q → AreOnce (all_queued ks q)
+unfolding all_queued
+AreOnce-all_queued [] q once = once
+AreOnce-all_queued (k ∷ ks) q once = AreOnce-all_queued ks (queued k q) (AreOnce-queued k q once)
 
 pub once-left : (keys q : List Key) → AreOnce q → AreOnce (without_keys keys q)
 once-left keys q once = AreOnce-filter (λ key. not (has_key key keys)) q once

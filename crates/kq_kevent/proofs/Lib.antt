@@ -1,6 +1,5 @@
 pub mod LookLaws
 pub mod QueueLaws
-pub mod TableLaws
 pub mod KnoteSteps
 pub mod SoundLaws
 pub mod RegisterLaws

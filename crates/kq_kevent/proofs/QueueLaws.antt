@@ -1,8 +1,9 @@
 -- The queue as a list of keys: what is in it, and that no key stands in it twice, after each change.
 use Rattle.std.proofs.Common.{◌≡◌, Bool, true, false, cond, not, ◌&&◌, ◌||◌, List, [], ◌∷◌, ◌++◌, refl, sym, ap, ◌∙◌, subst}
 use Rattle.std.proofs.lemmas.Bool.{or_parts}
+use Rattle.std.specs.Option.{is_some}
 use Rattle.kq_model.specs.declared.key.Key.{Key}
-use Rattle.kq_model.specs.Knote.{key_eq, has_key, without_key, queued}
+use Rattle.kq_model.specs.Knote.{key_eq, find_knote, has_key, without_key, queued}
 use Rattle.kq_model.specs.Kqueue.{AreOnce}
 use Rattle.kq_model.specs.Registration.{queue_for}
 use Rattle.kq_model.specs.Tallied.{Knote}
@@ -130,8 +131,20 @@ queue_for-there k q enabled there =
     ap (λ e. queue_by k q e k.active) enabled ∙ by_test (λ a. queue_by k q true a ≡ q) k.active
     (λ _. ap (put_if_absent k.key q) there) (λ _. refl)
 
+pub queue_for-active : (k : Knote) (q : List Key) → k.enabled ≡ true → k.active ≡ true → queue_for k q ≡ queued k.key q
+unfolding queue_for
+queue_for-active k q enabled active = ap (λ e. queue_by k q e k.active) enabled ∙ ap (queue_by k q true) active
+
 pub queue_for-comes : (k : Knote) (q : List Key) → k.enabled ≡ true → k.active ≡ true → has_key k.key q ≡ false
     → queue_for k q ≡ q ++ k.key ∷ []
-unfolding queue_for
-queue_for-comes k q enabled active absent =
-    ap (λ e. queue_by k q e k.active) enabled ∙ ap (queue_by k q true) active ∙ ap (put_if_absent k.key q) absent
+queue_for-comes k q enabled active absent = queue_for-active k q enabled active ∙ ap (put_if_absent k.key q) absent
+
+-- ---- what is put in
+
+-- the key of a knote that is there goes in
+pub put_in-there : (key : Key) (ks : List Knote) (q : List Key) → is_some (find_knote key ks) ≡ true
+    → cond (is_some (find_knote key ks)) (queued key q) q ≡ queued key q
+put_in-there key ks q there = ap (λ b. cond b (queued key q) q) there
+
+pub queued-absent : (key : Key) (q : List Key) → has_key key q ≡ false → queued key q ≡ q ++ key ∷ []
+queued-absent key q absent = ap (put_if_absent key q) absent

@@ -1,7 +1,6 @@
 -- The kqueue stays sound: keys differ, and the queue holds each active enabled knote once and nothing else.
-use Rattle.std.proofs.Common.{◌≡◌, cond, ◌+◌, ◌≤◌, false, ◌&&◌, ◌||◌, List, [], ◌∷◌, ◌++◌, length, Option, Some, None, refl, sym, ap, ◌∙◌, subst, arith}
+use Rattle.std.proofs.Common.{◌≡◌, cond, ◌≤◌, false, ◌&&◌, List, [], ◌∷◌, ◌++◌, length, Option, Some, None, refl, sym, ap, ◌∙◌, subst}
 use Rattle.std.proofs.lemmas.Bool.{true≢false, and_left}
-use Rattle.std.proofs.lemmas.Option.{none-some}
 use Rattle.std.specs.Option.{option_map}
 use Rattle.kq_model.specs.declared.change.Change.{Change}
 use Rattle.kq_model.specs.declared.key.Key.{Key}
@@ -12,9 +11,8 @@ use Rattle.kq_model.specs.Kqueue.{AreOnce, HaveOwnKeys, is_waiting, IsSound, emp
 use Rattle.kq_model.specs.Registration.{queue_for, is_restart, with_made, with_removed, with_modified}
 use Rattle.kq_model.specs.Tallied.{Knote, Kqueue}
 use Rattle.kq_model.proofs.KeyLaws.{same_key, key_eq-refl, key_eq-sym, has_key-without_same, has_key-without_other}
-use Rattle.kq_model.proofs.KnoteLaws.{by_test, found_or, find_knote-none, find_knote-here, find_knote-later, find_knote-append, find_knote-with_same, find_knote-with_other, find_knote-without_same, find_knote-without_other, HaveOwnKeys-append, HaveOwnKeys-with, HaveOwnKeys-without, without_knote-absent}
-use Rattle.kq_kevent.proofs.QueueLaws.{has_key-queue_for_same, has_key-queue_for_other, AreOnce-queue_for, AreOnce-without, without_key-absent}
-use Rattle.kq_kevent.proofs.RegisterLaws.{same_kqueue}
+use Rattle.kq_model.proofs.KnoteLaws.{by_test, found_or, find_knote-none, find_knote-here, find_knote-later, find_knote-append, find_knote-with_same, find_knote-with_other, find_knote-without_same, find_knote-without_other, HaveOwnKeys-append, HaveOwnKeys-with, HaveOwnKeys-without}
+use Rattle.kq_kevent.proofs.QueueLaws.{has_key-queue_for_same, has_key-queue_for_other, AreOnce-queue_for, AreOnce-without}
 use Rattle.kq_knote.proofs.CountLaws.{length-keys}
 
 pub waiting-none : is_waiting {h = tallying} None ≡ false
@@ -37,12 +35,6 @@ pub IsSound-absent : (kq : Kqueue) → IsSound kq → (key : Key) → find_knote
     → has_key key kq.queue ≡ false
 IsSound-absent kq sound key absent = sound.waiting key ∙ ap is_waiting absent ∙ waiting-none
 
--- so taking one out that is not there changes nothing
-pub removed-absent : (kq : Kqueue) → IsSound kq → (key : Key) → find_knote key kq.knotes ≡ None → kq ≡ with_removed key kq
-removed-absent kq sound key absent =
-    sym (same_kqueue (without_knote key kq.knotes) (without_key key kq.queue) kq (without_knote-absent key kq.knotes absent)
-    (without_key-absent key kq.queue (IsSound-absent kq sound key absent)))
-
 -- that of a knote is there exactly where the knote is active and enabled
 pub waiting-present : (kq : Kqueue) → IsSound kq → (key : Key) (k : Knote) → find_knote key kq.knotes ≡ Some k
     → has_key key kq.queue ≡ is_waiting (Some k)
@@ -54,19 +46,15 @@ length-queue kq sound =
     length-keys kq.queue kq.knotes sound.once
     (λ key there none. true≢false (sym there ∙ IsSound-absent kq sound key none))
 
--- and less, where some knote is not in it
-pub length-queue_besides : (kq : Kqueue) → IsSound kq → (key : Key) (k : Knote) → find_knote key kq.knotes ≡ Some k
-    → has_key key kq.queue ≡ false → length kq.queue + 1 ≤ length kq.knotes
-length-queue_besides kq sound key k there idle =
-    omega (
-      arith,
-      length-keys (key ∷ kq.queue) kq.knotes (idle, sound.once) (λ other here none.
-          by_test (λ b. key_eq other key ≡ b → ⊥) (key_eq other key)
-          (λ _ same. none-some k
-          (sym (subst (λ (o : Key). find_knote o kq.knotes ≡ None) (same_key other key same) none) ∙ there))
-          (λ _ apart. true≢false (sym (sym (ap (λ b. b || has_key other kq.queue) apart) ∙ here)
-          ∙ IsSound-absent kq sound other none)) refl),
-    )
+-- a knote that came is there
+pub found-made : (k : Knote) (ks : List Knote) → find_knote k.key ks ≡ None → find_knote k.key (ks ++ k ∷ []) ≡ Some k
+found-made k ks absent =
+    find_knote-append k.key ks (k ∷ []) ∙ ap (λ f. found_or f (find_knote k.key (k ∷ []))) absent
+    ∙ find_knote-here k.key k [] (key_eq-refl k.key)
+
+-- and so is one that took the place of another
+pub found-put : (k before : Knote) (ks : List Knote) → find_knote k.key ks ≡ Some before → find_knote k.key (with_knote k ks) ≡ Some k
+found-put k before ks there = find_knote-with_same k ks ∙ ap (option_map (λ _. k)) there
 
 -- a knote comes, or takes the place of the one of its key, and its key goes where it belongs
 IsSound-put : (kq : Kqueue) (ks : List Knote) (q : List Key) (k : Knote) → IsSound kq → HaveOwnKeys ks
@@ -92,8 +80,7 @@ pub IsSound-made : (kq : Kqueue) (k : Knote) → IsSound kq → find_knote k.key
 IsSound-made kq k sound absent =
     IsSound-put kq (kq.knotes ++ k ∷ []) kq.queue k sound
     (HaveOwnKeys-append kq.knotes k sound.own_keys absent)
-    (find_knote-append k.key kq.knotes (k ∷ []) ∙ ap (λ f. found_or f (find_knote k.key (k ∷ []))) absent
-    ∙ find_knote-here k.key k [] (key_eq-refl k.key))
+    (found-made k kq.knotes absent)
     (λ key apart. find_knote-append key kq.knotes (k ∷ []) ∙ or_nothing (find_knote key kq.knotes) _
     (find_knote-later key k [] (key_eq-sym key k.key ∙ apart) ∙ find_knote-none tallying key))
     sound.once (λ _ _. refl) (λ _. IsSound-absent kq sound k.key absent)
@@ -125,7 +112,7 @@ IsSound-modified kq c k before sound of_key there stays =
     own = HaveOwnKeys-with k kq.knotes sound.own_keys
 
     here : find_knote k.key (with_knote k kq.knotes) ≡ Some k
-    here = find_knote-with_same k kq.knotes ∙ ap (option_map (λ _. k)) there
+    here = found-put k before kq.knotes there
 
     others : (key : Key) → key_eq k.key key ≡ false → find_knote key (with_knote k kq.knotes)
         ≡ find_knote key kq.knotes
@@ -137,7 +124,7 @@ pub IsSound-put_back : (kq : Kqueue) (k before : Knote) → IsSound kq → find_
     → IsSound (record { knotes = with_knote k kq.knotes; queue = queue_for k kq.queue })
 IsSound-put_back kq k before sound there stays =
     IsSound-put kq (with_knote k kq.knotes) kq.queue k sound (HaveOwnKeys-with k kq.knotes sound.own_keys)
-    (find_knote-with_same k kq.knotes ∙ ap (option_map (λ _. k)) there)
+    (found-put k before kq.knotes there)
     (λ key apart. find_knote-with_other key k kq.knotes apart) sound.once (λ _ _. refl)
     (λ idle. sound.waiting k.key ∙ ap is_waiting there ∙ waiting-some before ∙ and_left before.active before.enabled
     (stays idle))

@@ -1,5 +1,5 @@
 -- A knote that the code tells the hints of a record hears those that are for it.
-use Rattle.std.proofs.Common.{◌≡◌, Bool, true, false, cond, ◌&&◌, ◌||◌, List, [], ◌∷◌, map, filter, Option, Some, None, refl, sym, ap, ap₂, ◌∙◌, subst}
+use Rattle.std.proofs.Common.{◌≡◌, Bool, true, false, cond, ◌&&◌, ◌||◌, List, [], ◌∷◌, map, filter, Option, Some, None, refl, sym, ap, ap₂, ◌∙◌}
 use Rattle.std.proofs.lemmas.Bool.{true≢false}
 use Rattle.kq_model.specs.declared.filter.Filter.{Filter}
 use Rattle.kq_model.specs.declared.object.Hint.{Hint}
@@ -8,7 +8,6 @@ use Rattle.kq_model.specs.declared.object.Target.{Target}
 use Rattle.kq_model.specs.ChangedKnote.{activated}
 use Rattle.kq_model.specs.Hints.{takes, kept, added, after_hint, is_done, hints_for}
 use Rattle.kq_model.specs.Knote.{has_nothing, find_knote, with_knote}
-use Rattle.kq_model.specs.Kqueue.{IsSound}
 use Rattle.kq_model.specs.Look.{Seen, look}
 use Rattle.kq_model.specs.Noticing.{is_for, heard_along, is_done_along, left_by, with_noticed, noticed_in}
 use Rattle.kq_model.specs.Registration.{queue_for, with_removed}
@@ -16,12 +15,10 @@ use Rattle.kq_model.specs.Tallied.{Knote, Kqueue}
 use Rattle.kq_model.specs.Targets.{Posted, is_target}
 use Rattle.kq_model.specs.Views.{Views}
 use Rattle.kq_model.proofs.HeardAlong.{after_hint-key, after_hint-target, heard_along-key, heard_along-target, activated-key, activated-target, noticed-told, tally-hears}
-use Rattle.kq_model.proofs.KnoteLaws.{by_test, find_knote-key, with_knote-own}
+use Rattle.kq_model.proofs.KnoteLaws.{by_test, find_knote-key}
 use Rattle.kq_kevent.specs.declared.notify.Telling.{Telling}
-use Rattle.kq_kevent.specs.Telling.{told_one, told_all, LeaveIt, StandsFor}
+use Rattle.kq_kevent.specs.Telling.{told_one, told_all, StandsFor}
 use Rattle.kq_kevent.proofs.KnoteSteps.{activated-active}
-use Rattle.kq_kevent.proofs.QueueLaws.{queue_for-disabled, queue_for-there, without_key-absent}
-use Rattle.kq_kevent.proofs.SoundLaws.{waiting-present, waiting-some}
 use Rattle.kq_kevent.proofs.TurnLaws.{kqueue_of}
 
 or_false : (b : Bool) → b || false ≡ b
@@ -162,49 +159,3 @@ unfolding with_noticed
 leave-stays views done told next kq stays is =
     ap (λ (n : Knote). kqueue_of (with_knote n kq.knotes) (queue_for n kq.queue)) is
     ∙ ap (λ b. with_noticed told (cond b None (Some (activated (look views told) told))) kq) (sym stays)
-
--- ---- an active one that the hints leave as it is
-
-activated-same : (seen : Option Seen) (k : Knote) → k.active ≡ true → activated seen k ≡ k
-unfolding activated
-activated-same None k active = refl
-activated-same (Some seen) k active = ap (λ b. record k { active = b }) (sym active)
-
-queue-same : (kq : Kqueue) (k : Knote) → IsSound kq → find_knote k.key kq.knotes ≡ Some k → k.active ≡ true → queue_for k kq.queue ≡ kq.queue
-queue-same kq k sound there active =
-    let waits = waiting-present kq sound k.key k there ∙ waiting-some k ∙ ap (λ b. b && k.enabled) active in
-    by_test (λ b. k.enabled ≡ b → queue_for k kq.queue ≡ kq.queue) k.enabled
-    (λ _ enabled. queue_for-there k kq.queue enabled (waits ∙ enabled))
-    (λ _ disabled. queue_for-disabled k kq.queue disabled ∙ without_key-absent k.key kq.queue (waits ∙ disabled)) refl
-
-stays-noticed : (views : Views) (kq : Kqueue) (k : Knote) → IsSound kq → find_knote k.key kq.knotes ≡ Some k → k.active ≡ true
-    → with_noticed k (left_by views false k) kq ≡ kq
-unfolding with_noticed
-stays-noticed views kq k sound there active =
-    ap (λ (n : Knote). with_noticed k (Some n) kq) (activated-same (look views k) k active)
-    ∙ ap₂ kqueue_of (with_knote-own k kq.knotes sound.own_keys there) (queue-same kq k sound there active)
-
--- it was told some that left it so
-abbrev IsLeft : Knote → Telling → Type 0
-IsLeft k t = (t.knote ≡ k) × (t.done ≡ false)
-
-told-left : (posted : List Posted) (k : Knote) (a : Bool) → LeaveIt k posted → IsLeft k (told_all posted (telling k a false))
-unfolding told_all told_one
-told-left [] k a all = (refl, refl)
-told-left (p ∷ posted) k a all =
-    by_test (λ b. is_for k p ≡ b → IsLeft k (told_all posted (cond b (telling (after_hint p.1 k) true (is_done p.1 k)) (telling k a false)))) (is_for k p)
-    (λ _ is. let same = all.0 is in
-    subst (λ (t : Telling). IsLeft k (told_all posted t)) (sym (ap₂ (λ n d. telling n true d) same.0 same.1)) (told-left posted k true all.1))
-    (λ _ _. told-left posted k a all.1) refl
-
-pub left-noticed : (views : Views) (posted : List Posted) (kq : Kqueue) (k : Knote) → IsSound kq → find_knote k.key kq.knotes ≡ Some k → k.active ≡ true
-    → LeaveIt k posted → kq ≡ noticed_in views (hints_for k posted) k kq
-left-noticed views posted kq k sound there active all =
-    let t = told_all posted (telling k false false) in
-    let left = told-left posted k false all in
-    by_test (λ b. t.any ≡ b → kq ≡ noticed_in views (hints_for k posted) k kq) t.any
-    (λ _ any.
-    sym (stays-noticed views kq k sound there active)
-    ∙ ap₂ (λ (n : Knote) d. with_noticed n (left_by views d n) kq) (sym left.0) (sym left.1)
-    ∙ told-noticed views posted kq k t refl any)
-    (λ _ none. untold-noticed views posted kq k t refl none) refl

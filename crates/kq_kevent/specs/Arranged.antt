@@ -1,12 +1,12 @@
 -- The order of a queue, and another order of it: some of its keys first, the others behind them as they stood.
-use Rattle.std.specs.Prelude.{◌≡◌, true, not, List, [], ◌∷◌, ◌++◌, filter, Option, None, slice_get, if◌then◌else◌}
+use Rattle.std.specs.Prelude.{◌≡◌, true, not, List, [], ◌∷◌, ◌++◌, filter, Option, if◌then◌else◌}
 use Rattle.kq_model.specs.declared.key.Key.{Key}
 use Rattle.kq_model.specs.Knote.{key_eq, has_key, without_key, queued}
+use Rattle.kq_table.specs.Rows.{key_behind}
 
 -- the key behind this one; none where this is the last, or not there
-unfoldable pub key_after : Key → List Key → Option Key
-key_after key [] = None
-key_after key (other ∷ queue) = if key_eq key other then slice_get queue 0 else key_after key queue
+abbrev pub key_after : Key → List Key → Option Key
+key_after key queue = key_behind key_eq key queue
 
 -- Those of the keys that are in the queue, each once, in the order in which they are first named.
 unfoldable pub named_in : List Key → List Key → List Key

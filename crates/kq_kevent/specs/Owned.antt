@@ -1,24 +1,17 @@
 -- What contracts see of a kqueue of the code.
 use Rattle.std.specs.Prelude.{◌≡◌, ℕ, ℤ, unsigned_abs, ◌+◌, ◌≤◌, List, length}
-use Rattle.kq_model.specs.declared.key.Key.{Key}
 use Rattle.kq_model.specs.Call.{number_of}
 use Rattle.kq_model.specs.Caller.{Caller}
 use Rattle.kq_model.specs.Clock.{Span}
 use Rattle.kq_model.specs.Following.{followed}
 use Rattle.kq_model.specs.Hearing.{listed}
 use Rattle.kq_model.specs.Hints.{notified}
-use Rattle.kq_model.specs.Kqueue.{IsSound}
 use Rattle.kq_model.specs.Recast.{tallied}
 use Rattle.kq_model.specs.Registration.{Registered}
-use Rattle.kq_model.specs.Tallied.{Knote, Kqueue}
+use Rattle.kq_model.specs.Tallied.{Kqueue}
 use Rattle.kq_model.specs.Targets.{Posted}
 use Rattle.kq_model.specs.Views.{Views}
 use Rattle.kq_knote.specs.Reserved.{Reserved}
-
--- the queue alone, with how many keys it can hold
-pub record Keys : Type 0 where
-  pub keys : List Key
-  pub capacity : ℕ
 
 -- a kqueue with the process that owns it and the room reserved in it
 pub record OwnedKqueue : Type 0 where
@@ -31,8 +24,8 @@ pub record OwnedKqueue : Type 0 where
   pub room : ℕ
 
 -- the knotes with their queue
-abbrev pub kqueue_of : List Knote → List Key → Kqueue
-kqueue_of knotes queue = record { knotes = knotes; queue = queue }
+abbrev pub kqueue_in : Reserved → Kqueue
+kqueue_in knotes = record { knotes = knotes.knotes; queue = knotes.queue }
 
 -- the owner as it calls, where it sees this of the world
 abbrev pub caller : Views → OwnedKqueue → Caller
@@ -53,8 +46,3 @@ limit kq = length kq.kq.knotes + kq.room
 -- there is room for the knotes of children that are followed
 abbrev pub HasRoomToFollow : Views → List Posted → OwnedKqueue → Type 0
 HasRoomToFollow views hints kq = length (followed kq.version hints (notified views hints kq.kq)).knotes ≤ limit kq
-
--- The kqueue is sound, and its queue can hold the key of each knote that fits.
-pub record IsLawful (knotes : Reserved) (queue : Keys) : Type 0 where
-  pub sound : IsSound (record { knotes = knotes.knotes; queue = queue.keys })
-  pub capacity : length knotes.knotes + knotes.room ≤ queue.capacity

@@ -18,14 +18,6 @@ unfoldable pub told_all : List Posted → Telling → Telling
 told_all [] t = t
 told_all (p ∷ posted) t = told_all posted (told_one p t)
 
--- where the hint is for the knote, it leaves it as it is
-abbrev pub LeavesIt : Knote → Posted → Type 0
-LeavesIt k p = is_for k p ≡ true → (after_hint p.1 k ≡ k) × (is_done p.1 k ≡ false)
-
-abbrev pub LeaveIt : Knote → List Posted → Type 0
-LeaveIt k [] = Unit {0}
-LeaveIt k (p ∷ posted) = LeavesIt k p × LeaveIt k posted
-
 -- The knote is this one of them after something was made of it: it watches what it watched, and is active if it was.
 pub record StandsFor (before knote : Knote) (knotes : List Knote) : Type 0 where
   pub there : find_knote knote.key knotes ≡ Some before

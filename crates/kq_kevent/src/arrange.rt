@@ -1,73 +1,72 @@
 // The order of the queue: a look at it, and another order of it.
-ghost use Rattle.std.specs.Prelude.{◌≡◌, ◌<◌, ◌≤◌, ◌++◌, [], true, length, drop, take, filter, slice_get, IfOk};
-ghost use Rattle.std.specs.Prelude.{IsPermutation};
-ghost use Rattle.kq_model.specs.declared.key.Key.{Key};
+ghost use Rattle.std.specs.Prelude.{◌≡◌, ◌≤◌, ◌++◌, [], length, drop, take, filter, slice_get, IfOk, IsPermutation};
+ghost use Rattle.std.specs.Prelude.{if◌then◌else◌};
 ghost use Rattle.kq_model.specs.Hearing.{listed};
-ghost use Rattle.kq_model.specs.Knote.{find_knote, has_key};
+ghost use Rattle.kq_model.specs.Knote.{find_knote, queued};
 ghost use Rattle.kq_model.specs.Kqueue.{AreOnce, Kqueue, is_waiting};
 ghost use Rattle.kq_model.specs.Recast.{tallied};
 ghost use Rattle.kq_kevent.specs.Arranged.{AreAllIn, all_queued, arranged, key_after, without_keys};
 
 use crate::Kq;
-use crate::queue::Queue;
+use crate::retrieve::put_last;
 use kq_knote::Knotes;
 use kq_model::{Key, Memory};
+use kq_table::Place;
 
-impl Queue {
-    /// Takes these keys out, where they are there.
-    fn take_all_out(&mut self, keys: &[Key])
-        ensures keys { self.new.keys ≡ without_keys keys.now self.old.keys }
-        ensures capacity { self.new.capacity ≡ self.old.capacity }
-    {
-        for key in keys {
-            self.take_out(*key);
-        }
-    }
-
-    /// Puts so many keys from the front behind the others.
-    fn turn_round(&mut self, turns: usize)
-        requires once { AreOnce self.old.keys }
-        requires fits { length self.old.keys ≤ self.old.capacity }
-        requires turns { turns ≤ length self.old.keys }
-        ensures keys { self.new.keys ≡ drop turns self.old.keys ++ take turns self.old.keys }
-        ensures capacity { self.new.capacity ≡ self.old.capacity }
-    {
-        for _turn in 0..turns {
-            let Some(key) = self.take_front() else {
-                unreachable!();
-            };
-            self.put_in(key);
-        }
+/// Takes these keys out of the queue, where they are there.
+fn take_all_out(knotes: &mut Knotes, keys: &[Key])
+    ensures queue { knotes.new.queue ≡ without_keys keys.now knotes.old.queue }
+    ensures knotes { knotes.new.knotes ≡ knotes.old.knotes }
+    ensures room { knotes.new.room ≡ knotes.old.room }
+{
+    for key in keys {
+        knotes.take_out_at(Place::nowhere(), *key);
     }
 }
 
-/// Whether the knote of a key waits to be returned.
+/// Puts the key of a knote that waits to be returned into the queue, at the back, where it is not there.
 #[tactic(auto, unfolding(kq_model::specs::Kqueue::is_waiting))]
-fn waits(knotes: &Knotes, key: Key) -> bool
-    ensures { result ≡ is_waiting (find_knote key knotes.now.knotes) }
+fn put_waiting(knotes: &mut Knotes, key: Key)
+    ensures queue { knotes.new.queue ≡ (if is_waiting (find_knote key knotes.old.knotes)
+        then queued key knotes.old.queue
+        else knotes.old.queue) }
+    ensures knotes { knotes.new.knotes ≡ knotes.old.knotes }
+    ensures room { knotes.new.room ≡ knotes.old.room }
 {
-    match knotes.get(key) {
-        None => false,
-        Some(knote) => knote.active && knote.enabled,
+    let Some(found) = knotes.locate(key) else {
+        return;
+    };
+    if found.row.is_waiting() {
+        knotes.put_in_at(found.place, key);
     }
 }
 
 /// Puts the keys of knotes that wait into the queue, at the back, where they are not there yet.
-fn put_waiting_in(knotes: &Knotes, queue: &mut Queue, keys: &[Key])
-    requires once { AreOnce queue.old.keys }
-    requires waiting { (key : Key) → has_key key queue.old.keys ≡ true
-        → is_waiting (find_knote key knotes.now.knotes) ≡ true }
-    requires fits { length knotes.now.knotes ≤ queue.old.capacity }
-    ensures keys { queue.new.keys
-        ≡ all_queued (filter (λ key. is_waiting (find_knote key knotes.now.knotes)) keys.now) queue.old.keys }
-    ensures once { AreOnce queue.new.keys }
-    ensures fits { length queue.new.keys ≤ length knotes.now.knotes }
-    ensures capacity { queue.new.capacity ≡ queue.old.capacity }
+fn put_waiting_in(knotes: &mut Knotes, keys: &[Key])
+    ensures queue { knotes.new.queue
+        ≡ all_queued (filter (λ key. is_waiting (find_knote key knotes.old.knotes)) keys.now) knotes.old.queue }
+    ensures knotes { knotes.new.knotes ≡ knotes.old.knotes }
+    ensures room { knotes.new.room ≡ knotes.old.room }
 {
     for key in keys {
-        if waits(knotes, *key) && !queue.has(*key) {
-            queue.put_in(*key);
-        }
+        put_waiting(knotes, *key);
+    }
+}
+
+/// Puts so many keys from the front of the queue behind the others.
+fn turn_round(knotes: &mut Knotes, turns: usize)
+    requires once { AreOnce knotes.old.queue }
+    requires turns { turns ≤ length knotes.old.queue }
+    ensures queue { knotes.new.queue ≡ drop turns knotes.old.queue ++ take turns knotes.old.queue }
+    ensures knotes { knotes.new.knotes ≡ knotes.old.knotes }
+    ensures room { knotes.new.room ≡ knotes.old.room }
+{
+    for _turn in 0..turns {
+        let Some(front) = knotes.take_front() else {
+            unreachable!();
+        };
+        let knote = front.row;
+        put_last(knotes, front.place, knote.key);
     }
 }
 
@@ -93,25 +92,24 @@ impl Kq {
         ensures version { self.new.version ≡ self.old.version }
         ensures room { self.new.room ≡ self.old.room }
     {
-        self.queue.take_all_out(keys);
-        let others = self.queue.len();
-        put_waiting_in(&self.knotes, &mut self.queue, keys);
-        self.queue.turn_round(others);
+        take_all_out(&mut self.knotes, keys);
+        let others = self.knotes.queue_len();
+        put_waiting_in(&mut self.knotes, keys);
+        turn_round(&mut self.knotes, others);
     }
 
     /// The key that is at the front of the queue, whose knote a retrieval looks at first.
     pub fn first_waiting(&self) -> Option<Key>
         ensures { result ≡ slice_get self.now.kq.queue 0 }
     {
-        self.queue.first()
+        self.knotes.front()
     }
 
-    /// The key that stands behind this one in the queue; none where this is the last, or not there. A walk
-    /// over the whole queue takes time in proportion to its room.
+    /// The key that stands behind this one in the queue; none where this is the last, or not there.
     pub fn waiting_after(&self, key: Key) -> Option<Key>
         ensures { result ≡ key_after key self.now.kq.queue }
     {
-        self.queue.next_after(key)
+        self.knotes.behind(key)
     }
 
     /// The keys of the queue, in the order in which a retrieval looks at their knotes: of each knote that is
@@ -119,15 +117,15 @@ impl Kq {
     pub fn waiting(&self) -> Result<Vec<Key>, Memory>
         ensures { IfOk result (λ keys. keys.items ≡ self.now.kq.queue) }
     {
-        let waiting = self.queue.len();
-        let mut keys = Vec::with_capacity(self.queue.allocator(), waiting).map_err(|_| Memory)?;
-        let mut next = self.queue.first();
+        let waiting = self.knotes.queue_len();
+        let mut keys = Vec::with_capacity(self.knotes.allocator(), waiting).map_err(|_| Memory)?;
+        let mut next = self.knotes.front();
         for _turn in 0..waiting {
             let Some(key) = next else {
                 unreachable!();
             };
             keys.push_reserved(key);
-            next = self.queue.next_after(key);
+            next = self.knotes.behind(key);
         }
         Ok(keys)
     }

@@ -26,20 +26,6 @@ pub fn reads_pending(placed: &[Kevent]) -> bool
     placed.is_empty()
 }
 
-/// How many changes may make a knote that watches what others may watch too: a timer and a user
-/// event are their own.
-pub fn shared_in(changes: &[Change]) -> usize
-    ensures { result ≤ length changes.now }
-{
-    let mut shared = 0;
-    for change in changes {
-        if !matches!(change.filter, Filter::Timer | Filter::User) {
-            shared += 1;
-        }
-    }
-    shared
-}
-
 /// How many changes may make a timer.
 pub fn timers_in(changes: &[Change]) -> usize
     ensures { result ≤ length changes.now }
@@ -93,10 +79,10 @@ impl Kq {
         ensures ok { length changes.now ≤ self.old.room
             → min room (length self.old.kq.queue + length changes.now) ≡ 0 → IsOk result }
     {
-        self.reserve_for(changes.len(), shared_in(changes), timers_in(changes))?;
+        self.reserve_for(changes.len(), timers_in(changes))?;
         let room = room as usize;
-        let most = room.min(self.queue.len().saturating_add(changes.len()));
-        let mut events = Vec::with_capacity(self.queue.allocator(), most).map_err(|_| Memory)?;
+        let most = room.min(self.knotes.queue_len().saturating_add(changes.len()));
+        let mut events = Vec::with_capacity(self.knotes.allocator(), most).map_err(|_| Memory)?;
         match self.process(changes, room, &mut events, views) {
             Ending::Ended(Some(error)) => Ok(Reply::Failed(error)),
             Ending::Ended(None) => Ok(answer(events)),

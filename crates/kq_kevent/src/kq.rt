@@ -1,7 +1,6 @@
 ghost use Rattle.std.specs.Prelude.{◌≡◌, ◌<◌, OnOk, OnErr, max};
 ghost use Rattle.kq_model.specs.Kqueue.{HaveOwnKeys, IsSound, empty_kqueue};
 
-use crate::queue::Queue;
 use kq_knote::Knotes;
 use kq_model::Memory;
 use std::alloc::Global;
@@ -14,22 +13,22 @@ pub struct Kq {
     pub(crate) owner: u32,
     pub(crate) version: u32,
     pub(crate) knotes: Knotes,
-    pub(crate) queue: Queue,
 }
 
 impl Model for Kq {
-    ghost use Rattle.kq_kevent.specs.Owned.{OwnedKqueue, IsLawful};
+    ghost use Rattle.kq_model.specs.Kqueue.{IsSound};
+    ghost use Rattle.kq_kevent.specs.Owned.{OwnedKqueue, kqueue_in};
 
     ghost Value = { OwnedKqueue };
 
     ghost view = { λ k. record {
-      kq = record { knotes = k.knotes.knotes; queue = k.queue.keys };
+      kq = kqueue_in k.knotes;
       owner = k.owner;
       version = k.version;
       room = k.knotes.room;
     } };
 
-    ghost invariant = { λ k. IsLawful k.knotes k.queue };
+    ghost invariant = { λ k. IsSound (kqueue_in k.knotes) };
 }
 
 impl Kq {
@@ -55,7 +54,6 @@ impl Kq {
             owner,
             version,
             knotes: Knotes::new(alloc),
-            queue: Queue::new(alloc),
         }
     }
 
@@ -83,8 +81,7 @@ impl Kq {
         self.knotes.room()
     }
 
-    /// Makes the room at least `changes`, for so many knotes and for their keys in the queue;
-    /// changes nothing else. After `Memory` nothing has changed.
+    /// Makes the room at least `changes`; changes nothing else. After `Memory` nothing has changed.
     pub fn reserve(&mut self, changes: usize) -> Result<(), Memory>
         ensures kq { self.new.kq ≡ self.old.kq }
         ensures owner { self.new.owner ≡ self.old.owner }
@@ -95,18 +92,12 @@ impl Kq {
         // Memory comes only where the room was missing.
         ensures missing { OnErr result (self.old.room < changes) }
     {
-        // Each of them may watch what others may watch too.
-        self.reserve_for(changes, changes, 0)
+        self.reserve_for(changes, 0)
     }
 
-    /// Makes the room at least `changes`, of which so many may watch what others may watch too, and so
-    /// many may be timers. For these alone the index by target and the alarms take memory.
-    pub(crate) fn reserve_for(
-        &mut self,
-        changes: usize,
-        shared: usize,
-        timers: usize,
-    ) -> Result<(), Memory>
+    /// Makes the room at least `changes`, of which so many may be timers. For these alone the alarms take
+    /// memory.
+    pub(crate) fn reserve_for(&mut self, changes: usize, timers: usize) -> Result<(), Memory>
         ensures kq { self.new.kq ≡ self.old.kq }
         ensures owner { self.new.owner ≡ self.old.owner }
         ensures version { self.new.version ≡ self.old.version }
@@ -114,14 +105,7 @@ impl Kq {
         ensures err { OnErr result (self.new.room ≡ self.old.room) }
         ensures missing { OnErr result (self.old.room < changes) }
     {
-        self.knotes.reserve_shared(shared);
         self.knotes.reserve_timers(timers);
-        if changes <= self.room() {
-            return Ok(());
-        }
-        let unqueued = self.knotes.len() - self.queue.len();
-        let more = unqueued.checked_add(changes).ok_or(Memory)?;
-        self.queue.reserve(more)?;
         self.knotes.reserve(changes)
     }
 }

@@ -1,10 +1,10 @@
-ghost use Rattle.std.specs.Prelude.{◌≡◌, ◌<◌, ◌≤◌, ◌+◌, [], None, Some, false, length, OnSome};
+ghost use Rattle.std.specs.Prelude.{◌≡◌, ◌<◌, ◌≤◌, ◌+◌, None, Some, true, is_some, OnSome};
 ghost use Rattle.kq_model.specs.Bits.{asks};
 ghost use Rattle.kq_model.specs.Call.{number_of};
 ghost use Rattle.kq_model.specs.ChangedKnote.{key_of, made, modified};
 ghost use Rattle.kq_model.specs.Hearing.{listed};
-ghost use Rattle.kq_model.specs.Knote.{find_knote, has_key};
-ghost use Rattle.kq_model.specs.Kqueue.{AreOnce, Kqueue};
+ghost use Rattle.kq_model.specs.Knote.{find_knote};
+ghost use Rattle.kq_model.specs.Kqueue.{Kqueue};
 ghost use Rattle.kq_model.specs.Recast.{tallied};
 ghost use Rattle.kq_model.specs.Registration.{register, queue_for, is_restart, with_made, with_removed};
 ghost use Rattle.kq_model.specs.Registration.{with_modified, without_restarted};
@@ -16,11 +16,10 @@ use crate::Kq;
 use crate::decide::Decision;
 use crate::look::attend;
 use crate::process::number_of;
-use crate::queue::Queue;
 use bitflags::Flags;
-use kq_knote::Knote;
+use kq_knote::{Knote, Knotes};
 use kq_model::{Change, Errno, EvFlags, Filter, Key, Views, target_of};
-use kq_table::Placed;
+use kq_table::{Place, Placed};
 
 /// Whether the flags have this one.
 pub(crate) fn asks(flags: EvFlags, flag: EvFlags) -> bool
@@ -37,40 +36,36 @@ fn is_restart(change: &Change) -> bool
     matches!(change.filter, Filter::Timer) && asks(change.flags, EvFlags::ADD)
 }
 
-impl Queue {
-    /// Keeps the key of a knote where it now belongs: out of the queue when disabled, and when it
-    /// is to be returned at the back, unless it waits already, which the caller knows.
-    #[tactic(auto, unfolding(kq_model::specs::Registration::queue_for))]
-    pub fn place(&mut self, knote: &Knote, waits: bool)
-        requires waits { has_key knote.now.key self.old.keys ≡ waits }
-        requires room { waits ≡ false → length self.old.keys < self.old.capacity }
-        ensures keys { self.new.keys ≡ queue_for knote.now self.old.keys }
-        ensures capacity { self.new.capacity ≡ self.old.capacity }
-    {
-        if !knote.enabled {
-            self.take_out_known(knote.key, waits);
-        } else if knote.active && !waits {
-            self.put_in(knote.key);
-        }
+/// Keeps the key of a knote, which stands at the place, where it now belongs: out of the queue when
+/// disabled, and when it is to be returned at the back, unless it waits already.
+#[tactic(auto, unfolding(kq_model::specs::Registration::queue_for))]
+pub(crate) fn place(knotes: &mut Knotes, at: Place, knote: &Knote)
+    requires { is_some (find_knote knote.now.key knotes.old.knotes) ≡ true }
+    ensures queue { knotes.new.queue ≡ queue_for knote.now knotes.old.queue }
+    ensures knotes { knotes.new.knotes ≡ knotes.old.knotes }
+    ensures room { knotes.new.room ≡ knotes.old.room }
+{
+    if !knote.enabled {
+        knotes.take_out_at(at, knote.key);
+    } else if knote.active {
+        knotes.put_in_at(at, knote.key);
     }
+}
 
-    /// Keeps the key of a knote that a change modified where it now belongs: that of a timer that
-    /// starts anew leaves the queue first.
-    pub fn renew(&mut self, change: &Change, knote: &Knote, waits: bool)
-        requires once { AreOnce self.old.keys }
-        requires fits { length self.old.keys ≤ self.old.capacity }
-        requires key { knote.now.key ≡ key_of change.now }
-        requires waits { has_key knote.now.key self.old.keys ≡ waits }
-        requires room { waits ≡ false → length self.old.keys < self.old.capacity }
-        ensures keys { self.new.keys ≡ queue_for knote.now (without_restarted change.now self.old.keys) }
-        ensures capacity { self.new.capacity ≡ self.old.capacity }
-    {
-        if is_restart(change) {
-            self.take_out_known(knote.key, waits);
-            self.place(knote, false);
-        } else {
-            self.place(knote, waits);
-        }
+/// Keeps the key of a knote that a change modified where it now belongs: that of a timer that starts anew
+/// leaves the queue first.
+fn renew(knotes: &mut Knotes, change: &Change, at: Place, knote: &Knote)
+    requires there { is_some (find_knote knote.now.key knotes.old.knotes) ≡ true }
+    requires key { knote.now.key ≡ key_of change.now }
+    ensures queue { knotes.new.queue ≡ queue_for knote.now (without_restarted change.now knotes.old.queue) }
+    ensures knotes { knotes.new.knotes ≡ knotes.old.knotes }
+    ensures room { knotes.new.room ≡ knotes.old.room }
+{
+    if is_restart(change) {
+        knotes.take_out_at(at, knote.key);
+        place(knotes, at, knote);
+    } else {
+        place(knotes, at, knote);
     }
 }
 
@@ -123,7 +118,7 @@ impl Kq {
         match self.decide(change, views) {
             Decision::Refuse(error) => Some(error),
             Decision::Remove(found) => {
-                self.unmake_at(change.key(), &found);
+                self.unmake_at(found.place, change.key());
                 None
             }
             Decision::Make => {
@@ -150,8 +145,7 @@ impl Kq {
         let moment = clock_of(views);
         let mut knote = Knote::first(change, target, self.version, moment);
         attend(views, &mut knote);
-        self.knotes.attach(knote);
-        self.queue.place(&knote, false);
+        self.take_in(knote);
     }
 
     /// Takes in a knote of a new key, behind the others, and its key where it belongs.
@@ -161,13 +155,14 @@ impl Kq {
         ensures kq { self.new.kq ≡ with_made knote self.old.kq }
         ensures owner { self.new.owner ≡ self.old.owner }
         ensures version { self.new.version ≡ self.old.version }
+        ensures room { self.new.room + 1 ≡ self.old.room }
         ensures limit { limit self.new ≡ limit self.old }
     {
-        self.knotes.attach(knote);
-        self.queue.place(&knote, false);
+        let at = self.knotes.attach(knote);
+        place(&mut self.knotes, at, &knote);
     }
 
-    /// Takes out the knote of a key.
+    /// Takes out the knote of a key, where there is one, and its key from the queue.
     pub(crate) fn unmake(&mut self, key: Key)
         ensures kq { self.new.kq ≡ with_removed key self.old.kq }
         ensures owner { self.new.owner ≡ self.old.owner }
@@ -175,24 +170,18 @@ impl Kq {
         ensures room { self.old.room ≤ self.new.room }
         ensures limit { limit self.new ≡ limit self.old }
     {
-        if let Some(found) = self.knotes.locate(key) {
-            self.unmake_at(key, &found);
-        }
+        self.unmake_at(Place::nowhere(), key);
     }
 
-    /// Takes out the knote of a key, which was located.
-    pub(crate) fn unmake_at(&mut self, key: Key, found: &Placed<Knote>)
-        requires { find_knote key self.old.kq.knotes ≡ Some found.now.row }
+    /// The same as `unmake`. Where the knote stands at the guessed place, no search is made for it.
+    pub(crate) fn unmake_at(&mut self, guess: Place, key: Key)
         ensures kq { self.new.kq ≡ with_removed key self.old.kq }
         ensures owner { self.new.owner ≡ self.old.owner }
         ensures version { self.new.version ≡ self.old.version }
         ensures room { self.old.room ≤ self.new.room }
         ensures limit { limit self.new ≡ limit self.old }
     {
-        // The queue holds just the knotes that are active and enabled, so it need not be asked.
-        let waits = found.row.is_waiting();
-        self.knotes.remove_at(found.place, key);
-        self.queue.take_out_known(key, waits);
+        self.knotes.remove_at(guess, key);
     }
 
     /// Lets a change modify the knote of its key.
@@ -204,8 +193,6 @@ impl Kq {
         ensures version { self.new.version ≡ self.old.version }
         ensures room { self.new.room ≡ self.old.room }
     {
-        // The queue holds just the knotes that are active and enabled, so it need not be asked.
-        let waits = present.row.is_waiting();
         let moment = clock_of(views);
         let mut knote = present.row;
         knote.replace(change);
@@ -214,6 +201,6 @@ impl Kq {
         knote.switch(change);
         attend(views, &mut knote);
         self.knotes.modify_at(present.place, knote);
-        self.queue.renew(change, &knote, waits);
+        renew(&mut self.knotes, change, present.place, &knote);
     }
 }

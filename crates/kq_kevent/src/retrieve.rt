@@ -1,33 +1,39 @@
-ghost use Rattle.std.specs.Prelude.{◌≡◌, ◌+◌, ◌<◌, ◌≤◌, ◌∷◌, List, [], Some, false, length, min};
+ghost use Rattle.std.specs.Prelude.{◌≡◌, ◌+◌, ◌<◌, ◌≤◌, ◌∷◌, ◌++◌, List, [], Some, false, true, is_some, length, min};
 ghost use Rattle.std.specs.Vec.{vec_capacity};
 ghost use Rattle.kq_model.specs.Knote.{has_key, find_knote};
-ghost use Rattle.kq_model.specs.Kqueue.{HaveOwnKeys};
 ghost use Rattle.kq_model.specs.Look.{look};
 ghost use Rattle.kq_model.specs.Retrieval.{knotes_after, back_after, without_notice, with_notice_told};
 ghost use Rattle.kq_model.specs.Retrieval.{with_delivered, turned, retrieval};
 ghost use Rattle.kq_model.specs.declared.key.Key.{Key};
-ghost use Rattle.kq_kevent.specs.Owned.{kqueue_of, limit};
+ghost use Rattle.kq_kevent.specs.Owned.{kqueue_in, limit};
 
 use crate::Kq;
 use crate::look::{event_of, look_in};
-use crate::queue::Queue;
 use kq_knote::{Knote, Knotes};
-use kq_model::{Kevent, Views};
-use kq_table::Placed;
+use kq_model::{Kevent, Key, Views};
+use kq_table::{Place, Placed};
 
-/// What becomes of a knote, and of its key, once it was delivered: with ONESHOT it is deleted;
-/// else with CLEAR or DISPATCH it rests; else its key goes to the back.
+/// Puts the key of a knote, which is not in the queue, behind the others.
+pub(crate) fn put_last(knotes: &mut Knotes, at: Place, key: Key)
+    requires there { is_some (find_knote key knotes.old.knotes) ≡ true }
+    requires absent { has_key key knotes.old.queue ≡ false }
+    ensures queue { knotes.new.queue ≡ knotes.old.queue ++ key ∷ [] }
+    ensures knotes { knotes.new.knotes ≡ knotes.old.knotes }
+    ensures room { knotes.new.room ≡ knotes.old.room }
+{
+    knotes.put_in_at(at, key);
+}
+
+/// What becomes of a knote, whose key was taken out of the queue, once it was delivered: with ONESHOT it is
+/// deleted; else with CLEAR or DISPATCH it rests; else its key goes to the back.
 #[tactic(auto, unfolding(kq_model::specs::Retrieval::knotes_after, kq_model::specs::Retrieval::back_after, kq_model::specs::Retrieval::stays))]
-fn settle(knotes: &mut Knotes, queue: &mut Queue, delivered: &Placed<Knote>)
-    requires own_keys { HaveOwnKeys knotes.old.knotes }
+fn settle(knotes: &mut Knotes, delivered: &Placed<Knote>)
     requires there { find_knote delivered.now.row.key knotes.old.knotes ≡ Some delivered.now.row }
-    requires absent { has_key delivered.now.row.key queue.old.keys ≡ false }
-    requires capacity { length queue.old.keys < queue.old.capacity }
+    requires absent { has_key delivered.now.row.key knotes.old.queue ≡ false }
     ensures knotes { knotes.new.knotes ≡ knotes_after delivered.now.row knotes.old.knotes }
-    ensures keys { queue.new.keys ≡ back_after delivered.now.row queue.old.keys }
+    ensures queue { knotes.new.queue ≡ back_after delivered.now.row knotes.old.queue }
     ensures room { knotes.old.room ≤ knotes.new.room }
     ensures limit { length knotes.new.knotes + knotes.new.room ≡ length knotes.old.knotes + knotes.old.room }
-    ensures capacity { queue.new.capacity ≡ queue.old.capacity }
 {
     let knote = delivered.row;
     if knote.oneshot {
@@ -37,27 +43,25 @@ fn settle(knotes: &mut Knotes, queue: &mut Queue, delivered: &Placed<Knote>)
         rested.rest();
         knotes.modify_at(delivered.place, rested);
     } else {
-        queue.put_in(knote.key);
+        put_last(knotes, delivered.place, knote.key);
     }
 }
 
 /// What becomes of a knote whose notice was delivered: it is taken back, and nothing else is reset, disabled or
 /// deleted; the knote is looked at again, and goes to the back or is not active.
 #[tactic(auto, unfolding(kq_model::specs::Retrieval::with_notice_told))]
-fn take_back<V: Views>(knotes: &mut Knotes, queue: &mut Queue, told: &Placed<Knote>, views: &V)
+fn take_back<V: Views>(knotes: &mut Knotes, told: &Placed<Knote>, views: &V)
     requires there { find_knote told.now.row.key knotes.old.knotes ≡ Some told.now.row }
-    requires absent { has_key told.now.row.key queue.old.keys ≡ false }
-    requires capacity { length queue.old.keys < queue.old.capacity }
-    ensures kq { kqueue_of knotes.new.knotes queue.new.keys ≡ with_notice_told (without_notice told.now.row)
-        (kqueue_of knotes.old.knotes queue.old.keys) (look (V.sees views.now) (without_notice told.now.row)) }
+    requires absent { has_key told.now.row.key knotes.old.queue ≡ false }
+    ensures kq { kqueue_in knotes.new ≡ with_notice_told (without_notice told.now.row)
+        (kqueue_in knotes.old) (look (V.sees views.now) (without_notice told.now.row)) }
     ensures room { knotes.new.room ≡ knotes.old.room }
-    ensures capacity { queue.new.capacity ≡ queue.old.capacity }
 {
     let mut rest = told.row;
     rest.notice = None;
     if look_in(views, &rest).is_some() {
         knotes.modify_at(told.place, rest);
-        queue.put_in(rest.key);
+        put_last(knotes, told.place, rest.key);
     } else {
         rest.active = false;
         knotes.modify_at(told.place, rest);
@@ -66,20 +70,17 @@ fn take_back<V: Views>(knotes: &mut Knotes, queue: &mut Queue, told: &Placed<Kno
 
 /// What becomes of a knote that was delivered, by its notice if it had one.
 #[tactic(auto, unfolding(kq_model::specs::Retrieval::settled))]
-fn deliver<V: Views>(knotes: &mut Knotes, queue: &mut Queue, delivered: &Placed<Knote>, views: &V)
-    requires own_keys { HaveOwnKeys knotes.old.knotes }
+fn deliver<V: Views>(knotes: &mut Knotes, delivered: &Placed<Knote>, views: &V)
     requires there { find_knote delivered.now.row.key knotes.old.knotes ≡ Some delivered.now.row }
-    requires absent { has_key delivered.now.row.key queue.old.keys ≡ false }
-    requires capacity { length queue.old.keys < queue.old.capacity }
-    ensures kq { kqueue_of knotes.new.knotes queue.new.keys
-        ≡ with_delivered (V.sees views.now) delivered.now.row (kqueue_of knotes.old.knotes queue.old.keys) }
+    requires absent { has_key delivered.now.row.key knotes.old.queue ≡ false }
+    ensures kq { kqueue_in knotes.new
+        ≡ with_delivered (V.sees views.now) delivered.now.row (kqueue_in knotes.old) }
     ensures room { knotes.old.room ≤ knotes.new.room }
     ensures limit { length knotes.new.knotes + knotes.new.room ≡ length knotes.old.knotes + knotes.old.room }
-    ensures capacity { queue.new.capacity ≡ queue.old.capacity }
 {
     match delivered.row.notice {
-        None => settle(knotes, queue, delivered),
-        Some(_) => take_back(knotes, queue, delivered, views),
+        None => settle(knotes, delivered),
+        Some(_) => take_back(knotes, delivered, views),
     }
 }
 
@@ -97,10 +98,7 @@ impl Kq {
         ensures room { self.old.room ≤ self.new.room }
         ensures limit { limit self.new ≡ limit self.old }
     {
-        let Some(key) = self.queue.take_front() else {
-            unreachable!();
-        };
-        let Some(found) = self.knotes.locate(key) else {
+        let Some(found) = self.knotes.take_front() else {
             unreachable!();
         };
         match look_in(views, &found.row) {
@@ -111,7 +109,7 @@ impl Kq {
                 None
             }
             Some(seen) => {
-                deliver(&mut self.knotes, &mut self.queue, &found, views);
+                deliver(&mut self.knotes, &found, views);
                 Some(event_of(&found.row, seen))
             }
         }
@@ -129,7 +127,7 @@ impl Kq {
         ensures room { self.old.room ≤ self.new.room }
         ensures limit { limit self.new ≡ limit self.old }
     {
-        for _turn in 0..self.queue.len() {
+        for _turn in 0..self.knotes.queue_len() {
             if events.len() == room {
                 return;
             }

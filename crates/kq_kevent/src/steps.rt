@@ -11,7 +11,7 @@ ghost use Rattle.kq_kevent.specs.Ending.{answer_of};
 ghost use Rattle.kq_kevent.specs.Owned.{caller, limit};
 
 use crate::Kq;
-use crate::call::{answer, reads_pending, shared_in, timers_in};
+use crate::call::{answer, reads_pending, timers_in};
 use crate::process::Ending;
 use kq_model::{Change, Kevent, Memory, Reply, Views};
 
@@ -76,10 +76,10 @@ impl Kq {
         // Memory comes only where knotes or entries need a place that was not reserved.
         ensures ok { length changes.now ≤ self.old.room → min room (length changes.now) ≡ 0 → IsOk result }
     {
-        self.reserve_for(changes.len(), shared_in(changes), timers_in(changes))?;
+        self.reserve_for(changes.len(), timers_in(changes))?;
         let room = room as usize;
         let most = room.min(changes.len());
-        let mut placed = Vec::with_capacity(self.queue.allocator(), most).map_err(|_| Memory)?;
+        let mut placed = Vec::with_capacity(self.knotes.allocator(), most).map_err(|_| Memory)?;
         let ending = self.process(changes, room, &mut placed, views);
         Ok(answer_at(ending, placed))
     }

@@ -1,5 +1,5 @@
--- The keys that the index finds for the hints are those of the hinted knotes.
-use Rattle.std.proofs.Common.{◌≡◌, Bool, true, false, cond, ◌||◌, List, [], ◌∷◌, ◌++◌, map, filter, Option, None, Some, refl, sym, ap, ◌∙◌}
+-- The keys that are found for the hints are those of the hinted knotes.
+use Rattle.std.proofs.Common.{◌≡◌, Bool, true, false, cond, ◌||◌, List, [], ◌∷◌, ◌++◌, map, filter, None, Some, refl, sym, ap, ◌∙◌}
 use Rattle.std.proofs.lemmas.List.Folds.{list_any-append}
 use Rattle.std.proofs.lemmas.Option.{none-some, same_Some}
 use Rattle.std.specs.List.{list_any}
@@ -12,13 +12,10 @@ use Rattle.kq_model.specs.Tallied.{Knote}
 use Rattle.kq_model.specs.Targets.{Posted, is_target}
 use Rattle.kq_model.proofs.KeyLaws.{same_key, key_eq-refl}
 use Rattle.kq_model.proofs.KnoteLaws.{by_test, find_knote-none, find_knote-here, find_knote-later, find_knote-head, find_knote-tail}
-use Rattle.kq_knote.specs.Index.{shares, is_shared, is_hinted, watch_of, AreHinted, hinted_keys, keys_watching}
-use Rattle.kq_knote.proofs.IndexLaws.{Watching, with_key, keys-cons, unshared-apart, watching-knotes}
-use Rattle.kq_table.specs.Links as links
+use Rattle.kq_knote.specs.Index.{is_shared, is_hinted, AreHinted, hinted_keys}
+use Rattle.kq_knote.proofs.IndexLaws.{rows_watching, watching-knotes}
+use Rattle.kq_knote.proofs.RowLaws.{key_of, same, waits_in-keys}
 use Rattle.kq_table.specs.Rows.{is_among}
-
-abbrev pub key_of : Knote → Key
-key_of k = k.key
 
 abbrev pub keys_where : (Knote → Bool) → List Knote → List Key
 keys_where p ks = map key_of (filter p ks)
@@ -51,38 +48,20 @@ any-where p (x ∷ ks) k own found =
     (λ _. rest))
     refl
 
--- ---- what the index finds for one hint
+-- ---- one hint more
 
--- each knote that watches a shared target is in the index
-shared-keys : (target : Target) → is_shared (Some target) ≡ true → (ks : List Knote) → keys_watching target (filter shares ks) ≡ keys_watching target ks
-shared-keys target is [] = refl
-shared-keys target is (k ∷ ks) =
-    let rest = shared-keys target is ks in
-    by_test (λ b. shares k ≡ b → keys_watching target (cond b (k ∷ filter shares ks) (filter shares ks)) ≡ with_key k (keys_watching target ks) (is_target k.target target)) (shares k)
-    (λ _ _. keys-cons (λ n. is_target n.target target) k (filter shares ks) ∙ ap (λ keys. with_key k keys (is_target k.target target)) rest)
-    (λ _ alone. rest ∙ ap (with_key k (keys_watching target ks)) (sym (unshared-apart target k.target is alone))) refl
-    ∙ sym (keys-cons (λ n. is_target n.target target) k ks)
-
-module _ (alike : Option Target → Option Target → Bool) (alike_is : (t : Target) (o : Option Target) → alike (Some t) o ≡ is_target o t)
-    (ks : List Knote) (own : HaveOwnKeys ks) (ws : List Watching) (ws_are : ws ≡ map watch_of (filter shares ks)) where
-  -- one hint more: the keys of the knotes of its target
-  pub AreHinted-more : (before more : List Posted) (target : Target) → ((k : Knote) → is_hinted more k ≡ (is_hinted before k || is_target k.target target)) → is_shared (Some target) ≡ true
-      → (found : List Key) → AreHinted before ks found → AreHinted more ks (found ++ links.keys_watching alike (Some target) ws)
-  AreHinted-more before more target more_is shared found are k there =
-      let watching : links.keys_watching alike (Some target) ws ≡ keys_watching target ks = ap (λ (xs : List Watching). links.keys_watching alike (Some target) xs) ws_are
-      ∙ watching-knotes alike alike_is target (filter shares ks) ∙ shared-keys target shared ks in
-      list_any-append (key_eq k.key) found (links.keys_watching alike (Some target) ws)
-      ∙ ap (λ b. b || list_any (key_eq k.key) (links.keys_watching alike (Some target) ws)) (are k there)
-      ∙ ap (λ b. is_hinted before k || b) (ap (list_any (key_eq k.key)) watching ∙ any-where (λ (n : Knote). is_target n.target target) ks k own there)
-      ∙ sym (more_is k)
+-- the keys of the knotes of its target are found
+pub AreHinted-more : (ks : List Knote) → HaveOwnKeys ks → (before more : List Posted) (target : Target)
+    → ((k : Knote) → is_hinted more k ≡ (is_hinted before k || is_target k.target target)) → is_shared (Some target) ≡ true
+    → (found : List Key) → AreHinted before ks found → AreHinted more ks (found ++ rows_watching target ks)
+AreHinted-more ks own before more target more_is shared found are k there =
+    list_any-append (key_eq k.key) found (rows_watching target ks)
+    ∙ ap (λ b. b || list_any (key_eq k.key) (rows_watching target ks)) (are k there)
+    ∙ ap (λ b. is_hinted before k || b)
+    (ap (list_any (key_eq k.key)) (watching-knotes target shared ks) ∙ any-where (λ (n : Knote). is_target n.target target) ks k own there)
+    ∙ sym (more_is k)
 
 -- ---- the knotes of these keys, in order
-
-pub among-same : (same : Key → Key → Bool) (same_is : (a b : Key) → same a b ≡ key_eq a b) (key : Key) (keys : List Key) → list_any (same key) keys ≡ list_any (key_eq key) keys
-among-same same same_is key [] = refl
-among-same same same_is key (other ∷ keys) =
-    ap (λ b. b || list_any (same key) keys) (same_is key other)
-    ∙ ap (λ b. key_eq key other || b) (among-same same same_is key keys)
 
 apart-here : (x : Knote) (ks : List Knote) (k : Knote) → find_knote x.key ks ≡ None → find_knote k.key ks ≡ Some k → key_eq k.key x.key ≡ false
 apart-here x ks k absent found =
@@ -96,7 +75,7 @@ filter-same f p (x ∷ ks) own agree =
     ap (λ b. cond b (x ∷ filter f ks) (filter f ks)) (agree x (find_knote-here x.key x ks (key_eq-refl x.key)))
     ∙ ap (λ rest. cond (p x) (x ∷ rest) rest) (filter-same f p ks own.1 (λ k found. agree k (find_knote-later k.key x ks (apart-here x ks k own.0 found) ∙ found)))
 
-pub hinted-in_order : (same : Key → Key → Bool) → ((a b : Key) → same a b ≡ key_eq a b) → (posted : List Posted) (ks : List Knote) → HaveOwnKeys ks → (found : List Key) → AreHinted posted ks found
+pub hinted-in_order : (posted : List Posted) (ks : List Knote) → HaveOwnKeys ks → (found : List Key) → AreHinted posted ks found
     → map key_of (filter (is_among same key_of found) ks) ≡ hinted_keys posted ks
-hinted-in_order same same_is posted ks own found are =
-    ap (map key_of) (filter-same (is_among same key_of found) (is_hinted posted) ks own (λ k there. among-same same same_is k.key found ∙ are k there))
+hinted-in_order posted ks own found are =
+    ap (map key_of) (filter-same (is_among same key_of found) (is_hinted posted) ks own (λ k there. waits_in-keys k.key found ∙ are k there))

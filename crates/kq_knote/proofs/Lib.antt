@@ -1,7 +1,7 @@
 pub mod RowLaws
 pub mod CountLaws
-pub mod IndexLaws
 pub mod TargetLaws
+pub mod IndexLaws
 pub mod WalkLaws
 pub mod GatherLaws
 pub mod TimerLaws

@@ -1,5 +1,6 @@
--- Which knotes watch which targets: what is found, and how the index by target goes with the knotes.
+-- Which knotes watch which targets: what is found; and what holds of the knotes and of the alarms.
 use Rattle.std.specs.Prelude.{◌≡◌, ◌≤◌, ℕ, Bool, true, false, List, map, filter, Some, None, Option, slice_get}
+use Rattle.std.specs.Prelude.{if◌then◌else◌}
 use Rattle.std.specs.List.{list_any}
 use Rattle.kq_model.specs.declared.key.Key.{Key}
 use Rattle.kq_model.specs.declared.object.Target.{Target}
@@ -12,8 +13,6 @@ use Rattle.kq_model.specs.Ticks.{last_moment}
 use Rattle.kq_alarm.specs.Armed.{Armed}
 use Rattle.kq_knote.specs.Expiring.{AreAlarmed}
 use Rattle.kq_knote.specs.Quiet.{AreQuiet}
-use Rattle.kq_table.specs.declared.watch.Watch.{Watch}
-use Rattle.kq_table.specs.Links.{Watched}
 use Rattle.kq_table.specs.Rows.{rows_behind}
 
 -- the keys of the knotes that watch this target, in order of registration
@@ -58,20 +57,14 @@ shares k = is_shared k.target
 abbrev pub IsOnly : Target → List Posted → Type 0
 IsOnly target posted = (is_shared (Some target) ≡ true) × ((k : Knote) → is_hinted posted k ≡ is_target k.target target)
 
--- a knote of the same key watches the same target
-abbrev pub KeepsTarget : Knote → List Knote → Type 0
-KeepsTarget knote knotes = (k : Knote) → find_knote knote.key knotes ≡ Some k → k.target ≡ knote.target
+-- what it watches, where others may watch it too
+abbrev pub shared_of : Knote → Option Target
+shared_of k = if shares k then k.target else None
 
--- a knote as a watch, also where it has no target
-abbrev pub watch_of : Knote → Watch Key (Option Target)
-watch_of k = record { key = k.key; target = k.target }
-
--- Where the index is whole, it has each knote whose target others may share, and no other. After the moment `since`
--- no timer expires before `soonest`; where the alarms are whole, each knote has one when it expires first after `since`
-pub record IsKept (knotes : List Knote) (whole : Bool) (index : Watched Key (Option Target)) (since soonest : ℕ)
-    (alarmed : Bool) (alarms : Armed) : Type 0 where
+-- Keys differ. After the moment `since` no timer expires before `soonest`; where the alarms are whole, each knote has
+-- one when it expires first after `since`
+pub record IsKept (knotes : List Knote) (since soonest : ℕ) (alarmed : Bool) (alarms : Armed) : Type 0 where
   pub own_keys : HaveOwnKeys knotes
-  pub watches : whole ≡ true → index.watches ≡ map watch_of (filter shares knotes)
   pub begun : since ≤ last_moment
   pub quiet : AreQuiet since soonest knotes
   pub armed : alarmed ≡ true → AreAlarmed since alarms.entries knotes

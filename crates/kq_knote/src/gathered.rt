@@ -9,9 +9,8 @@ use std::mem::replace;
 
 impl Knotes {
     /// The keys of the knotes that watch a hinted target, in order of registration, in time as a sort
-    /// of them takes. None where the index does not tell them: where it is not whole, there is no room for
-    /// the keys, or a hint is for no shared target; and where all hints are for one target, since
-    /// `first_watcher` needs no room for that. It takes no memory.
+    /// of them takes. None where there is no room for the keys, or a hint is for no shared target; and where
+    /// all hints are for one target, since `first_watcher` needs no room for that. It takes no memory.
     pub fn take_hinted(&mut self, posted: &[(Target, Hint)]) -> Option<Vec<Key>>
         ensures knotes { self.new ≡ self.old }
         ensures keys { MatchOption result (Unit {0}) (λ keys. keys.items ≡ hinted_keys posted.now self.old.knotes) }
@@ -33,7 +32,7 @@ impl Knotes {
     pub fn place_of(&self, index: usize) -> Place {
         match self.places.get(index) {
             None => Place::nowhere(),
-            Some(slots) => self.rows.start().behind(*slots),
+            Some(birth) => birth.place(),
         }
     }
 
@@ -44,21 +43,17 @@ impl Knotes {
         self.keys = keys;
     }
 
-    /// Finds the keys of the knotes that watch a hinted target, in no order, by the index. Where that
-    /// does not tell them, or `found` has no room for all, it is false.
+    /// Finds the keys of the knotes that watch a hinted target, in no order. Where a hint is for no shared
+    /// target, or `found` has no room for all, it is false.
     fn gather(&self, posted: &[(Target, Hint)], found: &mut Vec<Key>) -> bool
         ensures { IsTrue result → AreHinted posted.now self.now.knotes found.new.items }
     {
         found.clear();
-        if !self.whole {
-            return false;
-        }
         for hint in posted {
-            let target = Some(hint.0);
-            if !is_shared(target) {
+            if !is_shared(Some(hint.0)) {
                 return false;
             }
-            if !self.index.watching(target, found) {
+            if !self.rows.watching(hint.0, found) {
                 return false;
             }
         }

@@ -3,6 +3,7 @@ ghost use Rattle.kq_model.specs.Knote.{has_nothing};
 ghost use Rattle.kq_model.specs.Kqueue.{is_waiting};
 
 use crate::Tally;
+use crate::hinted::is_shared;
 use kq_model::{Key, Target};
 use kq_table::Keyed;
 use std::marker::Model;
@@ -89,14 +90,32 @@ impl Model for Knote {
     } };
 }
 
-/// At most one knote of a kqueue has a key.
+/// At most one knote of a kqueue has a key; of the targets, those are shared for which records give hints.
 impl Keyed for Knote {
+    ghost use Rattle.std.proofs.Common.{rules};
+    ghost use Rattle.kq_knote.specs.Index.{shared_of};
+    ghost use Rattle.kq_table.specs.OneKey.{one_key_by};
+
     type Key = Key;
+
+    type Target = Target;
 
     ghost key_of = { λ k. k.key };
 
+    ghost target_of = { λ k. shared_of k };
+
+    ghost one_key = { one_key_by _ (λ a b. Prim.search rules) };
+
     fn key(&self) -> Key {
         self.key
+    }
+
+    fn target(&self) -> Option<Target> {
+        if is_shared(self.target) {
+            self.target
+        } else {
+            None
+        }
     }
 }
 

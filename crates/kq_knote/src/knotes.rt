@@ -4,7 +4,7 @@ ghost use Rattle.std.specs.Option.{option_map};
 ghost use Rattle.kq_model.specs.Close.{is_of_number};
 ghost use Rattle.kq_model.specs.Hearing.{listed};
 ghost use Rattle.kq_model.specs.Knote as model;
-ghost use Rattle.kq_model.specs.Knote.{key_eq, find_knote, with_knote, without_knote};
+ghost use Rattle.kq_model.specs.Knote.{key_eq, find_knote, with_knote, without_key, without_knote};
 ghost use Rattle.kq_model.specs.Recast.{tallied_knote, tallied_knotes};
 ghost use Rattle.kq_model.specs.Ticks.{last_moment};
 ghost use Rattle.kq_knote.specs.Quiet.{AreLater, AreQuiet};
@@ -12,27 +12,24 @@ ghost use Rattle.kq_table.specs.Rows.{row_after};
 
 use crate::Knote;
 use crate::arming::{put_changed, put_new};
-use crate::hinted::{is_shared, stays_whole, unwatch};
 use kq_alarm::Alarms;
-use kq_model::{Filter, Key, Memory, Target};
-use kq_table::{Place, Placed, Table, TargetIndex, Watch};
+use kq_model::{Filter, Key, Memory};
+use kq_table::{Birth, Place, Placed, Table};
 use std::alloc::Global;
 use std::marker::Model;
 
-/// The knotes of one kqueue: a list in order of registration, at most one of each key, and the
-/// room that was reserved for further ones. No call but the two that reserve takes memory, and each
-/// takes constant time, spread over many, but where it says otherwise.
+/// The knotes of one kqueue: a list in order of registration, at most one of each key, the queue of
+/// those that are to be returned, and the room that was reserved for further ones. No call but the two
+/// that reserve takes memory, and each takes constant time, spread over many, but where it says
+/// otherwise.
 #[derive(Drop)]
 pub struct Knotes {
+    /// The knotes, by key and by what they watch, and the queue.
     pub(crate) rows: Table<Knote>,
-    /// The knotes by target, but those that are their own.
-    pub(crate) index: TargetIndex<Key, Option<Target>>,
-    /// The index has had room for each of them.
-    pub(crate) whole: bool,
     /// Room for the keys of knotes that hints are for. What stands in it means nothing.
     pub(crate) keys: Vec<Key>,
     /// Room for where their knotes stand.
-    pub(crate) places: Vec<usize>,
+    pub(crate) places: Vec<Birth>,
     /// After this moment of the clock,
     pub(crate) since: u64,
     /// and before this one, no timer expires.
@@ -52,21 +49,20 @@ impl Model for Knotes {
 
     ghost use Rattle.kq_knote.specs.Index.{IsKept};
 
-    ghost view = { λ k. record { knotes = k.rows.rows; room = k.rows.room } };
+    ghost view = { λ k. record { knotes = k.rows.rows; queue = k.rows.queue; room = k.rows.room } };
 
-    ghost invariant = { λ k. IsKept k.rows.rows k.whole k.index k.since k.soonest k.alarmed k.alarms };
+    ghost invariant = { λ k. IsKept k.rows.rows k.since k.soonest k.alarmed k.alarms };
 }
 
 impl Knotes {
     /// No knotes, and no room.
     pub fn new(alloc: Global) -> Self
         ensures knotes { result.knotes ≡ [] }
+        ensures queue { result.queue ≡ [] }
         ensures room { result.room ≡ 0 }
     {
         Knotes {
             rows: Table::new(alloc),
-            index: TargetIndex::new(alloc),
-            whole: true,
             keys: Vec::new(alloc),
             places: Vec::new(alloc),
             since: 0,
@@ -75,6 +71,10 @@ impl Knotes {
             alarmed: true,
             due: Vec::new(alloc),
         }
+    }
+
+    pub fn allocator(&self) -> Global {
+        self.rows.allocator()
     }
 
     pub fn len(&self) -> usize
@@ -96,35 +96,34 @@ impl Knotes {
         self.rows.room()
     }
 
-    /// Makes the room at least `more`; changes nothing else.
+    /// Makes the room at least `more`; changes nothing else. After `Memory` nothing has changed.
     pub fn reserve(&mut self, more: usize) -> Result<(), Memory>
         ensures knotes { self.new.knotes ≡ self.old.knotes }
+        ensures queue { self.new.queue ≡ self.old.queue }
         ensures room { OnOk result (self.new.room ≡ max self.old.room more) }
         ensures err { OnErr result (self.new.room ≡ self.old.room) }
 
         // Memory comes only where the room was missing.
         ensures missing { OnErr result (self.old.room < more) }
     {
-        self.rows.reserve(more)
+        if more <= self.room() {
+            return Ok(());
+        }
+        self.rows.reserve(more)?;
+        self.reserve_lists();
+        Ok(())
     }
 
-    /// Makes room in the index by target for so many knotes that watch what others may watch too, and
-    /// for their keys. Where it is wanting, by memory or since it was not asked for, hints find the
-    /// knotes of their targets by a walk over all; nothing else depends on it.
-    pub fn reserve_shared(&mut self, more: usize)
+    /// Makes room for the keys of all knotes that fit, and for where these stand. Where memory is wanting,
+    /// hints find the knotes of their targets by a walk over all; nothing else depends on it.
+    fn reserve_lists(&mut self)
         ensures { self.new ≡ self.old }
     {
-        if more == 0 {
-            return;
-        }
-        let _ = self.index.reserve(more);
-        // A record may have hints of two kinds for each target.
-        let shared = self.index.len().saturating_add(more);
-        let found = shared.saturating_add(shared);
+        let knotes = self.rows.len().saturating_add(self.rows.room());
         self.keys.clear();
-        let _ = self.keys.reserve(found);
+        let _ = self.keys.reserve(knotes);
         self.places.clear();
-        let _ = self.places.reserve(found);
+        let _ = self.places.reserve(knotes);
     }
 
     /// The knote of a key.
@@ -176,11 +175,13 @@ impl Knotes {
         self.rows.next_after(key)
     }
 
-    /// Adds a knote of a new key behind the others. It uses up room for one.
-    pub fn attach(&mut self, knote: Knote)
+    /// Adds a knote of a new key behind the others, and gives the place where it stands. It uses up room
+    /// for one.
+    pub fn attach(&mut self, knote: Knote) -> Place
         requires room { 0 < self.old.room }
         requires absent { find_knote knote.key self.old.knotes ≡ None }
         ensures knotes { self.new.knotes ≡ self.old.knotes ++ knote ∷ [] }
+        ensures queue { self.new.queue ≡ self.old.queue }
         ensures room { self.new.room + 1 ≡ self.old.room }
 
         // The same of knotes that keep all that they heard.
@@ -190,27 +191,13 @@ impl Knotes {
         let first = knote.first_after(self.since);
         self.soonest = self.soonest.min(first);
         self.alarmed = put_new(&mut self.alarms, self.alarmed, knote.key.ident, first);
-        let row = self.rows.end();
-        self.rows.attach(knote);
-        if !is_shared(knote.target) {
-            return;
-        }
-        if self.whole && 0 < self.index.room() {
-            let watch = Watch {
-                key: knote.key,
-                target: knote.target,
-            };
-            self.index.attach_at(watch, row);
-        } else {
-            self.whole = false;
-        }
+        self.rows.attach(knote)
     }
 
-    /// Puts a knote in the place of the one of its key; where there is none, nothing changes. Where
-    /// it watches another target than that one, the index by target has no place for it and is given
-    /// up: from then on hints find the knotes of their targets by a walk over all.
+    /// Puts a knote in the place of the one of its key; where there is none, nothing changes.
     pub fn modify(&mut self, knote: Knote)
         ensures knotes { self.new.knotes ≡ with_knote knote self.old.knotes }
+        ensures queue { self.new.queue ≡ self.old.queue }
         ensures room { self.new.room ≡ self.old.room }
 
         // The same of knotes that keep all that they heard.
@@ -226,6 +213,7 @@ impl Knotes {
     /// looked at.
     pub fn modify_at(&mut self, guess: Place, knote: Knote)
         ensures knotes { self.new.knotes ≡ with_knote knote self.old.knotes }
+        ensures queue { self.new.queue ≡ self.old.queue }
         ensures room { self.new.room ≡ self.old.room }
 
         // The same of knotes that keep all that they heard.
@@ -238,14 +226,14 @@ impl Knotes {
         let first = knote.first_after(self.since);
         self.soonest = self.soonest.min(first);
         self.alarmed = put_changed(&before, self.since, &mut self.alarms, self.alarmed, first);
-        self.whole = stays_whole(self.whole, &before, &knote);
         self.rows.modify_at(guess, knote);
     }
 
-    /// Takes out the knote of a key, where there is one. It gives its room back.
+    /// Takes out the knote of a key, where there is one, and the key from the queue. It gives its room back.
     pub fn remove(&mut self, key: Key) -> Option<Knote>
         ensures removed { result ≡ find_knote key self.old.knotes }
         ensures knotes { self.new.knotes ≡ without_knote key self.old.knotes }
+        ensures queue { self.new.queue ≡ without_key key self.old.queue }
         ensures room { MatchOption result (self.new.room ≡ self.old.room) (λ _. self.new.room ≡ self.old.room + 1) }
         ensures limit { length self.new.knotes + self.new.room ≡ length self.old.knotes + self.old.room }
 
@@ -254,10 +242,7 @@ impl Knotes {
             → (result ≡ option_map tallied_knote (find_knote key ms))
             × (self.new.knotes ≡ tallied_knotes (without_knote key ms)) }
     {
-        let Some(found) = self.locate(key) else {
-            return None;
-        };
-        self.remove_at(found.place, key)
+        self.remove_at(Place::nowhere(), key)
     }
 
     /// The same as `remove`. Where the knote of the key stands at the guessed place, no search by key is made
@@ -265,6 +250,7 @@ impl Knotes {
     pub fn remove_at(&mut self, guess: Place, key: Key) -> Option<Knote>
         ensures removed { result ≡ find_knote key self.old.knotes }
         ensures knotes { self.new.knotes ≡ without_knote key self.old.knotes }
+        ensures queue { self.new.queue ≡ without_key key self.old.queue }
         ensures room { MatchOption result (self.new.room ≡ self.old.room) (λ _. self.new.room ≡ self.old.room + 1) }
         ensures limit { length self.new.knotes + self.new.room ≡ length self.old.knotes + self.old.room }
 
@@ -273,17 +259,14 @@ impl Knotes {
             → (result ≡ option_map tallied_knote (find_knote key ms))
             × (self.new.knotes ≡ tallied_knotes (without_knote key ms)) }
     {
-        let Some(knote) = self.rows.remove_at(guess, key) else {
-            return None;
-        };
-        unwatch(&mut self.index, &knote);
-        Some(knote)
+        self.rows.remove_at(guess, key)
     }
 
-    /// Takes out the READ, WRITE and VNODE knotes of a descriptor number: three keys at most. They
-    /// give their room back.
+    /// Takes out the READ, WRITE and VNODE knotes of a descriptor number, three keys at most, and their
+    /// keys from the queue. They give their room back.
     pub fn remove_descriptor(&mut self, number: u32)
         ensures knotes { self.new.knotes ≡ filter (λ k. not (is_of_number number k.key)) self.old.knotes }
+        ensures queue { self.new.queue ≡ filter (λ key. not (is_of_number number key)) self.old.queue }
         ensures limit { length self.new.knotes + self.new.room ≡ length self.old.knotes + self.old.room }
 
         // The same of knotes that keep all that they heard.

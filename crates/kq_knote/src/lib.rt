@@ -9,6 +9,7 @@ mod gathered;
 mod hinted;
 mod knote;
 mod knotes;
+mod queue;
 mod tally;
 mod timers;
 

@@ -54,13 +54,6 @@ impl Tally {
         }
     }
 
-    /// Whether one hint more would leave it as it is.
-    pub fn knows(&self, hint: Hint) -> bool
-        ensures { result ≡ true → tallying.heard (Told hint) self.now ≡ self.now }
-    {
-        !is_counted(hint) && self.others && self.notes | notes_of(hint) == self.notes
-    }
-
     /// So many expirations more.
     pub fn expire(&mut self, times: u64)
         ensures { self.new ≡ record {

@@ -1,235 +1,268 @@
--- The slots of the rows of given keys: how they are gathered, and that in rising order they give the keys in the order
+-- The births of the rows of given keys: how they are gathered, and that in rising order they give the keys in the order
 -- of the rows.
-use Rattle.std.proofs.Common.{◌≡◌, ℕ, suc, ◌+◌, ◌-◌, ◌<◌, ◌≤◌, Bool, true, false, cond, ◌||◌, List, [], ◌∷◌, ◌++◌, map, filter, length, Option, Some, None, ◌⊎◌, inl, inr, slice_get, slice_index, append_assoc, append-nil, le_refl, refl, sym, ap, ◌∙◌, subst, arith}
-use Rattle.std.proofs.lemmas.Bool.{true≢false, cases_lt}
+use Rattle.std.proofs.Common.{◌≡◌, ℕ, suc, ◌+◌, ◌<◌, ◌≤◌, Bool, true, false, cond, ◌||◌, eqb, List, [], ◌∷◌, ◌++◌, map, filter, length, Option, Some, None, ◌⊎◌, inl, inr, get_or, refl, sym, ap, ◌∙◌, subst, arith}
+use Rattle.std.proofs.lemmas.Bool.{true≢false, false≢true, eqb-true, eqb-false, or_cases, or_left, or_right, cases_lt}
 use Rattle.std.proofs.lemmas.List.Elements.{Contains-append_left, Contains-append_right, Contains-append_cases, Contains-push, Contains-push_cases}
 use Rattle.std.proofs.lemmas.Option.{none-some, same_Some}
 use Rattle.std.specs.Cmp.{IsEquivalence}
-use Rattle.std.specs.List.{Contains}
-use Rattle.std.specs.List.Sorted.{IsStrictlyIncreasing}
-use Rattle.kq_table.specs.Rows.{find_row, is_among, HaveOwnKeys}
-use Rattle.kq_table.specs.Slots.{standing, StandsIn, HasOneOf, AreSlotsOf}
+use Rattle.std.specs.HashMap.{HashMap, get as found}
+use Rattle.std.specs.List.{Contains, dedup, dedup_from}
+use Rattle.std.specs.List.Sorted.{IsNonDecreasingBy}
+use Rattle.kq_table.specs.declared.numbered.Birth.{Birth}
+use Rattle.kq_table.specs.Births.{AreRising, before_keys, keys_born, IsBirthOf, AreBirthsOf}
+use Rattle.kq_table.specs.Kept.{IsIndexed, AreBorn}
+use Rattle.kq_table.specs.Rows.{is_among}
+use Rattle.kq_table.specs.Threads.{is_in, before_rows, rows_at}
 use Rattle.kq_table.proofs.RowLaws.{by_test}
-use Rattle.kq_table.proofs.SlotLaws.{find_row-standing, one_slot}
+use Rattle.kq_table.proofs.ThreadLaws.{is_in-here}
 
-either : (a b : Bool) → (a || b) ≡ true → (a ≡ true) ⊎ (b ≡ true)
-either true b e = inl refl
-either false b e = inr e
+-- ---- what a list contains
 
-or_left : (a b : Bool) → a ≡ true → (a || b) ≡ true
-or_left true b e = refl
-or_left false b e = absurd (true≢false (sym e))
+module _ {X : Type 0} where
+  in_none : (x : X) → Contains [] x → ⊥
+  in_none x there = let below : there.0 < 0 = there.1 in omega arith
 
-or_right : (a b : Bool) → b ≡ true → (a || b) ≡ true
-or_right true b e = refl
-or_right false b e = e
+  in_front : (x : X) (xs : List X) → Contains (x ∷ xs) x
+  in_front x xs = Contains-append_left (x ∷ []) xs x (Contains-push [] x)
 
--- ---- numbers that rise
+  in_rest : (x : X) (xs : List X) (y : X) → Contains xs y → Contains (x ∷ xs) y
+  in_rest x xs y there = Contains-append_right (x ∷ []) xs y there
 
-in_none : (n : ℕ) → Contains [] n → ⊥
-in_none n there = let below : there.0 < 0 = there.1 in omega arith
+  front_or_rest : (x : X) (xs : List X) (y : X) → Contains (x ∷ xs) y → (x ≡ y) ⊎ Contains xs y
+  front_or_rest x xs y there =
+      elim (Contains-append_cases (x ∷ []) xs y there) [
+        | inl front ↦ elim (Contains-push_cases [] x y front) [ inl none ↦ absurd (in_none y none) | inr is ↦ inl is ]
+        | inr rest ↦ inr rest
+      ]
 
-in_front : (p : ℕ) (ps : List ℕ) → Contains (p ∷ ps) p
-in_front p ps = Contains-append_left (p ∷ []) ps p (Contains-push [] p)
+-- ---- births that rise
 
-in_rest : (p : ℕ) (ps : List ℕ) (n : ℕ) → Contains ps n → Contains (p ∷ ps) n
-in_rest p ps n there = Contains-append_right (p ∷ []) ps n there
+-- each is no earlier than the one before it
+abbrev IsUp : ℕ → List Birth → Type 0
+IsUp low [] = Unit {0}
+IsUp low (b ∷ births) = (low ≤ b.born) × IsUp b.born births
 
-front_or_rest : (p : ℕ) (ps : List ℕ) (n : ℕ) → Contains (p ∷ ps) n → (p ≡ n) ⊎ Contains ps n
-front_or_rest p ps n there =
-    elim (Contains-append_cases (p ∷ []) ps n there) [
-      | inl front ↦ elim (Contains-push_cases [] p n front) [ inl none ↦ absurd (in_none n none) | inr is ↦ inl is ]
-      | inr rest ↦ inr rest
-    ]
-
--- each is greater than the one before it, and the first is this one at least
-abbrev IsRising : ℕ → List ℕ → Type 0
-IsRising low [] = Unit {0}
-IsRising low (p ∷ ps) = (low ≤ p) × IsRising (p + 1) ps
-
-increasing-rest : (p : ℕ) (ps : List ℕ) → IsStrictlyIncreasing (p ∷ ps) → IsStrictlyIncreasing ps
-increasing-rest p ps up k below =
-    let one : suc k + 1 ≡ suc (k + 1) = omega arith in
-    subst (λ n. slice_index ps k < slice_index (p ∷ ps) n) one (up (suc k) (omega arith))
-
-rising : (low : ℕ) (ps : List ℕ) → (0 < length ps → low ≤ slice_index ps 0) → IsStrictlyIncreasing ps → IsRising low ps
-rising low [] first up = tt
-rising low (p ∷ ps) first up = (
-  first (omega arith),
-  rising (p + 1) ps (λ some. let next : p < slice_index ps 0 = up 0 (omega arith) in omega arith) (increasing-rest p ps up),
+up : (low : ℕ) (bs : List Birth) → ((d : Birth) → 0 < length bs → low ≤ (get_or bs 0 d).born) → IsNonDecreasingBy (λ (b : Birth). b.born) bs → IsUp low bs
+up low [] first sorted = tt
+up low (b ∷ bs) first sorted = (
+  first b (omega arith),
+  up b.born bs (λ d some. sorted 0 1 d (omega arith) (omega arith)) (λ i j d below within. sorted (suc i) (suc j) d (omega arith) (omega arith)),
 )
 
-rising-least : (low : ℕ) (ps : List ℕ) (n : ℕ) → IsRising low ps → Contains ps n → low ≤ n
-rising-least low [] n up there = absurd (in_none n there)
-rising-least low (p ∷ ps) n up there =
-    let first = up.0 in
-    elim (front_or_rest p ps n there) [
-      | inl is ↦ omega arith
-      | inr rest ↦ let past = rising-least (p + 1) ps n up.1 rest in omega arith
+rising-from : (low : ℕ) (k : Birth) (bs : List Birth) → low ≤ k.born → IsUp k.born bs → AreRising low (dedup_from (λ (p q : Birth). eqb p.born q.born) k bs)
+rising-from low k [] past is = (past, tt)
+rising-from low k (b ∷ bs) past is =
+    let next = is.0 in
+    by_test (λ t. eqb b.born k.born ≡ t → AreRising low (cond t (dedup_from (λ (p q : Birth). eqb p.born q.born) k bs) (k ∷ dedup_from (λ (p q : Birth). eqb p.born q.born) b bs))) (eqb b.born k.born)
+    (λ _ e. rising-from low k bs past (subst (λ n. IsUp n bs) (eqb-true b.born k.born e) is.1))
+    (λ _ e. let apart = eqb-false b.born k.born e in (past, rising-from (k.born + 1) b bs (elim (cases_lt k.born b.born) [ inl less ↦ omega arith | inr more ↦ absurd (apart (omega arith)) ]) is.1))
+    refl
+
+pub rising-dedup : (bs : List Birth) → IsNonDecreasingBy (λ (b : Birth). b.born) bs → AreRising 0 (dedup (λ (p q : Birth). eqb p.born q.born) bs)
+rising-dedup [] sorted = tt
+rising-dedup (b ∷ bs) sorted =
+    rising-from 0 b bs (omega arith) (up b.born bs (λ d some. sorted 0 1 d (omega arith) (omega arith)) (λ i j d below within. sorted (suc i) (suc j) d (omega arith) (omega arith)))
+
+-- of each number one is kept
+kept-from : (k : Birth) (bs : List Birth) (b : Birth) → Contains (k ∷ bs) b → (c : Birth) × Contains (dedup_from (λ (p q : Birth). eqb p.born q.born) k bs) c × (c.born ≡ b.born)
+kept-from k [] b there =
+    elim (front_or_rest k [] b there) [ inl is ↦ (k, in_front k [], ap (λ (x : Birth). x.born) is) | inr none ↦ absurd (in_none b none) ]
+kept-from k (x ∷ bs) b there =
+    by_test (λ t. eqb x.born k.born ≡ t → (c : Birth) × Contains (cond t (dedup_from (λ (p q : Birth). eqb p.born q.born) k bs) (k ∷ dedup_from (λ (p q : Birth). eqb p.born q.born) x bs)) c × (c.born ≡ b.born)) (eqb x.born k.born)
+    (λ _ e. elim (front_or_rest k (x ∷ bs) b there) [
+      | inl is ↦ kept-from k bs b (subst (λ y. Contains (k ∷ bs) y) is (in_front k bs))
+      | inr later ↦ elim (front_or_rest x bs b later) [
+        | inl is ↦ let c = kept-from k bs k (in_front k bs) in (c.0, c.1, c.2 ∙ sym (eqb-true x.born k.born e) ∙ ap (λ (y : Birth). y.born) is)
+        | inr rest ↦ kept-from k bs b (in_rest k bs b rest)
+      ]
+    ])
+    (λ _ _. elim (front_or_rest k (x ∷ bs) b there) [
+      | inl is ↦ (k, in_front k (dedup_from (λ (p q : Birth). eqb p.born q.born) x bs), ap (λ (y : Birth). y.born) is)
+      | inr later ↦ let c = kept-from x bs b later in (c.0, in_rest k (dedup_from (λ (p q : Birth). eqb p.born q.born) x bs) c.0 c.1, c.2)
+    ])
+    refl
+
+pub kept-dedup : (bs : List Birth) (b : Birth) → Contains bs b → (c : Birth) × Contains (dedup (λ (p q : Birth). eqb p.born q.born) bs) c × (c.born ≡ b.born)
+kept-dedup [] b there = absurd (in_none b there)
+kept-dedup (k ∷ bs) b there = kept-from k bs b there
+
+rising-least : (low : ℕ) (bs : List Birth) (b : Birth) → AreRising low bs → Contains bs b → low ≤ b.born
+rising-least low [] b rise there = absurd (in_none b there)
+rising-least low (x ∷ bs) b rise there =
+    let first = rise.0 in
+    elim (front_or_rest x bs b there) [
+      | inl is ↦ let born = ap (λ (y : Birth). y.born) is in omega arith
+      | inr rest ↦ let past = rising-least (x.born + 1) bs b rise.1 rest in omega arith
     ]
 
--- where the first number is not among them, they rise from the next
-rising-past : (low : ℕ) (ps : List ℕ) → IsRising low ps → (Contains ps low → ⊥) → IsRising (low + 1) ps
-rising-past low [] up never = tt
-rising-past low (p ∷ ps) up never =
-    let first = up.0 in
-    elim (cases_lt low p) [
-      | inl under ↦ (omega arith, up.1)
-      | inr past ↦ let is : p ≡ low = omega arith in absurd (never (subst (λ n. Contains (p ∷ ps) n) is (in_front p ps)))
+-- ---- births along slots
+
+born-least : (births : ℕ → Option ℕ) (low next : ℕ) (slots : List ℕ) (s born : ℕ) → AreBorn births low next slots → is_in s slots ≡ true → births s ≡ Some born → low ≤ born
+born-least births low next [] s born are there at = absurd (false≢true there)
+born-least births low next (x ∷ slots) s born are there at =
+    let first = are.2 in
+    elim (or_cases (eqb s x) (is_in s slots) there) [
+      | inl is ↦ let one : born ≡ are.0 = same_Some born are.0 (sym at ∙ ap births (eqb-true s x is) ∙ are.1) in omega arith
+      | inr later ↦ let past = born-least births (are.0 + 1) next slots s born are.3 later at in omega arith
     ]
 
--- where it is among them, it is the first
-rising-front : (low p : ℕ) (ps : List ℕ) → IsRising low (p ∷ ps) → Contains (p ∷ ps) low → p ≡ low
-rising-front low p ps up there =
-    let first = up.0 in
-    elim (front_or_rest p ps low there) [
-      | inl is ↦ is
-      | inr rest ↦ let past = rising-least (p + 1) ps low up.1 rest in absurd (omega arith)
-    ]
+-- ---- reading them
 
-module _ {K T : Type 0} (same : K → K → Bool) (key_of : T → K) where
-  -- ---- gathering the slots
+module _ {K T : Type 0} (key_of : T → K) (rows : ℕ → Option T) where
+  pub keys_born-push : (bs : List Birth) (b : Birth) → keys_born key_of rows (bs ++ b ∷ []) ≡ keys_born key_of rows bs ++ before_keys key_of (rows b.slot) []
+  keys_born-push [] b = refl
+  keys_born-push (x ∷ bs) b = ap (before_keys key_of (rows x.slot)) (keys_born-push bs b) ∙ one (rows x.slot)
+    where
+      one : (o : Option T) → before_keys key_of o (keys_born key_of rows bs ++ before_keys key_of (rows b.slot) []) ≡ before_keys key_of o (keys_born key_of rows bs) ++ before_keys key_of (rows b.slot) []
+      one None = refl
+      one (Some row) = refl
 
-  pub AreSlotsOf-none : (slots : List (Option T)) → AreSlotsOf same key_of [] slots []
-  AreSlotsOf-none slots = record {
-    taken = λ slot there. absurd (in_none slot there);
-    whole = λ slot there. absurd (true≢false (sym there.among));
+module _ {K T : Type 0} (same : K → K → Bool) (key_of : T → K) (rows : ℕ → Option T) (births : ℕ → Option ℕ) where
+  -- ---- gathering them
+
+  pub AreBirthsOf-none : AreBirthsOf same key_of rows births [] []
+  AreBirthsOf-none = record {
+    taken = λ b there. absurd (in_none b there);
+    whole = λ b there. absurd (true≢false (sym there.among));
   }
 
-  pub AreSlotsOf-same : (keys : List K) (slots : List (Option T)) (places others : List ℕ) → ((n : ℕ) → Contains places n → Contains others n) → ((n : ℕ) → Contains others n → Contains places n)
-      → AreSlotsOf same key_of keys slots places → AreSlotsOf same key_of keys slots others
-  AreSlotsOf-same keys slots places others on back are = record {
-    taken = λ slot there. are.taken slot (back slot there);
-    whole = λ slot there. on slot (are.whole slot there);
+  -- what has gone through a sort, or what was kept of each number
+  pub AreBirthsOf-same : (keys : List K) (list others : List Birth) → ((b : Birth) → Contains others b → Contains list b) → ((b : Birth) → Contains list b → (c : Birth) × Contains others c × (c.born ≡ b.born))
+      → AreBirthsOf same key_of rows births keys list → AreBirthsOf same key_of rows births keys others
+  AreBirthsOf-same keys list others back on are = record {
+    taken = λ b there. are.taken b (back b there);
+    whole = λ b there. let had = are.whole b there in let now = on had.0 had.1 in (now.0, now.1, now.2 ∙ had.2);
   }
 
-  module _ (laws : IsEquivalence same) (slots : List (Option T)) (own : HaveOwnKeys same key_of (standing slots)) (keys more : List K) (key : K)
-      (more_is : (row : T) → is_among same key_of more row ≡ (is_among same key_of keys row || same (key_of row) key)) (places : List ℕ) (are : AreSlotsOf same key_of keys slots places) where
-    of_more : (slot : ℕ) → HasOneOf same key_of keys slots slot → HasOneOf same key_of more slots slot
-    of_more slot there = record {
+  module _ {S : Type 0} (laws : IsEquivalence same) (one_key : (a b : K) → same a b ≡ true → a ≡ b) (index : HashMap K ℕ S) (indexed : IsIndexed same key_of rows index)
+      (keys more : List K) (key : K) (more_is : (row : T) → is_among same key_of more row ≡ (is_among same key_of keys row || same (key_of row) key)) (list : List Birth) (are : AreBirthsOf same key_of rows births keys list) where
+    of_more : (b : Birth) → IsBirthOf same key_of rows births keys b → IsBirthOf same key_of rows births more b
+    of_more b there = record {
       row = there.row;
       here = there.here;
+      born = there.born;
       among = more_is there.row ∙ or_left (is_among same key_of keys there.row) (same (key_of there.row) key) there.among;
     }
 
-    split : (slot : ℕ) (there : HasOneOf same key_of more slots slot) → HasOneOf same key_of keys slots slot ⊎ StandsIn same key_of key slots slot there.row
-    split slot there =
-        elim (either (is_among same key_of keys there.row) (same (key_of there.row) key) (sym (more_is there.row) ∙ there.among)) [
-          | inl before ↦ inl (record { row = there.row; here = there.here; among = before })
-          | inr now ↦ inr (record { here = there.here; same_key = laws.symm key (key_of there.row) ∙ now })
+    either : (b : Birth) (there : IsBirthOf same key_of rows births more b) → IsBirthOf same key_of rows births keys b ⊎ (same (key_of there.row) key ≡ true)
+    either b there =
+        elim (or_cases (is_among same key_of keys there.row) (same (key_of there.row) key) (sym (more_is there.row) ∙ there.among)) [
+          | inl before ↦ inl (record { row = there.row; here = there.here; born = there.born; among = before })
+          | inr now ↦ inr now
         ]
 
-    -- a key that has no row has no slot
-    pub AreSlotsOf-missed : find_row same key_of key (standing slots) ≡ None → AreSlotsOf same key_of more slots places
-    AreSlotsOf-missed absent = record {
-      taken = λ slot there. of_more slot (are.taken slot there);
-      whole = λ slot there. elim (split slot there) [
-        | inl before ↦ are.whole slot before
-        | inr now ↦ absurd (none-some there.row (sym absent ∙ find_row-standing same key_of laws key slots slot there.row own now))
+    -- a key that has no row has no birth
+    pub AreBirthsOf-missed : ((slot : ℕ) (row : T) → rows slot ≡ Some row → same key (key_of row) ≡ true → ⊥) → AreBirthsOf same key_of rows births more list
+    AreBirthsOf-missed never = record {
+      taken = λ b there. of_more b (are.taken b there);
+      whole = λ b there. elim (either b there) [
+        | inl before ↦ are.whole b before
+        | inr now ↦ absurd (never b.slot there.row there.here (laws.symm key (key_of there.row) ∙ now))
       ];
     }
 
-    -- a key that has one has its slot
-    pub AreSlotsOf-found : (slot : ℕ) (row : T) → StandsIn same key_of key slots slot row → AreSlotsOf same key_of more slots (places ++ slot ∷ [])
-    AreSlotsOf-found slot row stands = record {
-      taken = λ other there. elim (Contains-push_cases places slot other there) [
-        | inl before ↦ of_more other (are.taken other before)
-        | inr is ↦ subst (λ n. HasOneOf same key_of more slots n) is (record {
-          row = row;
-          here = stands.here;
-          among = more_is row ∙ or_right (is_among same key_of keys row) (same (key_of row) key) (laws.symm (key_of row) key ∙ stands.same_key);
-        })
-      ];
-      whole = λ other there. elim (split other there) [
-        | inl before ↦ Contains-append_left places (slot ∷ []) other (are.whole other before)
-        | inr now ↦ subst (λ n. Contains (places ++ slot ∷ []) n) (one_slot same key_of laws key slots slot other row there.row own stands now) (Contains-push places slot)
-      ];
-    }
+    -- a key that has one has its birth
+    pub AreBirthsOf-found : (slot born : ℕ) (row : T) → rows slot ≡ Some row → births slot ≡ Some born → same key (key_of row) ≡ true → AreBirthsOf same key_of rows births more (list ++ record { born = born; slot = slot } ∷ [])
+    AreBirthsOf-found slot born row here at is =
+        let new : Birth = record { born = born; slot = slot } in
+        record {
+          taken = λ b there. elim (Contains-push_cases list new b there) [
+            | inl before ↦ of_more b (are.taken b before)
+            | inr it ↦ subst (λ n. IsBirthOf same key_of rows births more n) it (record {
+              row = row;
+              here = here;
+              born = at;
+              among = more_is row ∙ or_right (is_among same key_of keys row) (same (key_of row) key) (laws.symm (key_of row) key ∙ is);
+            })
+          ];
+          whole = λ b there. elim (either b there) [
+            | inl before ↦ let had = are.whole b before in (had.0, Contains-append_left list (new ∷ []) had.0 had.1, had.2)
+            | inr now ↦
+                let keys_are : key_of row ≡ key_of there.row = sym (one_key key (key_of row) is) ∙ sym (one_key (key_of there.row) key now) in
+                let slots_are : slot ≡ b.slot = same_Some slot b.slot (sym (indexed slot row here) ∙ ap (found same index) keys_are ∙ indexed b.slot there.row there.here) in
+                (new, Contains-push list new, same_Some born b.born (sym at ∙ ap births slots_are ∙ there.born))
+          ];
+        }
 
-  -- ---- reading them
+  module _ (passes : T → Bool) where
+    -- rows that pass stand there, in these slots
+    abbrev Taken : List ℕ → List Birth → Type 0
+    Taken slots bs = (b : Birth) → Contains bs b → (row : T) × (rows b.slot ≡ Some row) × (births b.slot ≡ Some b.born) × (passes row ≡ true) × (is_in b.slot slots ≡ true)
 
-  -- the key of what was read in a slot
-  abbrev pub key_at : Option (Option T) → List K
-  key_at None = []
-  key_at (Some None) = []
-  key_at (Some (Some row)) = key_of row ∷ []
+    -- and those of all that pass in these slots
+    abbrev Whole : List ℕ → List Birth → Type 0
+    Whole slots bs = (s : ℕ) (row : T) (born : ℕ) → is_in s slots ≡ true → rows s ≡ Some row → passes row ≡ true → births s ≡ Some born → (b : Birth) × Contains bs b × (b.born ≡ born)
 
-  abbrev pub keys_at : (ℕ → Option (Option T)) → List ℕ → List K
-  keys_at read [] = []
-  keys_at read (p ∷ ps) = key_at (read p) ++ keys_at read ps
+    -- where none stands in the first slot, all stand in the others
+    skipped : (s : ℕ) (slots : List ℕ) (bs : List Birth) → Taken (s ∷ slots) bs → ((b : Birth) → Contains bs b → b.slot ≡ s → ⊥) → Taken slots bs
+    skipped s slots bs taken never b there =
+        let it = taken b there in
+        elim (or_cases (eqb b.slot s) (is_in b.slot slots) it.4) [
+          | inl is ↦ absurd (never b there (eqb-true b.slot s is))
+          | inr later ↦ (it.0, it.1, it.2, it.3, later)
+        ]
 
-  pub keys_at-push : (read : ℕ → Option (Option T)) (ps : List ℕ) (p : ℕ) → keys_at read (ps ++ p ∷ []) ≡ keys_at read ps ++ key_at (read p)
-  keys_at-push read [] p = append-nil (key_at (read p))
-  keys_at-push read (q ∷ ps) p =
-      ap (λ rest. key_at (read q) ++ rest) (keys_at-push read ps p)
-      ∙ sym (append_assoc (key_at (read q)) (keys_at read ps) (key_at (read p)))
+    raised : (low next : ℕ) (slots : List ℕ) (bs : List Birth) → AreBorn births low next slots → Taken slots bs → (old : ℕ) → AreRising old bs → AreRising low bs
+    raised low next slots [] are taken old rise = tt
+    raised low next slots (b ∷ bs) are taken old rise =
+        let it = taken b (in_front b bs) in (born-least births low next slots b.slot b.born are it.4 it.2, rise.1)
 
-  module _ (read : ℕ → Option (Option T)) (passes : T → Bool) where
-    -- in these slots stand rows that pass
-    abbrev Taken : List ℕ → Type 0
-    Taken ps = (slot : ℕ) → Contains ps slot → (row : T) × (read slot ≡ Some (Some row)) × (passes row ≡ true)
+    -- so it is of later slots
+    abbrev Again : List ℕ → ℕ → Type 0
+    Again slots low = (more : List Birth) → AreRising low more → Taken slots more → Whole slots more
+        → keys_born key_of rows more ≡ map key_of (filter passes (rows_at rows slots))
 
-    -- and all that stand from this one on
-    abbrev Whole : ℕ → List ℕ → Type 0
-    Whole low ps = (slot : ℕ) (row : T) → low ≤ slot → read slot ≡ Some (Some row) → passes row ≡ true → Contains ps slot
+    pub in_order : (slots : List ℕ) (low next : ℕ) (bs : List Birth) → AreBorn births low next slots → AreRising low bs → Taken slots bs → Whole slots bs → keys_born key_of rows bs ≡ map key_of (filter passes (rows_at rows slots))
+    in_order [] low next [] are rise taken whole = refl
+    in_order [] low next (b ∷ bs) are rise taken whole = absurd (false≢true (taken b (in_front b bs)).4)
+    in_order (s ∷ slots) low next bs are rise taken whole =
+        at (λ more up_more taken_more whole_more. in_order slots (are.0 + 1) next more are.3 up_more taken_more whole_more) (rows s) refl
+      where
+        later : (s' : ℕ) → is_in s' slots ≡ true → is_in s' (s ∷ slots) ≡ true
+        later s' there = or_right (eqb s' s) (is_in s' slots) there
 
-    -- from this one on these are the slots
-    abbrev Shows : ℕ → List (Option T) → Type 0
-    Shows low slots = (i : ℕ) → read (low + i) ≡ slice_get slots i
+        -- where the row of the first slot does not pass
+        passed_by : Again slots (are.0 + 1) → ((row : T) → rows s ≡ Some row → passes row ≡ false) → keys_born key_of rows bs ≡ map key_of (filter passes (rows_at rows slots))
+        passed_by again fails =
+            let rest = skipped s slots bs taken (λ b there is. let it = taken b there in true≢false (sym it.3 ∙ fails it.0 (ap rows (sym is) ∙ it.1))) in
+            again bs (raised (are.0 + 1) next slots bs are.3 rest low rise) rest (λ s' row born there. whole s' row born (later s' there))
 
-    shown : (low : ℕ) (s : Option T) (slots : List (Option T)) → Shows low (s ∷ slots) → read low ≡ Some s
-    shown low s slots shows = let is : low ≡ low + 0 = omega arith in ap read is ∙ shows 0
+        -- where it passes, its birth is the first
+        first : Again slots (are.0 + 1) → (row : T) → rows s ≡ Some row → passes row ≡ true → (bs : List Birth) → AreRising low bs → Taken (s ∷ slots) bs → Whole (s ∷ slots) bs → keys_born key_of rows bs ≡ key_of row ∷ map key_of (filter passes (rows_at rows slots))
+        first again row here is [] rise taken whole = let it = whole s row are.0 (is_in-here s slots) here is are.1 in absurd (in_none it.0 it.1)
+        first again row here is (b ∷ bs) rise taken whole =
+            let it = taken b (in_front b bs) in
+            let own = whole s row are.0 (is_in-here s slots) here is are.1 in
+            let own_is : own.0.born ≡ are.0 = own.2 in
+            let least : b.born ≤ are.0 = elim (front_or_rest b bs own.0 own.1) [
+              | inl e ↦ let born = ap (λ (y : Birth). y.born) e in omega arith
+              | inr behind ↦ let past = rising-least (b.born + 1) bs own.0 rise.1 behind in omega arith
+            ] in
+            let at_s : b.slot ≡ s = elim (or_cases (eqb b.slot s) (is_in b.slot slots) it.4) [
+              | inl e ↦ eqb-true b.slot s e
+              | inr behind ↦ let past = born-least births (are.0 + 1) next slots b.slot b.born are.3 behind it.2 in absurd (omega arith)
+            ] in
+            let born_is : b.born ≡ are.0 = same_Some b.born are.0 (sym it.2 ∙ ap births at_s ∙ are.1) in
+            let rest : Taken slots bs = skipped s slots bs (λ c there. taken c (in_rest b bs c there)) (λ c there e.
+            let past = rising-least (b.born + 1) bs c rise.1 there in
+            let own_born : c.born ≡ are.0 = same_Some c.born are.0 (sym (taken c (in_rest b bs c there)).2 ∙ ap births e ∙ are.1) in
+            absurd (omega arith)) in
+            ap (λ o. before_keys key_of o (keys_born key_of rows bs)) (ap rows at_s ∙ here)
+            ∙ ap (λ keys. key_of row ∷ keys)
+            (again bs (raised (are.0 + 1) next slots bs are.3 rest (b.born + 1) rise.1) rest
+            (λ s' r born there at_s' pass at_born.
+            let got = whole s' r born (later s' there) at_s' pass at_born in
+            let past = born-least births (are.0 + 1) next slots s' born are.3 there at_born in
+            let got_is : got.0.born ≡ born = got.2 in
+            elim (front_or_rest b bs got.0 got.1) [
+              | inl e ↦ let born' = ap (λ (y : Birth). y.born) e in absurd (omega arith)
+              | inr behind ↦ (got.0, behind, got.2)
+            ]))
 
-    shows-rest : (low : ℕ) (s : Option T) (slots : List (Option T)) → Shows low (s ∷ slots) → Shows (low + 1) slots
-    shows-rest low s slots shows i = let is : low + 1 + i ≡ low + suc i = omega arith in ap read is ∙ shows (suc i)
-
-    whole-rest : (low : ℕ) (ps : List ℕ) → Whole low ps → Whole (low + 1) ps
-    whole-rest low ps whole slot row past is pass = whole slot row (omega arith) is pass
-
-    no_slots : (low : ℕ) (ps : List ℕ) → Shows low [] → IsRising low ps → Taken ps → keys_at read ps ≡ []
-    no_slots low [] shows up taken = refl
-    no_slots low (p ∷ ps) shows up taken =
-        let first = up.0 in
-        let it = taken p (in_front p ps) in
-        let is : low + (p - low) ≡ p = omega arith in
-        absurd (none-some (Some it.0) (sym (shows (p - low)) ∙ ap read is ∙ it.1))
-
-    -- where the row of the first slot passes, it is the first that is read
-    row_first : (low : ℕ) (row : T) (rest : List K) (ps : List ℕ) → read low ≡ Some (Some row) → IsRising low ps → Taken ps → Whole low ps → Contains ps low
-        → ((ps : List ℕ) → IsRising (low + 1) ps → Taken ps → Whole (low + 1) ps → keys_at read ps ≡ rest) → keys_at read ps ≡ key_of row ∷ rest
-    row_first low row rest [] here up taken whole there again = absurd (in_none low there)
-    row_first low row rest (p ∷ ps) here up taken whole there again =
-        let is : p ≡ low = rising-front low p ps up there in
-        ap (λ o. key_at o ++ keys_at read ps) (ap read is ∙ here)
-        ∙ ap (λ keys. key_of row ∷ keys)
-        (again ps (subst (λ n. IsRising (n + 1) ps) is up.1) (λ slot in_ps. taken slot (in_rest p ps slot in_ps))
-        (λ slot r past at_slot pass. elim (front_or_rest p ps slot (whole slot r (omega arith) at_slot pass)) [ inl same_slot ↦ absurd (omega arith) | inr behind ↦ behind ]))
-
-    keys_at-order : (slots : List (Option T)) (low : ℕ) (ps : List ℕ) → Shows low slots → IsRising low ps → Taken ps → Whole low ps → keys_at read ps ≡ map key_of (filter passes (standing slots))
-    keys_at-order [] low ps shows up taken whole = no_slots low ps shows up taken
-    keys_at-order (None ∷ slots) low ps shows up taken whole =
-        keys_at-order slots (low + 1) ps (shows-rest low None slots shows)
-        (rising-past low ps up (λ there. let it = taken low there in none-some it.0 (same_Some None (Some it.0) (sym (shown low None slots shows) ∙ it.1))))
-        taken (whole-rest low ps whole)
-    keys_at-order (Some row ∷ slots) low ps shows up taken whole =
-        let here = shown low (Some row) slots shows in
-        by_test (λ b. passes row ≡ b → keys_at read ps ≡ map key_of (cond b (row ∷ filter passes (standing slots)) (filter passes (standing slots)))) (passes row)
-        (λ _ is. row_first low row (map key_of (filter passes (standing slots))) ps here up taken whole (whole low row (le_refl low) here is)
-        (λ rest. keys_at-order slots (low + 1) rest (shows-rest low (Some row) slots shows)))
-        (λ _ fails. keys_at-order slots (low + 1) ps (shows-rest low (Some row) slots shows)
-        (rising-past low ps up (λ there.
-        let it = taken low there in
-        let one = same_Some row it.0 (same_Some (Some row) (Some it.0) (sym here ∙ it.1)) in
-        true≢false (sym it.2 ∙ ap passes (sym one) ∙ fails)))
-        taken (whole-rest low ps whole))
-        refl
-
-  -- the slots of the rows of these keys, in rising order, give the keys of the rows in their order
-  pub keys_at-slots : (keys : List K) (slots : List (Option T)) (places : List ℕ) → AreSlotsOf same key_of keys slots places → IsStrictlyIncreasing places
-      → keys_at (slice_get slots) places ≡ map key_of (filter (is_among same key_of keys) (standing slots))
-  keys_at-slots keys slots places are up =
-      keys_at-order (slice_get slots) (is_among same key_of keys) slots 0 places
-      (λ i. let is : 0 + i ≡ i = omega arith in ap (slice_get slots) is)
-      (rising 0 places (λ some. omega arith) up)
-      (λ slot there. let it = are.taken slot there in (it.row, it.here, it.among))
-      (λ slot row _ here pass. are.whole slot (record { row = row; here = here; among = pass }))
+        at : Again slots (are.0 + 1) → (o : Option T) → rows s ≡ o → keys_born key_of rows bs ≡ map key_of (filter passes (before_rows o (rows_at rows slots)))
+        at again None e = passed_by again (λ row here. absurd (none-some row (sym e ∙ here)))
+        at again (Some row) e =
+            by_test (λ t. passes row ≡ t → keys_born key_of rows bs ≡ map key_of (cond t (row ∷ filter passes (rows_at rows slots)) (filter passes (rows_at rows slots)))) (passes row)
+            (λ _ is. first again row e is bs rise taken whole)
+            (λ _ fails. passed_by again (λ r here. ap passes (same_Some r row (sym here ∙ e)) ∙ fails))
+            refl

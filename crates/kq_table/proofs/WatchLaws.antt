@@ -1,165 +1,92 @@
--- The watches of an index as its links tell them, and a walk over those of one target.
-use Rattle.std.proofs.Common.{◌≡◌, suc, ◌+◌, ◌<◌, Bool, cond, not, List, [], ◌∷◌, ◌++◌, map, filter, length, Option, Some, None, slice_get, refl, sym, ap, ◌∙◌, subst, arith, length-append}
-use Rattle.std.proofs.lemmas.Option.{none-some, same_Some}
+-- Who watches a target first, and who watches the same target next behind a key.
+use Rattle.std.proofs.Common.{◌≡◌, ℕ, Bool, true, cond, eqb, List, ◌∷◌, ◌++◌, Option, Some, None, slice_get, refl, sym, ap, ◌∙◌, subst}
+use Rattle.std.proofs.lemmas.Bool.{or_right}
+use Rattle.std.proofs.lemmas.Option.{none-some, same_Some, slice_get-map}
 use Rattle.std.specs.Cmp.{IsEquivalence}
-use Rattle.std.specs.Option.{option_map}
-use Rattle.kq_table.specs.declared.watch.Watch.{Watch}
-use Rattle.kq_table.specs.declared.watch.Link.{Link}
-use Rattle.kq_table.specs.declared.watch.Ends.{Ends}
-use Rattle.kq_table.specs.Rows.{find_row, without_row, HaveOwnKeys}
-use Rattle.kq_table.specs.Links.{keys_watching, watch_of, of_target, first_key, AreLinked, AreEnds, IsWoven}
-use Rattle.kq_table.proofs.RowLaws.{by_test, find_row-none, find_row-cons}
-use Rattle.kq_table.proofs.FoundLaws.{find_row-middle, find_row-of_filter, HaveOwnKeys-filter}
+use Rattle.std.specs.HashMap.{HashMap, get as found}
+use Rattle.std.specs.Option.{IfSome, option_map, option_and_then}
+use Rattle.slab.specs.Slab.{Slab}
+use Rattle.kq_table.specs.declared.node.Ends.{Ends}
+use Rattle.kq_table.specs.declared.node.Links.{Links}
+use Rattle.kq_table.specs.declared.node.Node.{Node}
+use Rattle.kq_table.specs.declared.node.Thread.TheVariants.{Watch}
+use Rattle.kq_table.specs.declared.placed.Placed.{Placed}
+use Rattle.kq_table.specs.Links.{is_target, keys_watching, first_watching, first_alike, next_watching}
+use Rattle.kq_table.specs.Rows.{find_row, rows_behind}
+use Rattle.kq_table.specs.Threads.{is_in, AreDistinct, AreLinked, head_or, last_or, IsThread, rows_in, links_in, rows_at}
+use Rattle.kq_table.specs.Kept.{ends_of, watches, watching, AreApart, IsKept}
+use Rattle.kq_table.proofs.AlongLaws.{keys-watching}
+use Rattle.kq_table.proofs.EnterLaws.{in_watching}
+use Rattle.kq_table.proofs.KeptLaws.{first-at, filled, apart, there, found-row}
+use Rattle.kq_table.proofs.SeatLaws.{AreFilled, parted, find_row-parted, rows_behind-parted}
+use Rattle.kq_table.proofs.ThreadLaws.{at_split, in_right, AreLinked-between}
+use Rattle.kq_table.proofs.WithoutLaws.{filter-append}
 
-abbrev kept : {T : Type 0} → T → List T → Bool → List T
-kept x rest b = cond b (x ∷ rest) rest
+-- the key of a row with its place is that of the row
+pub placed-key : {K T : Type 0} (key_of : T → K) (o : Option (Placed T)) → option_map (λ (p : Placed T). key_of p.row) o ≡ option_map key_of (option_map (λ (p : Placed T). p.row) o)
+placed-key key_of None = refl
+placed-key key_of (Some p) = refl
 
-append-nothing : {T : Type 0} (rows : List T) → rows ++ [] ≡ rows
-append-nothing [] = refl
-append-nothing (x ∷ rows) = ap (λ rest. x ∷ rest) (append-nothing rows)
+module _ {K T G S R : Type 0} {same : K → K → Bool} {alike : G → G → Bool} {key_of : T → K} {target_of : T → Option G}
+    (laws : IsEquivalence same) (matches : IsEquivalence alike) (one_key : (a b : K) → same a b ≡ true → a ≡ b)
+    {nodes : Slab (Node T)} {index : HashMap K ℕ S} {targets : HashMap G Ends R} {order queue : Ends} {waiting limit births : ℕ}
+    (k : IsKept same alike key_of target_of nodes index targets order queue waiting limit births) where
+  -- the row at a slot, where one is named, is that of its key
+  pub row-found : (o : Option ℕ) (row : T) → option_and_then (rows_in nodes) o ≡ Some row → find_row same key_of (key_of row) (rows_at (rows_in nodes) k.slots) ≡ Some row
+  row-found None row none = absurd (none-some row none)
+  row-found (Some slot) row here = found-row laws one_key k (key_of row) slot row here (laws.refl (key_of row))
 
-append-one : {T : Type 0} (rows : List T) (x : T) (more : List T) → rows ++ x ∷ more ≡ (rows ++ x ∷ []) ++ more
-append-one [] x more = refl
-append-one (y ∷ rows) x more = ap (λ rest. y ∷ rest) (append-one rows x more)
+  pub placed-found : (o : Option (Placed T)) (at : Option ℕ) (all : List T) → option_map (λ (p : Placed T). p.row) o ≡ option_and_then (rows_in nodes) at → rows_at (rows_in nodes) k.slots ≡ all
+      → IfSome o (λ p. find_row same key_of (key_of p.row) all ≡ Some p.row)
+  placed-found None at all is all_is = tt
+  placed-found (Some p) at all is all_is = ap (find_row same key_of (key_of p.row)) (sym all_is) ∙ row-found at p.row (sym is)
 
-append-append : {T : Type 0} (rows more most : List T) → (rows ++ more) ++ most ≡ rows ++ (more ++ most)
-append-append [] more most = refl
-append-append (y ∷ rows) more most = ap (λ rest. y ∷ rest) (append-append rows more most)
+  pub part-filled : (target : G) (l : List ℕ) → ((t : ℕ) → is_in t l ≡ true → is_in t k.slots ≡ true) → AreFilled (rows_in nodes) (watching alike target_of target (rows_in nodes) l)
+  part-filled target l within t in_l = filled laws one_key k t (within t (in_watching alike target_of matches target (rows_in nodes) l t in_l).0)
 
-pub map-append : {A B : Type 0} (f : A → B) (rows : List A) (x : A) → map f (rows ++ x ∷ []) ≡ map f rows ++ f x ∷ []
-map-append f [] x = refl
-map-append f (y ∷ rows) x = ap (λ rest. f y ∷ rest) (map-append f rows x)
+  pub first-watching : (target : G) → option_map key_of (option_and_then (rows_in nodes) (ends_of (found alike targets target)).first) ≡ slice_get (keys_watching alike key_of target_of target (rows_at (rows_in nodes) k.slots)) 0
+  first-watching target =
+      let l = watching alike target_of target (rows_in nodes) k.slots in
+      ap (λ o. option_map key_of (option_and_then (rows_in nodes) o)) (k.entered.watched target).first
+      ∙ ap (option_map key_of) (sym (first-at (rows_in nodes) l (part-filled target k.slots (λ t in_l. in_l))))
+      ∙ sym (slice_get-map key_of (rows_at (rows_in nodes) l) 0)
+      ∙ ap (λ keys. slice_get keys 0) (keys-watching alike key_of target_of target (rows_in nodes) k.slots (filled laws one_key k))
 
-module _ {K G : Type 0} (same : K → K → Bool) (alike : G → G → Bool) where
-  abbrev key_of : Link K G → K
-  key_of l = l.key
+  module _ (key : K) (slot : ℕ) (row : T) (here : rows_in nodes slot ≡ Some row) (is : same key (key_of row) ≡ true) where
+    at_target : (xs ys : List ℕ) → AreDistinct (xs ++ slot ∷ ys) → AreApart same key_of (rows_in nodes) (xs ++ slot ∷ ys) → (o : Option G) → target_of row ≡ o
+        → next_watching alike key_of target_of same key (rows_at (rows_in nodes) (xs ++ slot ∷ ys)) ≡ first_watching alike key_of target_of o (rows_at (rows_in nodes) ys)
+    at_target xs ys distinct ap_l o o_is =
+        let p = parted same key_of laws (rows_in nodes) key slot row xs ys distinct ap_l here is in
+        let before = rows_at (rows_in nodes) xs in
+        let behind = rows_at (rows_in nodes) ys in
+        ap (next_watching alike key_of target_of same key) p.all_is
+        ∙ ap (λ r. first_alike alike key_of target_of r (rows_behind same key_of key (before ++ row ∷ behind))) (find_row-parted same key_of laws key row before behind p.none_before is)
+        ∙ ap (first_watching alike key_of target_of (target_of row)) (rows_behind-parted same key_of laws key row before behind p.none_before is)
+        ∙ ap (λ t. first_watching alike key_of target_of t behind) o_is
 
-  pub IsWoven-empty : (links : List (Link K G)) (ends : List (Ends K G)) → links ≡ [] → ends ≡ [] → IsWoven same alike links ends
-  IsWoven-empty links ends no_links no_ends =
-      subst (λ (ls : List (Link K G)). IsWoven same alike ls ends) (sym no_links)
-      (subst (λ (es : List (Ends K G)). IsWoven same alike [] es) (sym no_ends)
-      (record {
-        own_keys = tt;
-        own_ends = tt;
-        linked = λ target. tt;
-        ended = λ target. subst (λ o. AreEnds o []) (sym (find_row-none alike (λ (e : Ends K G). e.target) target)) refl;
-      }))
+    pub next-none : target_of row ≡ None → next_watching alike key_of target_of same key (rows_at (rows_in nodes) k.slots) ≡ None
+    next-none none =
+        at_split (λ l. AreDistinct l → AreApart same key_of (rows_in nodes) l → next_watching alike key_of target_of same key (rows_at (rows_in nodes) l) ≡ None) slot k.slots (there laws one_key k key slot row here is)
+        (λ xs ys d a. at_target xs ys d a None none) k.ordered.distinct (apart laws one_key k)
 
-  -- ---- watches and links
-
-  pub keys-of_target : (target : G) (links : List (Link K G)) → keys_watching alike target (map watch_of links) ≡ map key_of (of_target alike target links)
-  keys-of_target target [] = refl
-  keys-of_target target (l ∷ links) =
-      by_test (λ b. map (λ (w : Watch K G). w.key) (kept (watch_of l) (filter (λ (w : Watch K G). alike target w.target) (map watch_of links)) b) ≡ map key_of (kept l (of_target alike target links) b)) (alike target l.target)
-      (λ _. ap (λ rest. l.key ∷ rest) (keys-of_target target links)) (λ _. keys-of_target target links)
-
-  pub find_row-watches : (key : K) (links : List (Link K G)) → find_row same (λ (w : Watch K G). w.key) key (map watch_of links) ≡ option_map watch_of (find_row same key_of key links)
-  find_row-watches key [] = find_row-none same (λ (w : Watch K G). w.key) key ∙ ap (option_map watch_of) (sym (find_row-none same key_of key))
-  find_row-watches key (l ∷ links) =
-      find_row-cons same (λ (w : Watch K G). w.key) key (watch_of l) (map watch_of links)
-      ∙ by_test (λ b. cond b (Some (watch_of l)) (find_row same (λ (w : Watch K G). w.key) key (map watch_of links)) ≡ option_map watch_of (cond b (Some l) (find_row same key_of key links))) (same key l.key)
-      (λ _. refl) (λ _. find_row-watches key links)
-      ∙ ap (option_map watch_of) (sym (find_row-cons same key_of key l links))
-
-  -- where no watch is of the key, no link is
-  pub absent-link : (key : K) (links : List (Link K G)) → find_row same (λ (w : Watch K G). w.key) key (map watch_of links) ≡ None → find_row same key_of key links ≡ None
-  absent-link key links absent = of_none (find_row same key_of key links) (sym (find_row-watches key links) ∙ absent)
-    where
-      of_none : (o : Option (Link K G)) → option_map watch_of o ≡ None → o ≡ None
-      of_none None e = refl
-      of_none (Some l) e = absurd (none-some (watch_of l) (sym e))
-
-  pub without_row-watches : (gone : K) (links : List (Link K G)) → map watch_of (without_row same key_of gone links) ≡ without_row same (λ (w : Watch K G). w.key) gone (map watch_of links)
-  without_row-watches gone [] = refl
-  without_row-watches gone (l ∷ links) =
-      by_test (λ b. map watch_of (kept l (without_row same key_of gone links) (not b)) ≡ kept (watch_of l) (without_row same (λ (w : Watch K G). w.key) gone (map watch_of links)) (not b)) (same gone l.key)
-      (λ _. without_row-watches gone links) (λ _. ap (λ rest. watch_of l ∷ rest) (without_row-watches gone links))
-
-  -- the first key of a target is the first that watches it
-  pub first-watching : (o : Option (Ends K G)) (links : List (Link K G)) → AreEnds o links → option_map (λ (e : Ends K G). e.first) o ≡ slice_get (map key_of links) 0
-  first-watching None links none = ap (λ (ls : List (Link K G)). slice_get (map key_of ls) 0) (sym none)
-  first-watching (Some ends) [] ended = absurd (none-some ends.first ended.0)
-  first-watching (Some ends) (l ∷ links) ended = sym ended.0
-
-  -- ---- a walk
-
-  -- these keys were found behind those of before, and this one is next
-  pub record IsAlong (before found : List K) (next : Option K) (links : List (Link K G)) : Type 0 where
-    pub done : List (Link K G)
-    pub rest : List (Link K G)
-    pub parts : links ≡ done ++ rest
-    pub found_is : found ≡ before ++ map key_of done
-    pub next_is : next ≡ first_key rest
-    pub back : Option K
-    pub linked : AreLinked back rest
-
-  pub IsAlong-start : (before : List K) (next : Option K) (links : List (Link K G)) → next ≡ slice_get (map key_of links) 0 → AreLinked None links → IsAlong before before next links
-  IsAlong-start before next links first linked = record {
-    done = [];
-    rest = links;
-    parts = refl;
-    found_is = sym (append-nothing before);
-    next_is = first ∙ at_front links;
-    back = None;
-    linked = linked;
-  }
-    where
-      at_front : (ls : List (Link K G)) → slice_get (map key_of ls) 0 ≡ first_key ls
-      at_front [] = refl
-      at_front (l ∷ ls) = refl
-
-  pub IsAlong-end : (before found : List K) (links : List (Link K G)) → IsAlong before found None links → found ≡ before ++ map key_of links
-  IsAlong-end before found links along =
-      along.found_is ∙ ap (λ (ls : List (Link K G)). before ++ map key_of ls) (sym (along.parts ∙ ap (λ ls. along.done ++ ls) (no_rest along.rest along.next_is) ∙ append-nothing along.done))
-    where
-      no_rest : (ls : List (Link K G)) → None ≡ first_key ls → ls ≡ []
-      no_rest [] e = refl
-      no_rest (l ∷ ls) e = absurd (none-some l.key e)
-
-  pub length-keys : (links : List (Link K G)) → length (map key_of links) ≡ length links
-  length-keys [] = refl
-  length-keys (l ∷ links) = ap suc (length-keys links)
-
-  pub length-watches : (links : List (Link K G)) → length (map watch_of links) ≡ length links
-  length-watches [] = refl
-  length-watches (l ∷ links) = ap suc (length-watches links)
-
-  -- some are still to be found
-  pub IsAlong-within : (before found : List K) (key : K) (links : List (Link K G)) → IsAlong before found (Some key) links → length found < length before + length links
-  IsAlong-within before found key links along = at along.rest along.next_is along.parts
-    where
-      at : (ls : List (Link K G)) → Some key ≡ first_key ls → links ≡ along.done ++ ls → length found < length before + length links
-      at [] e parts = absurd (none-some key (sym e))
-      at (l ∷ ls) e parts =
-          let whole = ap length parts ∙ length-append along.done (l ∷ ls) in
-          let far = ap length along.found_is ∙ length-append before (map key_of along.done) in
-          let mapped = length-keys along.done in
-          omega arith
-
-  module _ (laws : IsEquivalence same) (all : List (Link K G)) (own : HaveOwnKeys same key_of all) (target : G) where
-    -- the next link is found in the table by its key, and tells the one behind it
-    pub IsAlong-step : (before found : List K) (key : K) → IsAlong before found (Some key) (of_target alike target all)
-        → (l : Link K G) × (find_row same key_of key all ≡ Some l) × IsAlong before (found ++ key ∷ []) l.after (of_target alike target all)
-    IsAlong-step before found key along = at along.rest along.next_is along.parts along.linked
-      where
-        at : (ls : List (Link K G)) → Some key ≡ first_key ls → of_target alike target all ≡ along.done ++ ls → AreLinked along.back ls
-            → (l : Link K G) × (find_row same key_of key all ≡ Some l) × IsAlong before (found ++ key ∷ []) l.after (of_target alike target all)
-        at [] e parts linked = absurd (none-some key (sym e))
-        at (l ∷ ls) e parts linked =
-            let key_is = same_Some key l.key e in
-            let own_there = HaveOwnKeys-filter same key_of laws (λ (m : Link K G). alike target m.target) all own in
-            let there = subst (λ (ms : List (Link K G)). find_row same key_of l.key ms ≡ Some l) (sym parts)
-            (find_row-middle same key_of laws along.done l ls (subst (λ (ms : List (Link K G)). HaveOwnKeys same key_of ms) parts own_there)) in (
-              l,
-              ap (λ k. find_row same key_of k all) key_is ∙ (find_row-of_filter same key_of laws (λ (m : Link K G). alike target m.target) l.key all l own there).0,
-              record {
-                done = along.done ++ l ∷ [];
-                rest = ls;
-                parts = parts ∙ append-one along.done l ls;
-                found_is = ap (λ (ks : List K). ks ++ key ∷ []) along.found_is ∙ append-append before (map key_of along.done) (key ∷ [])
-                    ∙ ap (λ ks. before ++ ks) (ap (λ k. map key_of along.done ++ k ∷ []) key_is ∙ sym (map-append key_of along.done l));
-                next_is = linked.1;
-                back = Some l.key;
-                linked = linked.2;
-              },
-            )
+    pub next-some : (target : G) (links : Links) → target_of row ≡ Some target → links_in Watch nodes slot ≡ Some links
+        → option_map key_of (option_and_then (rows_in nodes) links.after) ≡ next_watching alike key_of target_of same key (rows_at (rows_in nodes) k.slots)
+    next-some target links target_is at =
+        at_split (λ l. AreDistinct l → AreApart same key_of (rows_in nodes) l → ((t : ℕ) → is_in t l ≡ true → is_in t k.slots ≡ true)
+        → IsThread (links_in Watch nodes) (ends_of (found alike targets target)) (watching alike target_of target (rows_in nodes) l)
+        → option_map key_of (option_and_then (rows_in nodes) links.after) ≡ next_watching alike key_of target_of same key (rows_at (rows_in nodes) l)) slot k.slots (there laws one_key k key slot row here is)
+        (λ xs ys d a within thread.
+        let p = λ (s : ℕ). watches alike target_of target (rows_in nodes s) in
+        let front = watching alike target_of target (rows_in nodes) xs in
+        let back = watching alike target_of target (rows_in nodes) ys in
+        let passes : watches alike target_of target (rows_in nodes slot) ≡ true = ap (watches alike target_of target) here ∙ ap (is_target alike target) target_is ∙ matches.refl target in
+        let split : watching alike target_of target (rows_in nodes) (xs ++ slot ∷ ys) ≡ front ++ slot ∷ back = filter-append p xs (slot ∷ ys) ∙ ap (λ b. front ++ cond b (slot ∷ back) back) passes in
+        let between = same_Some links (record { before = last_or None front; after = head_or None back })
+        (sym at ∙ AreLinked-between (links_in Watch nodes) front slot back (subst (λ l. AreLinked (links_in Watch nodes) None l None) split thread.linked)) in
+        let within_ys = λ (t : ℕ) (in_ys : is_in t ys ≡ true). within t (in_right t xs (slot ∷ ys) (or_right (eqb t slot) (is_in t ys) in_ys)) in
+        ap (λ (l : Links). option_map key_of (option_and_then (rows_in nodes) l.after)) between
+        ∙ ap (option_map key_of) (sym (first-at (rows_in nodes) back (part-filled target ys within_ys)))
+        ∙ sym (slice_get-map key_of (rows_at (rows_in nodes) back) 0)
+        ∙ ap (λ keys. slice_get keys 0) (keys-watching alike key_of target_of target (rows_in nodes) ys (λ t in_ys. filled laws one_key k t (within_ys t in_ys)))
+        ∙ sym (at_target xs ys d a (Some target) target_is))
+        k.ordered.distinct (apart laws one_key k) (λ t in_l. in_l) (k.entered.watched target)

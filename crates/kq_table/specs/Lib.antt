@@ -1,3 +1,6 @@
 pub mod Rows
-pub mod Slots
 pub mod Links
+pub mod Threads
+pub mod Kept
+pub mod Births
+pub mod OneKey

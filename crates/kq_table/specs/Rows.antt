@@ -1,13 +1,17 @@
--- Rows in order, told apart by their keys. `same` tells whether two keys are one, and `key_of` gives a row's key.
-use Rattle.std.specs.Prelude.{◌≡◌, ℕ, Bool, not, List, [], ◌∷◌, map, filter, Option, Some, None, slice_get}
-use Rattle.std.specs.Prelude.{if◌then◌else◌}
+-- Rows in order, told apart by their keys, and the queue of those that wait. `same` tells whether two keys are one,
+-- and `key_of` gives a row's key.
+use Rattle.std.specs.Prelude.{◌≡◌, ℕ, Bool, true, false, not, List, [], ◌∷◌, ◌++◌}
+use Rattle.std.specs.Prelude.{map, filter, Option, Some, None, slice_get}
+use Rattle.std.specs.Prelude.{if◌then◌else◌, is_some}
 use Rattle.std.specs.List.{list_any}
 
 -- what contracts see of a table
-pub record Tabled (T : Type 0) : Type 0 where
+pub record Tabled (K T : Type 0) : Type 0 where
   -- in the order in which they were attached
   pub rows : List T
-  -- how many more fit
+  -- the keys of those that wait, the next one first
+  pub queue : List K
+  -- how many more rows fit
   pub room : ℕ
 
 module _ {K T : Type 0} (same : K → K → Bool) (key_of : T → K) where
@@ -42,3 +46,37 @@ module _ {K T : Type 0} (same : K → K → Bool) (key_of : T → K) where
   abbrev pub HaveOwnKeys : List T → Type 0
   HaveOwnKeys [] = Unit {0}
   HaveOwnKeys (row ∷ rows) = (find_row (key_of row) rows ≡ None) × HaveOwnKeys rows
+
+-- ---- the queue
+
+module _ {K : Type 0} (same : K → K → Bool) where
+  -- the key is in the queue
+  abbrev pub waits_in : K → List K → Bool
+  waits_in key queue = list_any (same key) queue
+
+  -- the key is in the queue, where it was not at the back
+  abbrev pub enqueued : K → List K → List K
+  enqueued key queue = if waits_in key queue then queue else queue ++ key ∷ []
+
+  -- the queue without this key
+  abbrev pub without_waiting : K → List K → List K
+  without_waiting key queue = filter (λ other. not (same key other)) queue
+
+  -- the key behind this one; none where this is the last, or not there
+  unfoldable pub key_behind : K → List K → Option K
+  key_behind key [] = None
+  key_behind key (other ∷ queue) = if same key other then slice_get queue 0 else key_behind key queue
+
+  -- no key stands twice in the queue
+  abbrev pub AreOnce : List K → Type 0
+  AreOnce [] = Unit {0}
+  AreOnce (key ∷ queue) = (waits_in key queue ≡ false) × AreOnce queue
+
+module _ {K T : Type 0} (same : K → K → Bool) (key_of : T → K) where
+  -- the queue after this key was put in, which only a key that has a row can be
+  abbrev pub put_in : K → List T → List K → List K
+  put_in key rows queue = if is_some (find_row same key_of key rows) then enqueued same key queue else queue
+
+  -- each key in the queue has a row
+  abbrev pub HaveRows : List K → List T → Type 0
+  HaveRows queue rows = (key : K) → waits_in same key queue ≡ true → is_some (find_row same key_of key rows) ≡ true

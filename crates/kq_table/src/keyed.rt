@@ -1,25 +1,49 @@
-ghost use Rattle.std.specs.Prelude.{◌≡◌};
+ghost use Rattle.std.specs.Prelude.{◌≡◌, Option, None, true};
 
 use kq_model::Key;
 use std::hash::Hash;
 
-/// A row that is told apart from others by its key.
+/// A row that is told apart from others by its key, and may watch what other rows watch too.
 pub trait Keyed: Copy {
     type Key: Copy + Eq + Hash;
 
+    type Target: Copy + Eq + Hash;
+
     ghost key_of: { Self → Self.Key };
+
+    // None where it watches nothing that others watch.
+    ghost target_of: { Self → Option Self.Target };
 
     fn key(&self) -> Self::Key
         ensures { result ≡ key_of self.now };
+
+    fn target(&self) -> Option<Self::Target>
+        ensures { result ≡ target_of self.now };
+
+    // Keys that are equal are one.
+    ghost one_key: { (a b : Self.Key) → Self.Key.eq a b ≡ true → a ≡ b };
 }
 
-/// A key is a row of itself alone.
+/// A key is a row of itself alone, and watches nothing.
 impl Keyed for Key {
+    ghost use Rattle.std.proofs.Common.{rules};
+    ghost use Rattle.kq_table.specs.OneKey.{one_key_by};
+
     type Key = Key;
 
+    type Target = Key;
+
     ghost key_of = { λ key. key };
+
+    ghost target_of = { λ _. None };
 
     fn key(&self) -> Key {
         *self
     }
+
+    fn target(&self) -> Option<Key> {
+        None
+    }
+
+    ghost one_key = { one_key_by _ (λ a b. Prim.search rules) };
 }

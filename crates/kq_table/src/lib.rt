@@ -1,16 +1,23 @@
-//! A table of rows in order, with an index by key; and an index of keys by what they watch.
+//! A table of rows that stay at their slots, linked in order, by what they watch and in a queue, and found by key.
 #![tactic(auto)]
 
+mod birth;
+mod enter;
+mod find;
 mod keyed;
+mod link;
+mod node;
+mod nodes;
+mod numbered;
 mod order;
-mod place;
 mod placed;
+mod queue;
+mod room;
 mod table;
-mod target_index;
-mod watch;
+mod waiting;
+mod watching;
 
 pub use keyed::Keyed;
+pub use numbered::Birth;
 pub use placed::{Place, Placed};
 pub use table::Table;
-pub use target_index::TargetIndex;
-pub use watch::{Step, Watch, Watcher};

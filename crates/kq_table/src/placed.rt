@@ -1,31 +1,22 @@
-ghost use Rattle.std.specs.Prelude.{◌≡◌, ◌+◌, min};
+ghost use Rattle.std.specs.Prelude.{◌≡◌};
 
-/// Where a row stood in its table when it was found: a guess of where it stands now. Any place may be
-/// given with any key; where the row of the key does not stand there, it is looked up.
+/// The slot where a row stands: a guess, since any place may be given with any key. Where the row of
+/// the key does not stand there, it is looked up.
 #[derive(Debug, Drop, Clone, Copy)]
 pub struct Place {
-    pub(crate) number: usize,
+    pub(crate) slot: usize,
 }
 
 impl Place {
     /// A place where no row is ever found.
     pub fn nowhere() -> Self
-        ensures { result.number ≡ usize.MAX }
+        ensures { result.slot ≡ usize.MAX }
     {
-        Place { number: usize::MAX }
-    }
-
-    /// The place so many slots behind this one.
-    pub fn behind(self, slots: usize) -> Self
-        ensures { result.number ≡ min usize.MAX (self.number + slots) }
-    {
-        Place {
-            number: self.number.saturating_add(slots),
-        }
+        Place { slot: usize::MAX }
     }
 }
 
-/// A row, with the place where it was found.
+/// A row, with the place where it stands.
 #[derive(Debug, Drop, Clone, Copy)]
 pub struct Placed<T> {
     pub row: T,

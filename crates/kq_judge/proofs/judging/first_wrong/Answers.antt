@@ -1,7 +1,7 @@
 use Rattle.std.proofs.Common.{ap, ◌∙◌, arith, rules}
 use Rattle.kq_model.specs.Knote.{has_key}
 use Rattle.kq_model.specs.declared.key.Key.{Key}
-use Rattle.kq_kevent.proofs.TableLaws.{find_row-none}
+use Rattle.kq_judge.proofs.TableLaws.{find_row-none}
 use Rattle.kq_judge.proofs.JudgeLaws.{wrong-own, wrong-past, right-more, rows-more}
 use Rattle.kq_judge.proofs.judging.first_wrong.Goals as goal
 

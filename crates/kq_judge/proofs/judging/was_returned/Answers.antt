@@ -1,5 +1,5 @@
 use Rattle.std.proofs.Common.{◌∙◌, rules}
-use Rattle.kq_kevent.proofs.TableLaws.{find_row-has}
+use Rattle.kq_judge.proofs.TableLaws.{find_row-has}
 use Rattle.kq_judge.proofs.judging.was_returned.Goals as goal
 
 pub returns : goal.returns

@@ -1,6 +1,6 @@
 use Rattle.std.proofs.Common.{◌≡◌, ◌+◌, ◌<◌, Some, suc, slice_get, sym, ap, ◌∙◌, arith, rules}
 use Rattle.kq_kevent.proofs.ArrangeLaws.{key_after-next}
-use Rattle.kq_kevent.proofs.TableLaws.{find_row-none}
+use Rattle.kq_judge.proofs.TableLaws.{find_row-none}
 use Rattle.kq_judge.specs.Allowed.{event_due}
 use Rattle.kq_judge.specs.Verdicts.{looked_at}
 use Rattle.kq_judge.proofs.LookedLaws.{new-there, take-there, looked-goes, looked-ends, looked-stops, looked-full, room-found}

@@ -1,13 +1,16 @@
-use Rattle.std.proofs.Common.{length, ap, arith}
+use Rattle.std.proofs.Common.{◌≡◌, ◌||◌, true, not, cond, ◌++◌, ◌∷◌, [], sym, ap, ◌∙◌}
+use Rattle.kq_model.specs.Knote.{without_key}
+use Rattle.kq_model.specs.Retrieval.{back_after, stays}
 use Rattle.kq_model.specs.Tallied.{Knote}
-use Rattle.kq_knote.proofs.CountLaws.{limit-without_knote}
+use Rattle.kq_kevent.proofs.QueueLaws.{without_key-absent}
 use Rattle.kq_kevent.proofs.retrieve.settle.Goals as goal
 
-pub returns-then-knote-clause-limit : goal.returns-then-knote-clause-limit
-returns-then-knote-clause-limit c =
-    let key = c.args.delivered.now.row.key in
-    let ks = c.args.knotes.now.knotes in
-    let at = ap (λ (k : Knote). k.key) c.knote.view_is in
-    let kept = limit-without_knote c.knote.inside.key ks c.remove_at.result c.args.knotes.now.room
-    c.remove_at.new.self.room c.requires.own_keys c.remove_at.ensures.removed c.remove_at.ensures.room in
-    omega (arith, kept, ap (length {A = Knote}) c.remove_at.ensures.knotes)
+pub returns-then-knote-clause-queue : goal.returns-then-knote-clause-queue
+unfolding back_after stays
+returns-then-knote-clause-queue c =
+    let k = c.args.delivered.now.row in
+    let q = c.args.knotes.now.queue in
+    let once : k.oneshot ≡ true = ap (λ (n : Knote). n.oneshot) (sym c.knote.view_is) ∙ c.if-knote.true in
+    c.remove_at.ensures.queue ∙ ap (λ (n : Knote). without_key n.key q) c.knote.view_is
+    ∙ without_key-absent k.key q c.requires.absent
+    ∙ ap (λ b. cond (not (b || k.clear || k.dispatch)) (q ++ k.key ∷ []) q) (sym once)

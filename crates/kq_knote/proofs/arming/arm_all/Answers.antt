@@ -1,4 +1,4 @@
-use Rattle.std.proofs.Common.{◌-◌, ◌+◌, ◌≤◌, Option, length, rules, ap, ◌∙◌, subst, arith}
+use Rattle.std.proofs.Common.{◌-◌, ◌+◌, ◌≤◌, Option, length, ap, ◌∙◌, subst, arith}
 use Rattle.kq_alarm.specs.Armed.{HasAlarm}
 use Rattle.kq_model.specs.Tallied.{Knote}
 use Rattle.kq_model.specs.Ticks.{last_moment}
@@ -20,7 +20,7 @@ loop-step-preserved c =
     record {
       at = arm-goes c.args.since ks c.requires.own_keys c.in-Some.knote c.next_after-next.result left (length ks - (c.loop-step._step + 1)) c.first_after-first.result
           c.loop-step.alarms.entries c.put_alarm.new.alarms.entries at (omega arith)
-          (c.next_after-next.ensures ∙ row_after-knotes _ (λ a b. search rules) c.knote.inside.key ks ∙ ap (λ (n : Knote). after n.key ks) c.knote.view_is)
+          (c.next_after-next.ensures ∙ row_after-knotes c.knote.inside.key ks ∙ ap (λ (n : Knote). after n.key ks) c.knote.view_is)
           c.first_after-first.ensures c.put_alarm.ensures.kept
           (subst (λ (n : Knote). c.first_after-first.result ≤ last_moment → HasAlarm c.put_alarm.new.alarms.entries c.first_after-first.result n.key.ident) c.knote.view_is
           (c.put_alarm.ensures.here c.if-not-put_alarm.false));

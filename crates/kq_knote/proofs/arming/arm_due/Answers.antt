@@ -1,4 +1,4 @@
-use Rattle.std.proofs.Common.{◌≡◌, ◌+◌, List, Some, take, take_all, get_or, rules, refl, sym, ◌∙◌, subst, arith}
+use Rattle.std.proofs.Common.{◌≡◌, ◌+◌, List, Some, take, take_all, get_or, refl, sym, ◌∙◌, subst, arith}
 use Rattle.std.proofs.lemmas.List.{take_more}
 use Rattle.kq_model.specs.declared.filter.Filter.TheVariants.{Read}
 use Rattle.kq_model.specs.declared.key.Key.{Key}
@@ -25,7 +25,7 @@ loop-key-preserved c =
     let due = c.args.due.now in
     let key : Key = get_or due i no_key in
     let found : find_knote key ks ≡ Some c.in-Some.knote =
-    sym (find_row-knotes _ (λ a b. search rules) key ks) ∙ sym c.find.ensures ∙ c.in-Some.is in
+    sym (find_row-knotes key ks) ∙ sym c.find.ensures ∙ c.in-Some.is in
     record {
       kept = λ e here. c.put_alarm.ensures.kept e (c.loop-key.invariant.kept e here);
       armed = arm-more c.args.to ks (take i due) (take (i + 1) due) key c.in-Some.knote c.first_after-first.result c.loop-key.alarms.entries c.put_alarm.new.alarms.entries

@@ -1,5 +1,4 @@
 use Rattle.std.proofs.Common.{sym, ap, ◌∙◌}
-use Rattle.kq_model.specs.Knote.{find_knote}
 use Rattle.kq_model.specs.Registration.{with_removed}
 use Rattle.kq_model.specs.Tallied.{Registered}
 use Rattle.kq_kevent.specs.Owned.{caller}
@@ -17,9 +16,6 @@ returns-in-Refuse-clause-error g c =
     let by = caller (g.V.Views.sees c.args.views.now) c.args.self.now in
     ap (λ (r : Registered). r.error)
     (sym (register-refused by c.args.change.now c.args.self.now.kq c.in-Refuse.error c.in-Refuse.ensures.decision))
-
-pub unmake_at-requires : goal.unmake_at-requires
-unmake_at-requires g c = ap (λ key. find_knote key c.args.self.now.kq.knotes) c.key.ensures ∙ c.in-Remove.ensures.about
 
 pub returns-in-Remove-clause-kq : goal.returns-in-Remove-clause-kq
 returns-in-Remove-clause-kq g c =

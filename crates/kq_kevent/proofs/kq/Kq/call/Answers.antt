@@ -79,7 +79,7 @@ returns-in-Ended-Some-clause-answer g c =
     let views = g.V.Views.sees c.args.views.now in
     let by = caller views c.args.self.now in
     let sound = subst IsSound (ap (λ (v : OwnedKqueue). v.kq) c.self.view_is ∙ c.in_ok-reserve_for.ensures.kq)
-    c.self.invariant.sound in
+    c.self.invariant in
     subst (λ (x : Called). IsAnswer views c.args.room
     (kqueue_after_changes by c.args.room c.args.changes.now c.args.self.now.kq) x.kq x.reply)
     (sym (returns-in-Ended-Some-clause-called g c))
@@ -90,7 +90,7 @@ returns-in-Ended-None-clause-answer g c =
     let views = g.V.Views.sees c.args.views.now in
     let by = caller views c.args.self.now in
     let sound = subst IsSound (ap (λ (v : OwnedKqueue). v.kq) c.self.view_is ∙ c.in_ok-reserve_for.ensures.kq)
-    c.self.invariant.sound in
+    c.self.invariant in
     subst (λ (x : Called). IsAnswer views c.args.room
     (kqueue_after_changes by c.args.room c.args.changes.now c.args.self.now.kq) x.kq x.reply)
     (sym (returns-in-Ended-None-clause-called g c))
@@ -101,7 +101,7 @@ returns-after-reads_pending-clause-answer g c =
     let views = g.V.Views.sees c.args.views.now in
     let by = caller views c.args.self.now in
     let sound = subst IsSound (ap (λ (v : OwnedKqueue). v.kq) c.self.view_is ∙ c.in_ok-reserve_for.ensures.kq)
-    c.self.invariant.sound in
+    c.self.invariant in
     subst (λ (x : Called). IsAnswer views c.args.room
     (kqueue_after_changes by c.args.room c.args.changes.now c.args.self.now.kq) x.kq x.reply)
     (sym (returns-after-reads_pending-clause-called g c))

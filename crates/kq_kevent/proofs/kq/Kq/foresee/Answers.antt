@@ -1,7 +1,8 @@
 use Rattle.std.proofs.Common.{sym, ap, ◌∙◌, subst}
 use Rattle.kq_knote.specs.Quiet.{AreQuiet}
 use Rattle.kq_knote.specs.Reserved.{Reserved}
-use Rattle.kq_kevent.specs.Owned.{OwnedKqueue, IsLawful}
+use Rattle.kq_model.specs.Kqueue.{IsSound}
+use Rattle.kq_kevent.specs.Owned.{OwnedKqueue, kqueue_in}
 use Rattle.kq_kevent.proofs.ClockedLaws.{quiet-after}
 use Rattle.kq_kevent.proofs.kq.Kq.foresee.Goals as goal
 
@@ -11,12 +12,12 @@ note_quiet-requires-clause-quiet c =
     (quiet-after c.args.since c.next_moment-soonest.result c.args.self.now.kq.knotes c.requires c.next_moment-soonest.ensures.none)
 
 pub invariant_of-self : goal.invariant_of-self
-invariant_of-self c = subst (λ (v : Reserved). IsLawful v c.self.inside.queue) (sym c.note_quiet.ensures) c.self.invariant
+invariant_of-self c = subst (λ (v : Reserved). IsSound (kqueue_in v)) (sym c.note_quiet.ensures) c.self.invariant
 
 pub returns : goal.returns
 returns c =
     let seen : Reserved → OwnedKqueue = λ v. record {
-      kq = record { knotes = v.knotes; queue = c.self.inside.queue.keys };
+      kq = kqueue_in v;
       owner = c.self.inside.owner;
       version = c.self.inside.version;
       room = v.room;

@@ -1,13 +1,8 @@
-use Rattle.std.proofs.Common.{length, ap, arith}
 use Rattle.kq_model.specs.Kqueue.{empty_kqueue}
-use Rattle.kq_model.specs.Tallied.{Knote}
 use Rattle.kq_kevent.proofs.RegisterLaws.{IsSound-at}
 use Rattle.kq_kevent.proofs.SoundLaws.{IsSound-empty}
 use Rattle.kq_kevent.proofs.kq.Kq.in_version.Goals as goal
 
 pub invariant_of-result : goal.invariant_of-result
-invariant_of-result c = record {
-  sound = IsSound-at c.new.result.knotes c.new-2.result.keys empty_kqueue c.new.ensures.knotes c.new-2.ensures
-      IsSound-empty;
-  capacity = omega (arith, ap (length {A = Knote}) c.new.ensures.knotes, c.new.ensures.room);
-}
+invariant_of-result c =
+    IsSound-at c.new.result.knotes c.new.result.queue empty_kqueue c.new.ensures.knotes c.new.ensures.queue IsSound-empty

@@ -1,5 +1,5 @@
 use Rattle.std.proofs.Common.{◌≡◌, ◌&&◌, false, sym, ap, ap₂, ◌∙◌}
-use Rattle.kq_model.specs.Knote.{find_knote, has_nothing}
+use Rattle.kq_model.specs.Knote.{has_nothing}
 use Rattle.kq_model.specs.Look.{look}
 use Rattle.kq_model.specs.Registration.{with_removed}
 use Rattle.kq_model.specs.Tallied.{Knote}
@@ -11,9 +11,6 @@ pub put_back-requires : goal.put_back-requires
 put_back-requires g c =
     looked-stands (look (g.V.Views.sees c.args.views.now) c.args.told) c.args.found.now.row c.args.told c.looked_at.result c.args.self.now.kq.knotes
     c.looked_at.ensures c.requires
-
-pub unmake_at-requires : goal.unmake_at-requires
-unmake_at-requires g c = ap (λ (k : Knote). find_knote k.key c.args.self.now.kq.knotes) c.told.view_is ∙ c.requires.there
 
 pub returns-then-has_nothing-clause-kq : goal.returns-then-has_nothing-clause-kq
 returns-then-has_nothing-clause-kq g c =

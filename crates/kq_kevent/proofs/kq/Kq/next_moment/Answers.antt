@@ -21,7 +21,7 @@ loop-step-preserved c =
     let ks = c.args.self.now.kq.knotes in
     let left = length ks - c.loop-step._step in
     let at = subst (λ (o : Option Knote). IsLooking c.args.from c.args.low ks o left c.loop-step.least) c.in-Some.is c.loop-step.invariant.at in
-    let own = subst (λ (v : OwnedKqueue). HaveOwnKeys v.kq.knotes) c.self.view_is c.self.invariant.sound.own_keys in
+    let own = subst (λ (v : OwnedKqueue). HaveOwnKeys v.kq.knotes) c.self.view_is c.self.invariant.own_keys in
     record {
       at = look-goes c.args.from c.args.low ks own c.in-Some.knote c.next_after-next.result left (length ks - (c.loop-step._step + 1)) c.loop-step.least
           c.nearer-least.result c.first_after-first.result at (omega arith)

@@ -1,10 +1,8 @@
-use Rattle.std.proofs.Common.{◌≡◌, None, Some, sym, ap, ◌∙◌, subst}
+use Rattle.std.proofs.Common.{◌≡◌, None, Some, sym, ap, ◌∙◌}
 use Rattle.kq_model.specs.Knote.{find_knote}
-use Rattle.kq_model.specs.Kqueue.{IsSound}
 use Rattle.kq_model.specs.Noticing.{noticed_at}
-use Rattle.kq_model.proofs.KnoteLaws.{find_knote-key}
 use Rattle.kq_kevent.specs.Owned.{OwnedKqueue}
-use Rattle.kq_kevent.proofs.TellLaws.{told-stands, told-noticed, untold-noticed, left-noticed}
+use Rattle.kq_kevent.proofs.TellLaws.{told-stands, told-noticed, untold-noticed}
 use Rattle.kq_kevent.proofs.kq.Kq.notice.Goals as goal
 
 pub returns-in_default-clause-kq : goal.returns-in_default-clause-kq
@@ -14,21 +12,6 @@ returns-in_default-clause-kq g c =
     let absent : find_knote c.args.key kq.knotes ≡ None = ap (λ (v : OwnedKqueue). find_knote c.args.key v.kq.knotes) (sym c.self.view_is)
     ∙ sym c.in_default.ensures.knote in
     ap (λ o. noticed_at (g.V.Views.sees c.args.views.now) c.args.hints.now o kq) (sym absent)
-
-pub returns-then-leave_active-clause-kq : goal.returns-then-leave_active-clause-kq
-unfolding noticed_at
-returns-then-leave_active-clause-kq g c =
-    let views = g.V.Views.sees c.args.views.now in
-    let hints = c.args.hints.now in
-    let kq = c.args.self.now.kq in
-    let row = c.in-Some.found.row in
-    let here : find_knote c.args.key kq.knotes ≡ Some row = ap (λ (v : OwnedKqueue). find_knote c.args.key v.kq.knotes) (sym c.self.view_is)
-    ∙ sym c.in-Some.ensures.knote in
-    let there = ap (λ key. find_knote key kq.knotes) (sym (find_knote-key c.args.key kq.knotes row here)) ∙ here in
-    let left = c.if-leave_active.true in
-    left-noticed views hints kq row (subst (λ (v : OwnedKqueue). IsSound v.kq) c.self.view_is c.self.invariant.sound) there
-    (c.leave_active.ensures.active left) (c.leave_active.ensures.hints left)
-    ∙ ap (λ o. noticed_at views hints o kq) (sym here)
 
 pub leave-requires : goal.leave-requires
 leave-requires g c =

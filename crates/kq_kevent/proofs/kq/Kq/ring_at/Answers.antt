@@ -25,7 +25,7 @@ ring_if_first-requires c =
     let wanted = rung_each c.args.from c.args.to (firsts_at c.args.from c.args.moment kq.knotes) kq in
     let left = length kq.knotes - c.loop-step._step in
     let at = subst (λ (o : Option Knote). IsRinging c.args.from c.args.to c.args.moment wanted o left c.loop-step.self.kq) c.in-Some.is c.loop-step.invariant.at in
-    let own = subst (λ (v : OwnedKqueue). HaveOwnKeys v.kq.knotes) c.self-in-loop-step.view_is c.self-in-loop-step.invariant.sound.own_keys in
+    let own = subst (λ (v : OwnedKqueue). HaveOwnKeys v.kq.knotes) c.self-in-loop-step.view_is c.self-in-loop-step.invariant.own_keys in
     record {
       there = ring-there c.args.from c.args.to c.args.moment wanted c.loop-step.self.kq own c.in-Some.knote left at;
       ordered = c.requires.ordered;
@@ -39,7 +39,7 @@ loop-step-preserved c =
     let left = length kq.knotes - c.loop-step._step in
     let fewer = length kq.knotes - (c.loop-step._step + 1) in
     let at = subst (λ (o : Option Knote). IsRinging c.args.from c.args.to c.args.moment wanted o left c.loop-step.self.kq) c.in-Some.is c.loop-step.invariant.at in
-    let own = subst (λ (v : OwnedKqueue). HaveOwnKeys v.kq.knotes) c.self-in-loop-step.view_is c.self-in-loop-step.invariant.sound.own_keys in
+    let own = subst (λ (v : OwnedKqueue). HaveOwnKeys v.kq.knotes) c.self-in-loop-step.view_is c.self-in-loop-step.invariant.own_keys in
     record {
       at = ring-goes c.args.from c.args.to c.args.moment wanted c.loop-step.self.kq own c.in-Some.knote left at c.next_after-next.result fewer
           c.ring_if_first.new.self.kq (omega arith)

@@ -14,9 +14,9 @@ loop-turn-preserved c =
     let i = c.loop-turn._turn in
     let key = c.in-Some.key in
     let at : slice_get q i ≡ Some key = sym c.loop-turn.invariant.next ∙ c.in-Some.is in
-    let once : AreOnce q = subst (λ (v : OwnedKqueue). AreOnce v.kq.queue) c.self.view_is c.self.invariant.sound.once in
+    let once : AreOnce q = subst (λ (v : OwnedKqueue). AreOnce v.kq.queue) c.self.view_is c.self.invariant.once in
     record {
-      next = c.next_after-next.ensures ∙ ap (λ (v : OwnedKqueue). key_after key v.kq.queue) c.self.view_is
+      next = c.behind-next.ensures ∙ ap (λ (v : OwnedKqueue). key_after key v.kq.queue) c.self.view_is
           ∙ key_after-next q i key once at ∙ ap (slice_get q) (sym (add-one i));
       so_far = c.push_reserved.ensures.items ∙ ap (λ (l : List Key). l ++ key ∷ []) c.loop-turn.invariant.so_far
           ∙ sym (take_more q i key (slice_get_within q i key at)

@@ -1,8 +1,6 @@
 use Rattle.std.proofs.Common.{◌≡◌, ◌+◌, ◌||◌, List, Some, true, take, take_all, get_or, sym, ap, ◌∙◌, subst, arith}
 use Rattle.std.proofs.lemmas.List.Folds.{list_any_more}
 use Rattle.std.specs.List.{list_any}
-use Rattle.std.specs.Option.{option_eq}
-use Rattle.kq_model.specs.contracts.object.TargetPartialEq.TheImpl as target_equal
 use Rattle.kq_model.specs.declared.key.Key.{Key}
 use Rattle.kq_model.specs.declared.object.Hint.TheVariants.{Readable}
 use Rattle.kq_model.specs.declared.object.Target.TheVariants.{Socket}
@@ -12,7 +10,6 @@ use Rattle.kq_model.specs.Targets.{Posted, is_target}
 use Rattle.kq_knote.specs.Index.{AreHinted, is_hinted, is_shared}
 use Rattle.kq_knote.specs.Reserved.{Reserved}
 use Rattle.kq_knote.proofs.GatherLaws.{AreHinted-more}
-use Rattle.kq_knote.proofs.TargetLaws.{alike-target}
 use Rattle.kq_knote.proofs.knotes.Knotes.gather.Goals as goal
 
 -- what a read past the end of the hints would give
@@ -34,8 +31,7 @@ loop-hint-preserved c =
     λ k. list_any_more (λ (p : Posted). is_target k.target p.0) posted i no_hint (omega arith) in
     let shared : is_shared (Some hint.0) ≡ true = sym c.is_shared.ensures ∙ c.if-not-is_shared.false in
     let so_far = subst (λ (v : Reserved). AreHinted (take i posted) v.knotes c.loop-hint.found.items) (sym c.self.view_is) c.loop-hint.invariant.so_far in
-    let more = AreHinted-more (option_eq target_equal.eq-value.it) alike-target ks c.self.invariant.own_keys c.self.inside.index.watches (c.self.invariant.watches c.if-not-self.false)
-    (take i posted) (take (i + 1) posted) hint.0 more_is shared c.loop-hint.found.items so_far in
+    let more = AreHinted-more ks c.self.invariant.own_keys (take i posted) (take (i + 1) posted) hint.0 more_is shared c.loop-hint.found.items so_far in
     record {
       so_far = subst (λ (v : Reserved). AreHinted (take (i + 1) posted) v.knotes c.watching.new.found.items) c.self.view_is
           (subst (λ (keys : List Key). AreHinted (take (i + 1) posted) ks keys) (sym (c.watching.ensures.found c.if-not-watching.false)) more);

@@ -26,7 +26,6 @@ invariant_of-self-2 c =
     (subst (λ (keys : List Key). AreArmed c.args.to keys entries ks) c.deref.ensures.value (c.arm_due.ensures.armed c.if-not-arm_due.false)) in
     record {
       own_keys = c.self.invariant.own_keys;
-      watches = c.self.invariant.watches;
       begun = c.requires.within;
       quiet = alarmed-quiet c.args.to c.next_due-self-inside.result entries ks c.next_due-self-inside.ensures.bounded c.next_due-self-inside.ensures.least armed;
       armed = λ _. armed;

@@ -1,0 +1,150 @@
+ghost use Rattle.std.specs.Prelude.{◌≡◌, IsSome, Some, None};
+ghost use Rattle.std.specs.Option.{option_and_then};
+ghost use Rattle.slab.specs.Slab.{get, slab_len};
+ghost use Rattle.kq_table.specs.Threads.{after_of, births_in, links_in, links_of, rows_in, with_birth, with_links};
+ghost use Rattle.kq_table.specs.Threads.{written, SameBut, SameButBirths};
+ghost use Rattle.kq_table.specs.declared.node.Thread.{Thread as Threads};
+ghost use Rattle.kq_table.specs.declared.node.Thread.TheVariants.{Order, Queue};
+
+use crate::node::{Links, Node, Thread};
+use slab::Slab;
+
+impl<T: Copy> Node<T> {
+    pub(crate) fn links(&self, thread: Thread) -> Option<Links>
+        ensures { result ≡ links_of thread (Some self.now) }
+    {
+        match thread {
+            Thread::Order => Some(self.order),
+            Thread::Watch => Some(self.watch),
+            Thread::Queue => self.queue,
+        }
+    }
+
+    pub(crate) fn with_links(self, thread: Thread, links: Links) -> Node<T>
+        ensures { result ≡ with_links thread links self }
+    {
+        match thread {
+            Thread::Order => Node {
+                order: links,
+                ..self
+            },
+            Thread::Watch => Node {
+                watch: links,
+                ..self
+            },
+            Thread::Queue => Node {
+                queue: Some(links),
+                ..self
+            },
+        }
+    }
+}
+
+/// The node at a slot.
+#[inline(always)]
+pub(crate) fn node_at<T: Copy>(nodes: &Slab<Node<T>>, slot: usize) -> Option<Node<T>>
+    ensures { result ≡ get nodes.now slot }
+{
+    match nodes.get(slot) {
+        None => None,
+        Some(node) => Some(*node),
+    }
+}
+
+/// The row at a slot, where one is named.
+pub(crate) fn row_at<T: Copy>(nodes: &Slab<Node<T>>, slot: Option<usize>) -> Option<T>
+    ensures { result ≡ option_and_then (rows_in nodes.now) slot }
+{
+    let Some(slot) = slot else {
+        return None;
+    };
+    let Some(node) = node_at(nodes, slot) else {
+        return None;
+    };
+    Some(node.row)
+}
+
+/// The links at a slot.
+pub(crate) fn links_at<T: Copy>(nodes: &Slab<Node<T>>, thread: Thread, slot: usize) -> Option<Links>
+    ensures { result ≡ links_in thread nodes.now slot }
+{
+    let Some(node) = node_at(nodes, slot) else {
+        return None;
+    };
+    node.links(thread)
+}
+
+/// The slot behind one in the order of attachment.
+pub(crate) fn slot_behind<T: Copy>(nodes: &Slab<Node<T>>, slot: usize) -> Option<usize>
+    ensures { result ≡ after_of (links_in Order nodes.now slot) }
+{
+    let Some(links) = links_at(nodes, Thread::Order, slot) else {
+        return None;
+    };
+    links.after
+}
+
+/// Puts a node in the place of that at a slot.
+fn put_node<T: Copy>(nodes: &mut Slab<Node<T>>, slot: usize, node: Node<T>)
+    requires { IsSome (get nodes.old slot) }
+    ensures node { get nodes.new ≡ written slot (Some node) (get nodes.old) }
+    ensures len { slab_len nodes.new ≡ slab_len nodes.old }
+    ensures capacity { nodes.new.capacity ≡ nodes.old.capacity }
+{
+    nodes[slot] = node;
+}
+
+/// Gives the node at a slot these links.
+pub(crate) fn put_links<T: Copy>(
+    nodes: &mut Slab<Node<T>>,
+    thread: Thread,
+    slot: usize,
+    links: Links,
+)
+    requires { IsSome (get nodes.old slot) }
+    ensures links { links_in thread nodes.new ≡ written slot (Some links) (links_in thread nodes.old) }
+    ensures same { SameBut thread nodes.old nodes.new }
+{
+    let node = nodes[slot];
+    put_node(nodes, slot, node.with_links(thread, links));
+}
+
+/// Takes the node at a slot out of the queue, whose neighbours are no longer linked with it.
+pub(crate) fn leave_queue<T: Copy>(nodes: &mut Slab<Node<T>>, slot: usize)
+    requires { IsSome (get nodes.old slot) }
+    ensures links { links_in Queue nodes.new ≡ written slot None (links_in Queue nodes.old) }
+    ensures same { SameBut Queue nodes.old nodes.new }
+{
+    let node = nodes[slot];
+    put_node(
+        nodes,
+        slot,
+        Node {
+            queue: None,
+            ..node
+        },
+    );
+}
+
+/// Puts a row in the place of that at a slot.
+pub(crate) fn set_row<T: Copy>(nodes: &mut Slab<Node<T>>, slot: usize, row: T)
+    requires { IsSome (get nodes.old slot) }
+    ensures rows { rows_in nodes.new ≡ written slot (Some row) (rows_in nodes.old) }
+    ensures births { births_in nodes.new ≡ births_in nodes.old }
+    ensures links { (thread : Threads) → links_in thread nodes.new ≡ links_in thread nodes.old }
+    ensures len { slab_len nodes.new ≡ slab_len nodes.old }
+    ensures capacity { nodes.new.capacity ≡ nodes.old.capacity }
+{
+    let node = nodes[slot];
+    put_node(nodes, slot, Node { row, ..node });
+}
+
+/// Gives the row at a slot, where there is one, this number in the order of attachment.
+pub(crate) fn set_birth<T: Copy>(nodes: &mut Slab<Node<T>>, slot: usize, born: u64)
+    ensures births { births_in nodes.new ≡ with_birth slot born (births_in nodes.old) }
+    ensures same { SameButBirths nodes.old nodes.new }
+{
+    if let Some(node) = node_at(nodes, slot) {
+        put_node(nodes, slot, Node { born, ..node });
+    }
+}

@@ -1,0 +1,109 @@
+ghost use Rattle.std.specs.Prelude.{◌≡◌, ◌∷◌, [], Some, MatchOption};
+ghost use Rattle.std.specs.Prelude.{length, slice_get};
+ghost use Rattle.kq_table.specs.Rows.{find_row, key_behind, put_in, waits_in, without_waiting, AreOnce};
+ghost use Rattle.kq_table.specs.Rows.{HaveOwnKeys, HaveRows};
+
+use crate::Keyed;
+use crate::find::{key_at, near, placed_at};
+use crate::placed::{Place, Placed};
+use crate::table::Table;
+use crate::waiting::{dequeue, enqueue};
+
+impl<T: Keyed> Table<T> {
+    /// How many keys are in the queue.
+    pub fn queue_len(&self) -> usize
+        ensures { result ≡ length self.now.queue }
+    {
+        self.waiting
+    }
+
+    /// Whether a key is in the queue. Where its row stands at the guessed place, it is not looked up.
+    pub fn is_waiting_at(&self, guess: Place, key: T::Key) -> bool
+        ensures { result ≡ waits_in T.Key.eq key self.now.queue }
+    {
+        match near(&self.nodes, &self.index, guess, key) {
+            None => false,
+            Some(found) => found.node.queue.is_some(),
+        }
+    }
+
+    /// The key at the front of the queue.
+    pub fn front(&self) -> Option<T::Key>
+        ensures front { result ≡ slice_get self.now.queue 0 }
+
+        // Of every table.
+        ensures own_keys { HaveOwnKeys T.Key.eq T.key_of self.now.rows }
+        ensures once { AreOnce T.Key.eq self.now.queue }
+        ensures have_rows { HaveRows T.Key.eq T.key_of self.now.queue self.now.rows }
+    {
+        key_at(&self.nodes, self.queue.first)
+    }
+
+    /// The key behind this one in the queue; None where this is the last, or not there.
+    pub fn behind(&self, key: T::Key) -> Option<T::Key>
+        ensures { result ≡ key_behind T.Key.eq key self.now.queue }
+    {
+        let Some(found) = near(&self.nodes, &self.index, Place::nowhere(), key) else {
+            return None;
+        };
+        let Some(links) = found.node.queue else {
+            return None;
+        };
+        key_at(&self.nodes, links.after)
+    }
+
+    /// Puts a key that has a row at the back of the queue, where it is not in it. Where its row stands
+    /// at the guessed place, it is not looked up.
+    pub fn put_in_at(&mut self, guess: Place, key: T::Key)
+        ensures rows { self.new.rows ≡ self.old.rows }
+        ensures queue { self.new.queue ≡ put_in T.Key.eq T.key_of key self.old.rows self.old.queue }
+        ensures room { self.new.room ≡ self.old.room }
+    {
+        let Some(found) = near(&self.nodes, &self.index, guess, key) else {
+            return;
+        };
+        if found.node.queue.is_some() {
+            return;
+        }
+        enqueue(
+            &mut self.nodes,
+            &mut self.queue,
+            &mut self.waiting,
+            found.slot,
+        );
+    }
+
+    /// Takes a key out of the queue, where it is in it. Where its row stands at the guessed place, it is
+    /// not looked up.
+    pub fn take_out_at(&mut self, guess: Place, key: T::Key)
+        ensures rows { self.new.rows ≡ self.old.rows }
+        ensures queue { self.new.queue ≡ without_waiting T.Key.eq key self.old.queue }
+        ensures room { self.new.room ≡ self.old.room }
+    {
+        let Some(found) = near(&self.nodes, &self.index, guess, key) else {
+            return;
+        };
+        dequeue(
+            &mut self.nodes,
+            &mut self.queue,
+            &mut self.waiting,
+            found.slot,
+        );
+    }
+
+    /// Takes the key at the front out of the queue, and gives its row.
+    pub fn take_front(&mut self) -> Option<Placed<T>>
+        ensures rows { self.new.rows ≡ self.old.rows }
+        ensures queue { MatchOption result
+            ((self.old.queue ≡ []) × (self.new.queue ≡ []))
+            (λ p. (self.old.queue ≡ T.key_of p.row ∷ self.new.queue)
+            × (find_row T.Key.eq T.key_of (T.key_of p.row) self.old.rows ≡ Some p.row)) }
+        ensures room { self.new.room ≡ self.old.room }
+    {
+        let Some(front) = placed_at(&self.nodes, self.queue.first) else {
+            return None;
+        };
+        self.take_out_at(front.place, front.row.key());
+        Some(front)
+    }
+}

@@ -1,0 +1,64 @@
+ghost use Rattle.std.specs.Prelude.{◌≡◌, ◌≤◌, ◌+◌, ◌++◌, ◌↔◌, Some, None, IfSome, IsTrue, length, slice_get};
+ghost use Rattle.std.specs.Option.{option_map};
+ghost use Rattle.std.specs.Vec.{vec_len, vec_capacity};
+ghost use Rattle.kq_table.specs.Rows.{find_row};
+ghost use Rattle.kq_table.specs.Links.{keys_watching, next_watching};
+
+use crate::Keyed;
+use crate::enter::ends_at;
+use crate::find::{near, placed_at};
+use crate::nodes::node_at;
+use crate::placed::{Place, Placed};
+use crate::table::Table;
+
+impl<T: Keyed> Table<T> {
+    /// The first row that watches a target, in the order of attachment.
+    pub fn first_watching(&self, target: T::Target) -> Option<Placed<T>>
+        ensures key { option_map (λ p. T.key_of p.row) result
+            ≡ slice_get (keys_watching T.Target.eq T.key_of T.target_of target self.now.rows) 0 }
+        ensures row { IfSome result
+            (λ p. find_row T.Key.eq T.key_of (T.key_of p.row) self.now.rows ≡ Some p.row) }
+    {
+        placed_at(&self.nodes, ends_at(&self.targets, target).first)
+    }
+
+    /// The row that watches the same target next behind that of a key; None where that is the last, or
+    /// watches nothing, or is not here. Where it stands at the guessed place, it is not looked up.
+    pub fn next_watching_at(&self, guess: Place, key: T::Key) -> Option<Placed<T>>
+        ensures key { option_map (λ p. T.key_of p.row) result
+            ≡ next_watching T.Target.eq T.key_of T.target_of T.Key.eq key self.now.rows }
+        ensures row { IfSome result
+            (λ p. find_row T.Key.eq T.key_of (T.key_of p.row) self.now.rows ≡ Some p.row) }
+    {
+        let Some(found) = near(&self.nodes, &self.index, guess, key) else {
+            return None;
+        };
+        let Some(_) = found.node.row.target() else {
+            return None;
+        };
+        placed_at(&self.nodes, found.node.watch.after)
+    }
+
+    /// Adds behind `found` the keys that watch a target, in the order in which they were attached.
+    /// Where not all of them have room there, it is false. It takes no memory.
+    pub fn watching(&self, target: T::Target, found: &mut Vec<T::Key>) -> bool
+        ensures room { IsTrue result ↔ (vec_len found.old
+            + length (keys_watching T.Target.eq T.key_of T.target_of target self.now.rows) ≤ vec_capacity found.old) }
+        ensures found { IsTrue result → found.new.items ≡ found.old.items
+            ++ keys_watching T.Target.eq T.key_of T.target_of target self.now.rows }
+        ensures capacity { vec_capacity found.new ≡ vec_capacity found.old }
+    {
+        let mut next = ends_at(&self.targets, target).first;
+        while let Some(slot) = next {
+            let Some(node) = node_at(&self.nodes, slot) else {
+                return true;
+            };
+            if found.len() == found.capacity() {
+                return false;
+            }
+            found.push_reserved(node.row.key());
+            next = node.watch.after;
+        }
+        true
+    }
+}
