@@ -1,4 +1,4 @@
--- A walk along the rows of one target that adds their keys to a list; and who watches it first and next.
+-- A walk along the rows of one target that adds their keys to a list.
 use Rattle.std.proofs.Common.{◌≡◌, ℕ, ◌+◌, ◌≤◌, Bool, true, List, [], ◌∷◌, ◌++◌, map, length, length-append, Option, Some, None, append_assoc, append-nil, refl, sym, ap, ◌∙◌, subst, arith}
 use Rattle.std.proofs.lemmas.Option.{none-some, same_Some}
 use Rattle.std.proofs.lemmas.List.{map-append}
@@ -26,11 +26,13 @@ module _ {K T : Type 0} (key_of : T → K) (rows : ℕ → Option T) (links : �
       (slots : List ℕ) → IsThread links ends slots → AreFilled rows slots
       → (done : List ℕ) × (rest : List ℕ) × (slots ≡ done ++ rest) × (next ≡ head_or None rest) × (added ≡ before ++ map key_of (rows_at rows done))
 
-  pub along-start : (before : List K) → IsAlong before before ends.first
-  along-start before slots is filled = ([], slots, refl, is.first, sym (append-nil before))
+  pub along-start : (e : Ends) → e ≡ ends → (before : List K) → IsAlong before before e.first
+  along-start e e_is before slots is filled = ([], slots, refl, ap (λ (x : Ends). x.first) e_is ∙ is.first, sym (append-nil before))
 
-  pub along-step : (before added more : List K) (slot : ℕ) (row : T) (next : Option ℕ) → rows slot ≡ Some row → next ≡ after_of (links slot) → more ≡ added ++ key_of row ∷ [] → IsAlong before added (Some slot) → IsAlong before more next
-  along-step before added more slot row next here next_is more_is along slots is filled = go (along slots is filled).1 (along slots is filled).2 (along slots is filled).3
+  pub along-step : (before added more : List K) (slot : ℕ) (row : T) (next : Option ℕ) → rows slot ≡ Some row → next ≡ after_of (links slot) → more ≡ added ++ key_of row ∷ []
+      → (now : Option ℕ) → now ≡ Some slot → IsAlong before added now → IsAlong before more next
+  along-step before added more slot row next here next_is more_is now now_is along slots is filled =
+      go (along slots is filled).1 (along slots is filled).2 (sym now_is ∙ (along slots is filled).3)
     where
       go : (rest : List ℕ) → slots ≡ (along slots is filled).0 ++ rest → Some slot ≡ head_or None rest
           → (done : List ℕ) × (rest : List ℕ) × (slots ≡ done ++ rest) × (next ≡ head_or None rest) × (more ≡ before ++ map key_of (rows_at rows done))
@@ -48,14 +50,17 @@ module _ {K T : Type 0} (key_of : T → K) (rows : ℕ → Option T) (links : �
           )
 
   -- at the end all are added
-  pub along-end : (before added : List K) (slots : List ℕ) → IsThread links ends slots → AreFilled rows slots → IsAlong before added None → added ≡ before ++ map key_of (rows_at rows slots)
-  along-end before added slots is filled along =
+  pub along-end : (before added : List K) (slots : List ℕ) → IsThread links ends slots → AreFilled rows slots → (now : Option ℕ) → now ≡ None → IsAlong before added now
+      → added ≡ before ++ map key_of (rows_at rows slots)
+  along-end before added slots is filled now now_is along =
       let it = along slots is filled in
-      it.4 ∙ ap (λ l. before ++ map key_of (rows_at rows l)) (sym (it.2 ∙ ap (λ l. it.0 ++ l) (none-left it.1 (sym it.3)) ∙ append-nil it.0))
+      it.4 ∙ ap (λ l. before ++ map key_of (rows_at rows l)) (sym (it.2 ∙ ap (λ l. it.0 ++ l) (none-left it.1 (sym it.3 ∙ now_is)) ∙ append-nil it.0))
 
   -- where a slot is left, more are to be added
-  pub along-more : (before added : List K) (slot : ℕ) (slots : List ℕ) → IsThread links ends slots → AreFilled rows slots → IsAlong before added (Some slot) → length added + 1 ≤ length before + length (map key_of (rows_at rows slots))
-  along-more before added slot slots is filled along = go (along slots is filled).1 (along slots is filled).2 (along slots is filled).3
+  pub along-more : (before added : List K) (slot : ℕ) (slots : List ℕ) → IsThread links ends slots → AreFilled rows slots → (now : Option ℕ) → now ≡ Some slot → IsAlong before added now
+      → length added + 1 ≤ length before + length (map key_of (rows_at rows slots))
+  along-more before added slot slots is filled now now_is along =
+      go (along slots is filled).1 (along slots is filled).2 (sym now_is ∙ (along slots is filled).3)
     where
       go : (rest : List ℕ) → slots ≡ (along slots is filled).0 ++ rest → Some slot ≡ head_or None rest → length added + 1 ≤ length before + length (map key_of (rows_at rows slots))
       go [] at none = absurd (none-some slot (sym none))
@@ -69,8 +74,10 @@ module _ {K T : Type 0} (key_of : T → K) (rows : ℕ → Option T) (links : �
           omega arith
 
   -- what is next is a slot of the thread
-  pub along-there : (before added : List K) (slot : ℕ) (slots : List ℕ) → IsThread links ends slots → AreFilled rows slots → IsAlong before added (Some slot) → (row : T) × (rows slot ≡ Some row)
-  along-there before added slot slots is filled along = go (along slots is filled).1 (along slots is filled).2 (along slots is filled).3
+  pub along-there : (before added : List K) (slot : ℕ) (slots : List ℕ) → IsThread links ends slots → AreFilled rows slots → (now : Option ℕ) → now ≡ Some slot → IsAlong before added now
+      → (row : T) × (rows slot ≡ Some row)
+  along-there before added slot slots is filled now now_is along =
+      go (along slots is filled).1 (along slots is filled).2 (sym now_is ∙ (along slots is filled).3)
     where
       go : (rest : List ℕ) → slots ≡ (along slots is filled).0 ++ rest → Some slot ≡ head_or None rest → (row : T) × (rows slot ≡ Some row)
       go [] at none = absurd (none-some slot (sym none))

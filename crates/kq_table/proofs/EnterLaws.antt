@@ -48,10 +48,6 @@ module _ {T G : Type 0} (alike : G → G → Bool) (target_of : T → Option G) 
   watching-same target f g slots agree =
       filter-same (λ s. watches alike target_of target (g s)) (λ s. watches alike target_of target (f s)) slots (λ t there. ap (watches alike target_of target) (agree t there))
 
-  -- a row that watches what the one before it did
-  pub watches-kept : (target : G) (old new : T) → ((g : G) → is_target alike g (target_of new) ≡ is_target alike g (target_of old)) → watches alike target_of target (Some new) ≡ watches alike target_of target (Some old)
-  watches-kept target old new agree = agree target
-
   pub in_watching : (target : G) (rows : ℕ → Option T) (slots : List ℕ) (t : ℕ) → is_in t (watching alike target_of target rows slots) ≡ true → (is_in t slots ≡ true) × (watches alike target_of target (rows t) ≡ true)
   in_watching target rows slots t there = in_filter (λ s. watches alike target_of target (rows s)) slots t there
 

@@ -3,15 +3,15 @@ use mathlib.Core.Path.{fun_ext}
 use Rattle.std.proofs.Common.{◌≡◌, ℕ, Bool, true, false, cond, eqb, Option, Some, None, is_some, refl, sym, ap, ◌∙◌, ◌+◌, arith}
 use Rattle.std.proofs.lemmas.Bool.{false≢true, eqb-true, eqb-false}
 use Rattle.std.proofs.lemmas.Option.{none-some}
-use Rattle.std.specs.Option.{option_map}
+use Rattle.std.specs.Option.{option_map, option_and_then}
 use Rattle.std.proofs.lemmas.List.Sums.{sum_by-set}
-use Rattle.slab.proofs.SlabLemmas.{ContainsKey-within}
+use Rattle.slab.proofs.SlabLemmas.{ContainsKey-within, Updates-with_value}
 use Rattle.slab.specs.Slab.{Slab, get, slab_len, with_value, Updates}
 use Rattle.kq_table.specs.declared.node.Links.{Links}
 use Rattle.kq_table.specs.declared.node.Node.{Node}
 use Rattle.kq_table.specs.declared.node.Thread.{Thread}
 use Rattle.kq_table.specs.declared.node.Thread.TheVariants.{Order, Watch, Queue}
-use Rattle.kq_table.specs.Threads.{with_after, with_before, written, with_birth, row_of, birth_of, links_of, rows_in, births_in, links_in, with_links, differ, SameBut, SameButBirths}
+use Rattle.kq_table.specs.Threads.{with_after, with_before, written, row_of, birth_of, links_of, rows_in, with_links, differ, SameBut, SameButBirths}
 use Rattle.kq_table.proofs.RowLaws.{by_test}
 
 -- what is read of what is there, slot by slot
@@ -53,16 +53,6 @@ module _ (slot : ℕ) (f : ℕ → Option Links) where
       fun_ext (λ t. by_test (λ b. cond b (Some (record l { before = before })) (f t) ≡ cond b (option_map (λ (l : Links). record l { before = before }) (f t)) (f t)) (eqb t slot)
       (λ is. ap (option_map (λ (l : Links). record l { before = before })) (sym (ap f (eqb-true t slot is) ∙ here))) (λ _. refl))
 
-pub birth-none : (slot born : ℕ) (f : ℕ → Option ℕ) → f slot ≡ None → with_birth slot born f ≡ f
-birth-none slot born f none =
-    fun_ext (λ t. by_test (λ b. cond b (option_map (λ (_ : ℕ). born) (f t)) (f t) ≡ f t) (eqb t slot)
-    (λ is. let here : f t ≡ None = ap f (eqb-true t slot is) ∙ none in ap (option_map (λ (_ : ℕ). born)) here ∙ sym here) (λ _. refl))
-
-pub birth-written : (slot born old : ℕ) (f : ℕ → Option ℕ) → f slot ≡ Some old → written slot (Some born) f ≡ with_birth slot born f
-birth-written slot born old f here =
-    fun_ext (λ t. by_test (λ b. cond b (Some born) (f t) ≡ cond b (option_map (λ (_ : ℕ). born) (f t)) (f t)) (eqb t slot)
-    (λ is. ap (option_map (λ (_ : ℕ). born)) (sym (ap f (eqb-true t slot is) ∙ here))) (λ _. refl))
-
 module _ {T : Type 0} where
   -- ---- one node
 
@@ -82,15 +72,27 @@ module _ {T : Type 0} where
   links-with_other Queue Watch links node d = refl
   links-with_other Queue Queue links node d = absurd (false≢true d)
 
-  pub row-with : (thread : Thread) (links : Links) (node : Node T) → row_of (Some (with_links thread links node)) ≡ row_of (Some node)
+  pub row-with : (thread : Thread) (links : Links) (node : Node T) → (with_links thread links node).row ≡ node.row
   row-with Order links node = refl
   row-with Watch links node = refl
   row-with Queue links node = refl
 
-  pub birth-with : (thread : Thread) (links : Links) (node : Node T) → birth_of (Some (with_links thread links node)) ≡ birth_of (Some node)
+  pub birth-with : (thread : Thread) (links : Links) (node : Node T) → (with_links thread links node).born ≡ node.born
   birth-with Order links node = refl
   birth-with Watch links node = refl
   birth-with Queue links node = refl
+
+  -- a node out of the queue
+  pub links-left : (node : Node T) (other : Thread) → differ Queue other ≡ true → links_of other (Some (record node { queue = None })) ≡ links_of other (Some node)
+  links-left node Order d = refl
+  links-left node Watch d = refl
+  links-left node Queue d = absurd (false≢true d)
+
+  -- a node with the same links
+  pub links-kept : (a b : Node T) → a.order ≡ b.order → a.watch ≡ b.watch → a.queue ≡ b.queue → (thread : Thread) → links_of thread (Some a) ≡ links_of thread (Some b)
+  links-kept a b order watch queue Order = ap Some order
+  links-kept a b order watch queue Watch = ap Some watch
+  links-kept a b order watch queue Queue = queue
 
   -- what is linked is a node, and so is what has a row
   pub linked-row : (thread : Thread) (o : Option (Node T)) (l : Links) → links_of thread o ≡ Some l → (row : T) × (row_of o ≡ Some row)
@@ -109,6 +111,10 @@ module _ {T : Type 0} where
   row-some None row is = absurd (none-some row is)
   row-some (Some node) row is = refl
 
+  pub target-some : {G : Type 0} (target_of : T → Option G) (o : Option (Node T)) (target : G) → option_and_then target_of (row_of o) ≡ Some target → is_some o ≡ true
+  target-some target_of None target is = absurd (none-some target is)
+  target-some target_of (Some node) target is = refl
+
   row-there : (o : Option (Node T)) → is_some (row_of o) ≡ is_some o
   row-there None = refl
   row-there (Some node) = refl
@@ -117,13 +123,6 @@ module _ {T : Type 0} where
   pub same-some : (old new : Slab (Node T)) (slot : ℕ) → rows_in new ≡ rows_in old → is_some (get old slot) ≡ true → is_some (get new slot) ≡ true
   same-some old new slot same there =
       sym (row-there (get new slot)) ∙ ap (λ (f : ℕ → Option T). is_some (f slot)) same ∙ row-there (get old slot) ∙ there
-
-  pub row-node : (o : Option (Node T)) (row : T) → row_of o ≡ Some row → (node : Node T) × (o ≡ Some node)
-  row-node None row is = absurd (none-some row is)
-  row-node (Some node) row is = (node, refl)
-
-  pub row-none : (o : Option (Node T)) → o ≡ None → row_of o ≡ None
-  row-none o is = ap row_of is
 
   -- ---- all of them
 
@@ -155,54 +154,6 @@ module _ {T : Type 0} where
   get-updated old new slot o updates =
       written-from slot o (get old) (get new) updates.changed (λ t apart. updates.others t (λ is. eqb-false t slot apart is))
 
-  -- the node at a slot gets these links
-  module _ (thread : Thread) (old new : Slab (Node T)) (slot : ℕ) (links : Links) (node : Node T) (here : get old slot ≡ Some node)
-      (is : get new ≡ written slot (Some (with_links thread links node)) (get old)) where
-    pub links-put : links_in thread new ≡ written slot (Some links) (links_in thread old)
-    links-put =
-        ap (reading (links_of thread)) is
-        ∙ through-written (links_of thread) slot (Some (with_links thread links node)) (get old) (Some links) (links-with thread links node)
-
-    pub rows-put : rows_in new ≡ rows_in old
-    rows-put =
-        ap (reading row_of) is
-        ∙ through-same row_of slot (Some (with_links thread links node)) (get old) (row-with thread links node ∙ ap row_of (sym here))
-
-    pub births-put : births_in new ≡ births_in old
-    births-put =
-        ap (reading birth_of) is
-        ∙ through-same birth_of slot (Some (with_links thread links node)) (get old) (birth-with thread links node ∙ ap birth_of (sym here))
-
-    pub others-put : (other : Thread) → differ thread other ≡ true → links_in other new ≡ links_in other old
-    others-put other d =
-        ap (reading (links_of other)) is
-        ∙ through-same (links_of other) slot (Some (with_links thread links node)) (get old) (links-with_other thread other links node d ∙ ap (links_of other) (sym here))
-
-  -- a node is put that has the same links
-  module _ (old new : Slab (Node T)) (slot : ℕ) (before after : Node T) where
-    pub kept-links : after.order ≡ before.order → after.watch ≡ before.watch → after.queue ≡ before.queue → get old slot ≡ Some before → get new ≡ written slot (Some after) (get old)
-        → (thread : Thread) → links_in thread new ≡ links_in thread old
-    kept-links order watch queue here is thread =
-        ap (reading (links_of thread)) is
-        ∙ through-same (links_of thread) slot (Some after) (get old) (one thread ∙ ap (links_of thread) (sym here))
-      where
-        one : (thread : Thread) → links_of thread (Some after) ≡ links_of thread (Some before)
-        one Order = ap Some order
-        one Watch = ap Some watch
-        one Queue = queue
-
-  -- a node is put that is out of the queue
-  pub left-links : (old new : Slab (Node T)) (slot : ℕ) (before : Node T) → get old slot ≡ Some before → get new ≡ written slot (Some (record before { queue = None })) (get old)
-      → (other : Thread) → differ Queue other ≡ true → links_in other new ≡ links_in other old
-  left-links old new slot before here is other d =
-      ap (reading (links_of other)) is
-      ∙ through-same (links_of other) slot (Some (record before { queue = None })) (get old) (one other d ∙ ap (links_of other) (sym here))
-    where
-      one : (other : Thread) → differ Queue other ≡ true → links_of other (Some (record before { queue = None })) ≡ links_of other (Some before)
-      one Order _ = refl
-      one Watch _ = refl
-      one Queue d = absurd (false≢true d)
-
 -- a write of a value that is there makes no more values
 pub len-with_value : {X : Type 0} (s : Slab X) (key : ℕ) (value old : X) → get s key ≡ Some old → slab_len (with_value s key value) ≡ slab_len s
 len-with_value {X} s key value old here =
@@ -211,3 +162,34 @@ len-with_value {X} s key value old here =
     sum_by-set (λ (o : Option X). cond {A = ℕ} (is_some o) 1 0) s.slots key (Some value) None within in
     let had : cond {A = ℕ} (is_some (get s key)) 1 0 ≡ 1 = ap (λ (b : Bool). cond {A = ℕ} b 1 0) (ap is_some here) in
     omega (arith, sums, had)
+
+module _ {T : Type 0} (nodes : Slab (Node T)) (slot : ℕ) (old new : Node T) (here : get nodes slot ≡ Some old) where
+  abbrev put : Slab (Node T)
+  put = with_value nodes slot new
+
+  put-is : get put ≡ written slot (Some new) (get nodes)
+  put-is = get-updated nodes put slot (Some new) (Updates-with_value nodes slot new (ap is_some here))
+
+  -- what the node at a slot says that is written there, and what it says as before
+  pub put-read : {B : Type 0} (h : Option (Node T) → Option B) (o : Option B) → h (Some new) ≡ o → reading h (get put) ≡ written slot o (reading h (get nodes))
+  put-read h o e = ap (reading h) put-is ∙ through-written h slot (Some new) (get nodes) o e
+
+  pub put-same : {B : Type 0} (h : Option (Node T) → Option B) → h (Some new) ≡ h (Some old) → reading h (get put) ≡ reading h (get nodes)
+  put-same h e = ap (reading h) put-is ∙ through-same h slot (Some new) (get nodes) (e ∙ ap h (sym here))
+
+  pub put-len : slab_len put ≡ slab_len nodes
+  put-len = len-with_value nodes slot new old here
+
+  pub SameBut-put : (thread : Thread) → new.row ≡ old.row → new.born ≡ old.born → ((other : Thread) → differ thread other ≡ true → links_of other (Some new) ≡ links_of other (Some old)) → SameBut thread nodes put
+  SameBut-put thread row born links = record {
+    rows = put-same row_of (ap Some row);
+    births = put-same birth_of (ap Some born);
+    links = λ other d. put-same (links_of other) (links other d);
+    len = put-len;
+    capacity = refl;
+  }
+
+  pub SameBut-linked : (thread : Thread) (links : Links) → new ≡ with_links thread links old → SameBut thread nodes put
+  SameBut-linked thread links e =
+      SameBut-put thread (ap (λ (n : Node T). n.row) e ∙ row-with thread links old) (ap (λ (n : Node T). n.born) e ∙ birth-with thread links old)
+      (λ other d. ap (λ (n : Node T). links_of other (Some n)) e ∙ links-with_other thread other links old d)

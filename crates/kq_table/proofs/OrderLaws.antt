@@ -2,12 +2,14 @@
 -- of the rows.
 use Rattle.std.proofs.Common.{◌≡◌, ℕ, suc, ◌+◌, ◌<◌, ◌≤◌, Bool, true, false, cond, ◌||◌, eqb, List, [], ◌∷◌, ◌++◌, map, filter, length, Option, Some, None, ◌⊎◌, inl, inr, get_or, refl, sym, ap, ◌∙◌, subst, arith}
 use Rattle.std.proofs.lemmas.Bool.{true≢false, false≢true, eqb-true, eqb-false, or_cases, or_left, or_right, cases_lt}
-use Rattle.std.proofs.lemmas.List.Elements.{Contains-append_left, Contains-append_right, Contains-append_cases, Contains-push, Contains-push_cases}
+use Rattle.std.proofs.lemmas.List.Elements.{Contains-append_left, Contains-push, Contains-push_cases}
 use Rattle.std.proofs.lemmas.Option.{none-some, same_Some}
 use Rattle.std.specs.Cmp.{IsEquivalence}
 use Rattle.std.specs.HashMap.{HashMap, get as found}
+use Rattle.std.specs.Option.{option_map}
 use Rattle.std.specs.List.{Contains, dedup, dedup_from}
 use Rattle.std.specs.List.Sorted.{IsNonDecreasingBy}
+use Rattle.slab.proofs.SlabLemmas.{Contains-cons, Contains-cons_cases}
 use Rattle.kq_table.specs.declared.numbered.Birth.{Birth}
 use Rattle.kq_table.specs.Births.{AreRising, before_keys, keys_born, IsBirthOf, AreBirthsOf}
 use Rattle.kq_table.specs.Kept.{IsIndexed, AreBorn}
@@ -24,16 +26,6 @@ module _ {X : Type 0} where
 
   in_front : (x : X) (xs : List X) → Contains (x ∷ xs) x
   in_front x xs = Contains-append_left (x ∷ []) xs x (Contains-push [] x)
-
-  in_rest : (x : X) (xs : List X) (y : X) → Contains xs y → Contains (x ∷ xs) y
-  in_rest x xs y there = Contains-append_right (x ∷ []) xs y there
-
-  front_or_rest : (x : X) (xs : List X) (y : X) → Contains (x ∷ xs) y → (x ≡ y) ⊎ Contains xs y
-  front_or_rest x xs y there =
-      elim (Contains-append_cases (x ∷ []) xs y there) [
-        | inl front ↦ elim (Contains-push_cases [] x y front) [ inl none ↦ absurd (in_none y none) | inr is ↦ inl is ]
-        | inr rest ↦ inr rest
-      ]
 
 -- ---- births that rise
 
@@ -66,19 +58,19 @@ rising-dedup (b ∷ bs) sorted =
 -- of each number one is kept
 kept-from : (k : Birth) (bs : List Birth) (b : Birth) → Contains (k ∷ bs) b → (c : Birth) × Contains (dedup_from (λ (p q : Birth). eqb p.born q.born) k bs) c × (c.born ≡ b.born)
 kept-from k [] b there =
-    elim (front_or_rest k [] b there) [ inl is ↦ (k, in_front k [], ap (λ (x : Birth). x.born) is) | inr none ↦ absurd (in_none b none) ]
+    elim (Contains-cons_cases k b [] there) [ inl is ↦ (k, in_front k [], ap (λ (x : Birth). x.born) is) | inr none ↦ absurd (in_none b none) ]
 kept-from k (x ∷ bs) b there =
     by_test (λ t. eqb x.born k.born ≡ t → (c : Birth) × Contains (cond t (dedup_from (λ (p q : Birth). eqb p.born q.born) k bs) (k ∷ dedup_from (λ (p q : Birth). eqb p.born q.born) x bs)) c × (c.born ≡ b.born)) (eqb x.born k.born)
-    (λ _ e. elim (front_or_rest k (x ∷ bs) b there) [
+    (λ _ e. elim (Contains-cons_cases k b (x ∷ bs) there) [
       | inl is ↦ kept-from k bs b (subst (λ y. Contains (k ∷ bs) y) is (in_front k bs))
-      | inr later ↦ elim (front_or_rest x bs b later) [
+      | inr later ↦ elim (Contains-cons_cases x b bs later) [
         | inl is ↦ let c = kept-from k bs k (in_front k bs) in (c.0, c.1, c.2 ∙ sym (eqb-true x.born k.born e) ∙ ap (λ (y : Birth). y.born) is)
-        | inr rest ↦ kept-from k bs b (in_rest k bs b rest)
+        | inr rest ↦ kept-from k bs b (Contains-cons k b bs rest)
       ]
     ])
-    (λ _ _. elim (front_or_rest k (x ∷ bs) b there) [
+    (λ _ _. elim (Contains-cons_cases k b (x ∷ bs) there) [
       | inl is ↦ (k, in_front k (dedup_from (λ (p q : Birth). eqb p.born q.born) x bs), ap (λ (y : Birth). y.born) is)
-      | inr later ↦ let c = kept-from x bs b later in (c.0, in_rest k (dedup_from (λ (p q : Birth). eqb p.born q.born) x bs) c.0 c.1, c.2)
+      | inr later ↦ let c = kept-from x bs b later in (c.0, Contains-cons k c.0 (dedup_from (λ (p q : Birth). eqb p.born q.born) x bs) c.1, c.2)
     ])
     refl
 
@@ -90,7 +82,7 @@ rising-least : (low : ℕ) (bs : List Birth) (b : Birth) → AreRising low bs �
 rising-least low [] b rise there = absurd (in_none b there)
 rising-least low (x ∷ bs) b rise there =
     let first = rise.0 in
-    elim (front_or_rest x bs b there) [
+    elim (Contains-cons_cases x b bs there) [
       | inl is ↦ let born = ap (λ (y : Birth). y.born) is in omega arith
       | inr rest ↦ let past = rising-least (x.born + 1) bs b rise.1 rest in omega arith
     ]
@@ -107,6 +99,15 @@ born-least births low next (x ∷ slots) s born are there at =
     ]
 
 -- ---- reading them
+
+module _ {K T : Type 0} (key_of : T → K) where
+  pub key-missed : (o : Option T) → None ≡ option_map key_of o → before_keys key_of o [] ≡ []
+  key-missed None none = refl
+  key-missed (Some row) none = absurd (none-some (key_of row) none)
+
+  pub key-found : (o : Option T) (key : K) → Some key ≡ option_map key_of o → before_keys key_of o [] ≡ key ∷ []
+  key-found None key is = absurd (none-some key (sym is))
+  key-found (Some row) key is = ap (λ k. k ∷ []) (sym (same_Some key (key_of row) is))
 
 module _ {K T : Type 0} (key_of : T → K) (rows : ℕ → Option T) where
   pub keys_born-push : (bs : List Birth) (b : Birth) → keys_born key_of rows (bs ++ b ∷ []) ≡ keys_born key_of rows bs ++ before_keys key_of (rows b.slot) []
@@ -234,7 +235,7 @@ module _ {K T : Type 0} (same : K → K → Bool) (key_of : T → K) (rows : ℕ
             let it = taken b (in_front b bs) in
             let own = whole s row are.0 (is_in-here s slots) here is are.1 in
             let own_is : own.0.born ≡ are.0 = own.2 in
-            let least : b.born ≤ are.0 = elim (front_or_rest b bs own.0 own.1) [
+            let least : b.born ≤ are.0 = elim (Contains-cons_cases b own.0 bs own.1) [
               | inl e ↦ let born = ap (λ (y : Birth). y.born) e in omega arith
               | inr behind ↦ let past = rising-least (b.born + 1) bs own.0 rise.1 behind in omega arith
             ] in
@@ -243,9 +244,9 @@ module _ {K T : Type 0} (same : K → K → Bool) (key_of : T → K) (rows : ℕ
               | inr behind ↦ let past = born-least births (are.0 + 1) next slots b.slot b.born are.3 behind it.2 in absurd (omega arith)
             ] in
             let born_is : b.born ≡ are.0 = same_Some b.born are.0 (sym it.2 ∙ ap births at_s ∙ are.1) in
-            let rest : Taken slots bs = skipped s slots bs (λ c there. taken c (in_rest b bs c there)) (λ c there e.
+            let rest : Taken slots bs = skipped s slots bs (λ c there. taken c (Contains-cons b c bs there)) (λ c there e.
             let past = rising-least (b.born + 1) bs c rise.1 there in
-            let own_born : c.born ≡ are.0 = same_Some c.born are.0 (sym (taken c (in_rest b bs c there)).2 ∙ ap births e ∙ are.1) in
+            let own_born : c.born ≡ are.0 = same_Some c.born are.0 (sym (taken c (Contains-cons b c bs there)).2 ∙ ap births e ∙ are.1) in
             absurd (omega arith)) in
             ap (λ o. before_keys key_of o (keys_born key_of rows bs)) (ap rows at_s ∙ here)
             ∙ ap (λ keys. key_of row ∷ keys)
@@ -254,7 +255,7 @@ module _ {K T : Type 0} (same : K → K → Bool) (key_of : T → K) (rows : ℕ
             let got = whole s' r born (later s' there) at_s' pass at_born in
             let past = born-least births (are.0 + 1) next slots s' born are.3 there at_born in
             let got_is : got.0.born ≡ born = got.2 in
-            elim (front_or_rest b bs got.0 got.1) [
+            elim (Contains-cons_cases b got.0 bs got.1) [
               | inl e ↦ let born' = ap (λ (y : Birth). y.born) e in absurd (omega arith)
               | inr behind ↦ (got.0, behind, got.2)
             ]))

@@ -6,10 +6,9 @@ use Rattle.std.specs.Map.{lookup}
 use Rattle.slab.specs.Slab.{Slab, get, slab_len}
 use Rattle.kq_table.specs.declared.node.Ends.{Ends}
 use Rattle.kq_table.specs.declared.node.Node.{Node}
-use Rattle.kq_table.specs.declared.node.Thread.{Thread}
-use Rattle.kq_table.specs.declared.node.Thread.TheVariants.{Order, Watch, Queue}
-use Rattle.kq_table.specs.Threads.{IsThread, IsQueue, row_of, links_of, rows_in, births_in, links_in}
-use Rattle.kq_table.specs.Kept.{names_room, ends_of, watching, AreBorn, HasRoom, IsKept}
+use Rattle.kq_table.specs.declared.node.Thread.TheVariants.{Watch, Queue}
+use Rattle.kq_table.specs.Threads.{IsThread, row_of, links_of, rows_in, links_in}
+use Rattle.kq_table.specs.Kept.{names_room, ends_of, watching, IsKept}
 
 -- a map that has no entries has nothing of any name
 pub found-empty : {K V S : Type 0} (same : K → K → Bool) (m : HashMap K V S) → m.entries ≡ [] → (key : K) → found same m key ≡ None
@@ -53,46 +52,31 @@ module _ {K T G S R : Type 0} (same : K → K → Bool) (alike : G → G → Boo
 module _ {K T G S R : Type 0} {same : K → K → Bool} {alike : G → G → Bool} {key_of : T → K} {target_of : T → Option G}
     {nodes : Slab (Node T)} {index : HashMap K ℕ S} {targets : HashMap G Ends R} {order queue : Ends} {waiting limit births : ℕ}
     (k : IsKept same alike key_of target_of nodes index targets order queue waiting limit births) where
-  -- the same rows, with the same names, and more room
-  pub refitted : {S' R' : Type 0} (more : Slab (Node T)) (noted : HashMap K ℕ S') (listed : HashMap G Ends R') (most : ℕ) → rows_in more ≡ rows_in nodes → births_in more ≡ births_in nodes
-      → ((thread : Thread) → links_in thread more ≡ links_in thread nodes) → ((key : K) → found same noted key ≡ found same index key) → ((g : G) → found alike listed g ≡ found alike targets g)
-      → HasRoom more noted listed k.slots most
-      → (new : IsKept same alike key_of target_of more noted listed order queue waiting most births) × (new.slots ≡ k.slots) × (new.waits ≡ k.waits)
-  refitted more noted listed most rows_are births_are links_are noted_is listed_is room = (
-    record {
-      slots = k.slots;
-      waits = k.waits;
-      ordered = subst (λ f. IsThread f order k.slots) (sym (links_are Order)) k.ordered;
-      whole = λ slot some. k.whole slot (ap (λ (f : ℕ → Option T). is_some (f slot)) (sym rows_are) ∙ some);
-      entered = record {
-        indexed = λ slot row there here. noted_is (key_of row) ∙ k.entered.indexed slot row there (ap (λ (f : ℕ → Option T). f slot) (sym rows_are) ∙ here);
-        watched = λ g.
-            subst (λ o. IsThread (links_in Watch more) (ends_of o) (watching alike target_of g (rows_in more) k.slots)) (sym (listed_is g))
-            (subst (λ f. IsThread f (ends_of (found alike targets g)) (watching alike target_of g (rows_in more) k.slots)) (sym (links_are Watch))
-            (subst (λ f. IsThread (links_in Watch nodes) (ends_of (found alike targets g)) (watching alike target_of g f k.slots)) (sym rows_are) (k.entered.watched g)));
-      };
-      queued = subst (λ f. IsQueue f queue k.waits waiting) (sym (links_are Queue)) k.queued;
-      born = subst (λ f. AreBorn f 0 births k.slots) (sym births_are) k.born;
-      room = room;
-    },
-    refl,
-    refl,
-  )
-
   -- the same nodes and names, and more room
+  roomier-at : {S' R' : Type 0} (capacity : ℕ) (noted : HashMap K ℕ S') (listed : HashMap G Ends R') (most : ℕ)
+      → ((key : K) → found same noted key ≡ found same index key) → ((g : G) → found alike listed g ≡ found alike targets g)
+      → limit ≤ most → most ≤ capacity → most ≤ names_room noted → most ≤ names_room listed
+      → IsKept same alike key_of target_of (record nodes { capacity = capacity }) noted listed order queue waiting most births
+  roomier-at capacity noted listed most noted_is listed_is up nodes_fit keys_fit targets_fit =
+      let within = k.room.within in
+      record {
+        slots = k.slots;
+        waits = k.waits;
+        ordered = k.ordered;
+        whole = k.whole;
+        entered = record {
+          indexed = λ slot row there here. noted_is (key_of row) ∙ k.entered.indexed slot row there here;
+          watched = λ g. subst (λ o. IsThread (links_in Watch nodes) (ends_of o) (watching alike target_of g (rows_in nodes) k.slots)) (sym (listed_is g)) (k.entered.watched g);
+        };
+        queued = k.queued;
+        born = k.born;
+        room = record { counted = k.room.counted; within = omega arith; nodes_fit = nodes_fit; keys_fit = keys_fit; targets_fit = targets_fit };
+      }
+
   pub roomier : {S' R' : Type 0} (more : Slab (Node T)) (noted : HashMap K ℕ S') (listed : HashMap G Ends R') (most : ℕ) → more ≡ record nodes { capacity = more.capacity }
       → ((key : K) → found same noted key ≡ found same index key) → ((g : G) → found alike listed g ≡ found alike targets g)
       → limit ≤ most → most ≤ more.capacity → most ≤ names_room noted → most ≤ names_room listed
       → IsKept same alike key_of target_of more noted listed order queue waiting most births
   roomier more noted listed most more_is noted_is listed_is up nodes_fit keys_fit targets_fit =
-      let len : slab_len more ≡ slab_len nodes = ap (λ (s : Slab (Node T)). slab_len s) more_is in
-      let counted = k.room.counted in
-      let within = k.room.within in
-      (refitted more noted listed most (ap (λ (s : Slab (Node T)). rows_in s) more_is) (ap (λ (s : Slab (Node T)). births_in s) more_is)
-      (λ thread. ap (λ (s : Slab (Node T)). links_in thread s) more_is) noted_is listed_is (record {
-        counted = len ∙ counted;
-        within = omega arith;
-        nodes_fit = nodes_fit;
-        keys_fit = keys_fit;
-        targets_fit = targets_fit;
-      })).0
+      subst (λ (n : Slab (Node T)). IsKept same alike key_of target_of n noted listed order queue waiting most births) (sym more_is)
+      (roomier-at more.capacity noted listed most noted_is listed_is up nodes_fit keys_fit targets_fit)

@@ -1,7 +1,6 @@
 -- Searching rows by a key: where it ends, and that keys that are the same find the same.
 use Rattle.std.proofs.Common.{◌≡◌, Bool, true, false, cond, List, [], ◌∷◌, ◌++◌, Option, Some, None, sym, ap, ◌∙◌, refl}
-use Rattle.std.proofs.lemmas.Option.{none-some, same_Some}
-use Rattle.std.specs.Cmp.{IsEquivalence}
+use Rattle.std.proofs.lemmas.Option.{none-some}
 use Rattle.kq_table.specs.Rows.{find_row}
 
 -- a test that was made: the goal at its answer, with what it tells
@@ -41,14 +40,6 @@ module _ {K T : Type 0} (same : K → K → Bool) (key_of : T → K) where
   pub find_row-tail : (key : K) (x : T) (rows : List T) → find_row same key_of key (x ∷ rows) ≡ None → find_row same key_of key rows ≡ None
   find_row-tail key x rows e = sym (find_row-later key x rows (find_row-head key x rows e)) ∙ e
 
-  -- what is found is of the key
-  pub find_row-key : (key : K) (rows : List T) (row : T) → find_row same key_of key rows ≡ Some row → same key (key_of row) ≡ true
-  find_row-key key [] row e = absurd (none-some row (sym (find_row-none key) ∙ e))
-  find_row-key key (x ∷ rows) row e =
-      by_test (λ b. same key (key_of x) ≡ b → found_at key x rows b ≡ Some row → same key (key_of row) ≡ true) (same key (key_of x))
-      (λ _ is f. ap (λ (r : T). same key (key_of r)) (sym (same_Some x row f)) ∙ is)
-      (λ _ _ f. find_row-key key rows row f) refl (sym (find_row-cons key x rows) ∙ e)
-
   pub find_row-append : (key : K) (rows more : List T) → find_row same key_of key (rows ++ more) ≡ found_or (find_row same key_of key rows) (find_row same key_of key more)
   find_row-append key [] more = ap (λ found. found_or found (find_row same key_of key more)) (sym (find_row-none key))
   find_row-append key (x ∷ rows) more =
@@ -56,12 +47,3 @@ module _ {K T : Type 0} (same : K → K → Bool) (key_of : T → K) where
       ∙ by_test (λ b. found_at key x (rows ++ more) b ≡ found_or (found_at key x rows b) (find_row same key_of key more)) (same key (key_of x))
       (λ _. refl) (λ _. find_row-append key rows more)
       ∙ ap (λ found. found_or found (find_row same key_of key more)) (sym (find_row-cons key x rows))
-
-  -- keys that are the same find the same
-  pub find_row-same : IsEquivalence same → (a b : K) (rows : List T) → same a b ≡ true → find_row same key_of a rows ≡ find_row same key_of b rows
-  find_row-same laws a b [] is = find_row-none a ∙ sym (find_row-none b)
-  find_row-same laws a b (x ∷ rows) is =
-      find_row-cons a x rows
-      ∙ ap (found_at a x rows) (laws.congr a b (key_of x) is)
-      ∙ ap (λ rest. cond (same b (key_of x)) (Some x) rest) (find_row-same laws a b rows is)
-      ∙ sym (find_row-cons b x rows)

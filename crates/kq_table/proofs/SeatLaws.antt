@@ -1,12 +1,11 @@
 -- The rows that stand in slots: those of a list that is split, and what is found among them.
-use Rattle.std.proofs.Common.{◌≡◌, ℕ, suc, Bool, true, false, cond, not, eqb, List, [], ◌∷◌, ◌++◌, length, Option, Some, None, slice_get, refl, sym, ap, ◌∙◌}
+use Rattle.std.proofs.Common.{◌≡◌, ℕ, suc, Bool, true, false, cond, eqb, List, [], ◌∷◌, ◌++◌, length, Option, Some, None, slice_get, refl, sym, ap, ◌∙◌}
 use Rattle.std.proofs.lemmas.Bool.{false≢true, or_right, false_from_ne_true}
 use Rattle.std.specs.Cmp.{IsEquivalence}
-use Rattle.kq_table.specs.Rows.{find_row, row_after, rows_behind, with_row, without_row, HaveOwnKeys}
+use Rattle.kq_table.specs.Rows.{find_row, row_after, rows_behind, HaveOwnKeys}
 use Rattle.kq_table.specs.Threads.{is_in, AreDistinct, before_rows, rows_at}
 use Rattle.kq_table.specs.Kept.{AreApart}
 use Rattle.kq_table.proofs.RowLaws.{found_or, find_row-none, find_row-here, find_row-later, find_row-head, find_row-tail, find_row-append}
-use Rattle.kq_table.proofs.KeepLaws.{with_row-absent, without_row-absent}
 use Rattle.kq_table.proofs.ThreadLaws.{is_in-here, in_left, in_right, AreDistinct-gone}
 
 module _ {T : Type 0} where
@@ -46,10 +45,6 @@ module _ {T : Type 0} where
       let first = filled x (is_in-here x xs) in
       ap (λ o. length (before_rows o (rows_at rows xs))) first.1 ∙ ap suc (length-rows_at rows xs (AreFilled-rest rows x xs filled))
 
-  -- the first row stands in the first slot
-  pub first-row : (rows : ℕ → Option T) (xs : List ℕ) (x : ℕ) (row : T) → rows x ≡ Some row → slice_get (rows_at rows (x ∷ xs)) 0 ≡ Some row
-  first-row rows xs x row here = ap (λ o. slice_get (before_rows o (rows_at rows xs)) 0) here
-
 module _ {K T : Type 0} (same : K → K → Bool) (key_of : T → K) (laws : IsEquivalence same) (rows : ℕ → Option T) where
   -- in none of the slots stands a row of this key
   abbrev pub IsAway : K → List ℕ → Type 0
@@ -68,9 +63,7 @@ module _ {K T : Type 0} (same : K → K → Bool) (key_of : T → K) (laws : IsE
   -- rows that are told apart by their keys at one of them
   pub record IsParted (key : K) (row : T) (before behind all : List T) : Type 0 where
     pub all_is : all ≡ before ++ row ∷ behind
-    pub key_is : same key (key_of row) ≡ true
     pub none_before : find_row same key_of key before ≡ None
-    pub none_behind : find_row same key_of key behind ≡ None
 
   away-from : (key : K) (s : ℕ) (row : T) (all xs : List ℕ) → AreApart same key_of rows all → is_in s all ≡ true → rows s ≡ Some row → same key (key_of row) ≡ true
       → ((t : ℕ) → is_in t xs ≡ true → is_in t all ≡ true) → is_in s xs ≡ false → IsAway key xs
@@ -86,19 +79,10 @@ module _ {K T : Type 0} (same : K → K → Bool) (key_of : T → K) (laws : IsE
       let there = in_right s xs (s ∷ ys) (is_in-here s ys) in
       record {
         all_is = rows_at-split rows xs s ys row here;
-        key_is = key_is;
         none_before = find_row-away key xs (away-from key s row (xs ++ s ∷ ys) xs apart there here key_is (λ t in_xs. in_left t xs (s ∷ ys) in_xs) gone.0);
-        none_behind = find_row-away key ys (away-from key s row (xs ++ s ∷ ys) ys apart there here key_is
-            (λ t in_ys. in_right t xs (s ∷ ys) (or_right (eqb t s) (is_in t ys) in_ys)) gone.1);
       }
 
 module _ {K T : Type 0} (same : K → K → Bool) (key_of : T → K) (laws : IsEquivalence same) where
-  abbrev kept : T → List T → Bool → List T
-  kept x rest b = cond (not b) (x ∷ rest) rest
-
-  abbrev put : T → T → Bool → T
-  put row x b = cond b row x
-
   -- ---- at a row between others that are of other keys
 
   pub find_row-parted : (key : K) (row : T) (before behind : List T) → find_row same key_of key before ≡ None → same key (key_of row) ≡ true → find_row same key_of key (before ++ row ∷ behind) ≡ Some row
@@ -132,24 +116,6 @@ module _ {K T : Type 0} (same : K → K → Bool) (key_of : T → K) (laws : IsE
       let away = head_away key x before none in
       ap (λ b. cond b (before ++ row ∷ behind) (rows_behind same key_of key (before ++ row ∷ behind))) away.0
       ∙ rows_behind-parted key row before behind away.1 is
-
-  pub with_row-parted : (new row : T) (before behind : List T) → find_row same key_of (key_of new) before ≡ None → find_row same key_of (key_of new) behind ≡ None → same (key_of new) (key_of row) ≡ true
-      → with_row same key_of new (before ++ row ∷ behind) ≡ before ++ new ∷ behind
-  with_row-parted new row [] behind none none_behind is =
-      ap (λ b. put new row b ∷ with_row same key_of new behind) is ∙ ap (λ rest. new ∷ rest) (with_row-absent same key_of laws new behind none_behind)
-  with_row-parted new row (x ∷ before) behind none none_behind is =
-      let away = head_away (key_of new) x before none in
-      ap (λ b. put new x b ∷ with_row same key_of new (before ++ row ∷ behind)) away.0
-      ∙ ap (λ rest. x ∷ rest) (with_row-parted new row before behind away.1 none_behind is)
-
-  pub without_row-parted : (key : K) (row : T) (before behind : List T) → find_row same key_of key before ≡ None → find_row same key_of key behind ≡ None → same key (key_of row) ≡ true
-      → without_row same key_of key (before ++ row ∷ behind) ≡ before ++ behind
-  without_row-parted key row [] behind none none_behind is =
-      ap (kept row (without_row same key_of key behind)) is ∙ without_row-absent same key_of laws key behind none_behind
-  without_row-parted key row (x ∷ before) behind none none_behind is =
-      let away = head_away key x before none in
-      ap (kept x (without_row same key_of key (before ++ row ∷ behind))) away.0
-      ∙ ap (λ rest. x ∷ rest) (without_row-parted key row before behind away.1 none_behind is)
 
   -- rows in slots of different keys have their own keys
   pub HaveOwnKeys-at : (rows : ℕ → Option T) (xs : List ℕ) → AreDistinct xs → AreApart same key_of rows xs → HaveOwnKeys same key_of (rows_at rows xs)

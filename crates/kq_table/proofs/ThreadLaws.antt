@@ -203,9 +203,6 @@ AreLinked-join f xs ys q p front back d =
 
 -- ---- threads
 
-pub IsThread-none : (f : ℕ → Option Links) (e : Ends) → e.first ≡ None → e.last ≡ None → IsThread f e []
-IsThread-none f e first last = record { linked = tt; distinct = tt; first = first; last = last }
-
 pub IsThread-same : (f g : ℕ → Option Links) (e : Ends) (l : List ℕ) → ((t : ℕ) → is_in t l ≡ true → g t ≡ f t) → IsThread f e l → IsThread g e l
 IsThread-same f g e l same is = record {
   linked = AreLinked-same f g None l None same is.linked;

@@ -1,6 +1,6 @@
 -- Lists of slots without one of them.
 use Rattle.std.proofs.Common.{◌≡◌, ℕ, ◌+◌, ◌≤◌, Bool, true, false, cond, not, eqb, List, [], ◌∷◌, ◌++◌, filter, length, Option, Some, inl, inr, length-append, refl, sym, ap, ◌∙◌, subst, arith}
-use Rattle.std.proofs.lemmas.Bool.{false≢true, eqb-true, or_cases, or_parts, or_left, or_right, not_from_true, not_from_false, not-true, false_from_ne_true}
+use Rattle.std.proofs.lemmas.Bool.{false≢true, eqb-true, or_cases, or_parts, or_left, or_right, not_from_false, not-true, false_from_ne_true}
 use Rattle.kq_table.specs.declared.node.Ends.{Ends}
 use Rattle.kq_table.specs.declared.node.Links.{Links}
 use Rattle.kq_table.specs.Threads.{is_in, AreDistinct, without_slot, IsThread, passed_over, ends_past, before_rows, rows_at}
@@ -73,9 +73,6 @@ without-split s (x ∷ xs) ys out behind =
     let parts = or_parts (eqb s x) (is_in s xs) out in
     ap (λ b. kept x (without_slot s (xs ++ s ∷ ys)) (not b)) (apart-sym s x parts.0)
     ∙ ap (λ rest. x ∷ rest) (without-split s xs ys parts.1 behind)
-
-pub without-gone : (s : ℕ) (xs : List ℕ) → is_in s (without_slot s xs) ≡ false
-without-gone s xs = out_of-filter (λ t. not (eqb t s)) xs s (not_from_true (eqb s s) (eqb-refl s))
 
 pub without-in : (s t : ℕ) (xs : List ℕ) → is_in t (without_slot s xs) ≡ true → (is_in t xs ≡ true) × (eqb t s ≡ false)
 without-in s t xs there =

@@ -51,6 +51,21 @@ module _ {T G : Type 0} (alike : G → G → Bool) (target_of : T → Option G) 
       (target : G) → IsThread links (ends_of (found alike targets target)) (watching target rows slots)
 
 module _ {K T : Type 0} (same : K → K → Bool) (key_of : T → K) where
+  -- it is the row of this key
+  abbrev pub is_key_of : K → Option T → Bool
+  is_key_of key None = false
+  is_key_of key (Some row) = same key (key_of row)
+
+  -- the row of this key stands at this slot
+  pub record StandsAt (rows : ℕ → Option T) (key : K) (slot : ℕ) : Type 0 where
+    pub row : T
+    pub here : rows slot ≡ Some row
+    pub is : same key (key_of row) ≡ true
+
+  -- no row is of this key
+  abbrev pub HasNoRow : (ℕ → Option T) → K → Type 0
+  HasNoRow rows key = (slot : ℕ) (row : T) → rows slot ≡ Some row → same key (key_of row) ≡ true → ⊥
+
   -- Each row is found where the index says. Of keys that have no row it may say anything, so taking a row out leaves it
   -- as it is.
   abbrev pub IsIndexed : {S : Type 0} → (ℕ → Option T) → HashMap K ℕ S → Type 0

@@ -4,7 +4,7 @@ ghost use Rattle.kq_table.specs.Kept.{AreBorn};
 ghost use Rattle.kq_table.specs.Threads.{births_in, head_or, links_in, AreDistinct, AreLinked, SameButBirths};
 ghost use Rattle.kq_table.specs.declared.node.Thread.TheVariants.{Order};
 
-use crate::node::Node;
+use crate::node::{Node, Thread};
 use crate::nodes::{set_birth, slot_behind};
 use slab::Slab;
 
@@ -21,7 +21,7 @@ fn number_anew<T: Copy>(nodes: &mut Slab<Node<T>>, first: Option<usize>)
             return;
         };
         set_birth(nodes, slot, step as u64);
-        next = slot_behind(nodes, slot);
+        next = slot_behind(nodes, Thread::Order, slot);
     }
 }
 

@@ -9,9 +9,10 @@ ghost use Rattle.kq_table.specs.Threads.{AreLinked, SameBut};
 ghost use Rattle.kq_table.specs.declared.node.Thread.TheVariants.{Order, Watch};
 
 use crate::Keyed;
+use crate::find::{key_at, target_at};
 use crate::link::{link_last, unlink};
 use crate::node::{Ends, Node, Thread};
-use crate::nodes::{row_at, slot_behind};
+use crate::nodes::slot_behind;
 use slab::Slab;
 use std::collections::HashMap;
 use std::hash::Hash;
@@ -66,10 +67,7 @@ fn watch<T: Keyed>(nodes: &mut Slab<Node<T>>, targets: &mut HashMap<T::Target, E
     ensures room { names_room targets.old ≤ names_room targets.new }
     ensures spare { spare targets.old ≤ spare targets.new + 1 }
 {
-    let Some(row) = row_at(nodes, Some(slot)) else {
-        return;
-    };
-    let Some(target) = row.target() else {
+    let Some(target) = target_at(nodes, slot) else {
         return;
     };
     let mut ends = ends_at(targets, target);
@@ -99,10 +97,10 @@ pub(crate) fn enter<T: Keyed>(
     ensures targets_room { names_room targets.old ≤ names_room targets.new }
     ensures targets_spare { spare targets.old ≤ spare targets.new + 1 }
 {
-    let Some(row) = row_at(nodes, Some(slot)) else {
+    let Some(key) = key_at(nodes, Some(slot)) else {
         return;
     };
-    note(index, row.key(), slot);
+    note(index, key, slot);
     watch(nodes, targets, slot);
 }
 
@@ -134,7 +132,7 @@ pub(crate) fn enter_all<T: Keyed>(
             return;
         };
         enter(nodes, index, targets, slot);
-        next = slot_behind(nodes, slot);
+        next = slot_behind(nodes, Thread::Order, slot);
     }
 }
 
@@ -179,10 +177,7 @@ pub(crate) fn withdraw<T: Keyed>(
     ensures same { SameBut Watch nodes.old nodes.new }
     ensures room { names_room targets.old ≤ names_room targets.new }
 {
-    let Some(row) = row_at(nodes, Some(slot)) else {
-        return;
-    };
-    let Some(target) = row.target() else {
+    let Some(target) = target_at(nodes, slot) else {
         return;
     };
     let mut ends = ends_at(targets, target);

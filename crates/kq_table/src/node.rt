@@ -1,14 +1,14 @@
 ghost use Rattle.std.specs.Prelude.{◌≡◌, None};
 
 /// The slots before a slot and behind it.
-#[derive(Debug, Drop, Clone, Copy)]
+#[derive(Drop, Clone, Copy)]
 pub struct Links {
     pub(crate) before: Option<usize>,
     pub(crate) after: Option<usize>,
 }
 
 /// The first slot and the last one.
-#[derive(Debug, Drop, Clone, Copy)]
+#[derive(Drop, Clone, Copy)]
 pub struct Ends {
     pub(crate) first: Option<usize>,
     pub(crate) last: Option<usize>,
@@ -26,7 +26,7 @@ impl Ends {
 }
 
 /// What links slots: the order of attachment, the target that their rows watch, and the queue.
-#[derive(Debug, Drop, Clone, Copy)]
+#[derive(Drop, Clone, Copy)]
 pub enum Thread {
     Order,
     Watch,
@@ -34,7 +34,7 @@ pub enum Thread {
 }
 
 /// A row with its links.
-#[derive(Drop, Clone, Copy)]
+#[derive(Drop)]
 pub struct Node<T> {
     pub(crate) row: T,
     /// It rises in the order of attachment.

@@ -4,7 +4,7 @@ ghost use Rattle.slab.specs.Slab.{get, slab_len};
 ghost use Rattle.kq_table.specs.Threads.{after_of, births_in, links_in, links_of, rows_in, with_birth, with_links};
 ghost use Rattle.kq_table.specs.Threads.{written, SameBut, SameButBirths};
 ghost use Rattle.kq_table.specs.declared.node.Thread.{Thread as Threads};
-ghost use Rattle.kq_table.specs.declared.node.Thread.TheVariants.{Order, Queue};
+ghost use Rattle.kq_table.specs.declared.node.Thread.TheVariants.{Queue};
 
 use crate::node::{Links, Node, Thread};
 use slab::Slab;
@@ -20,34 +20,14 @@ impl<T: Copy> Node<T> {
         }
     }
 
-    pub(crate) fn with_links(self, thread: Thread, links: Links) -> Node<T>
-        ensures { result ≡ with_links thread links self }
+    fn set_links(&mut self, thread: Thread, links: Links)
+        ensures { self.new ≡ with_links thread links self.old }
     {
         match thread {
-            Thread::Order => Node {
-                order: links,
-                ..self
-            },
-            Thread::Watch => Node {
-                watch: links,
-                ..self
-            },
-            Thread::Queue => Node {
-                queue: Some(links),
-                ..self
-            },
+            Thread::Order => self.order = links,
+            Thread::Watch => self.watch = links,
+            Thread::Queue => self.queue = Some(links),
         }
-    }
-}
-
-/// The node at a slot.
-#[inline(always)]
-pub(crate) fn node_at<T: Copy>(nodes: &Slab<Node<T>>, slot: usize) -> Option<Node<T>>
-    ensures { result ≡ get nodes.now slot }
-{
-    match nodes.get(slot) {
-        None => None,
-        Some(node) => Some(*node),
     }
 }
 
@@ -58,7 +38,7 @@ pub(crate) fn row_at<T: Copy>(nodes: &Slab<Node<T>>, slot: Option<usize>) -> Opt
     let Some(slot) = slot else {
         return None;
     };
-    let Some(node) = node_at(nodes, slot) else {
+    let Some(node) = nodes.get(slot) else {
         return None;
     };
     Some(node.row)
@@ -68,30 +48,24 @@ pub(crate) fn row_at<T: Copy>(nodes: &Slab<Node<T>>, slot: Option<usize>) -> Opt
 pub(crate) fn links_at<T: Copy>(nodes: &Slab<Node<T>>, thread: Thread, slot: usize) -> Option<Links>
     ensures { result ≡ links_in thread nodes.now slot }
 {
-    let Some(node) = node_at(nodes, slot) else {
+    let Some(node) = nodes.get(slot) else {
         return None;
     };
     node.links(thread)
 }
 
-/// The slot behind one in the order of attachment.
-pub(crate) fn slot_behind<T: Copy>(nodes: &Slab<Node<T>>, slot: usize) -> Option<usize>
-    ensures { result ≡ after_of (links_in Order nodes.now slot) }
+/// The slot behind one in a thread.
+pub(crate) fn slot_behind<T: Copy>(
+    nodes: &Slab<Node<T>>,
+    thread: Thread,
+    slot: usize,
+) -> Option<usize>
+    ensures { result ≡ after_of (links_in thread nodes.now slot) }
 {
-    let Some(links) = links_at(nodes, Thread::Order, slot) else {
+    let Some(links) = links_at(nodes, thread, slot) else {
         return None;
     };
     links.after
-}
-
-/// Puts a node in the place of that at a slot.
-fn put_node<T: Copy>(nodes: &mut Slab<Node<T>>, slot: usize, node: Node<T>)
-    requires { IsSome (get nodes.old slot) }
-    ensures node { get nodes.new ≡ written slot (Some node) (get nodes.old) }
-    ensures len { slab_len nodes.new ≡ slab_len nodes.old }
-    ensures capacity { nodes.new.capacity ≡ nodes.old.capacity }
-{
-    nodes[slot] = node;
 }
 
 /// Gives the node at a slot these links.
@@ -105,8 +79,7 @@ pub(crate) fn put_links<T: Copy>(
     ensures links { links_in thread nodes.new ≡ written slot (Some links) (links_in thread nodes.old) }
     ensures same { SameBut thread nodes.old nodes.new }
 {
-    let node = nodes[slot];
-    put_node(nodes, slot, node.with_links(thread, links));
+    nodes[slot].set_links(thread, links);
 }
 
 /// Takes the node at a slot out of the queue, whose neighbours are no longer linked with it.
@@ -115,15 +88,7 @@ pub(crate) fn leave_queue<T: Copy>(nodes: &mut Slab<Node<T>>, slot: usize)
     ensures links { links_in Queue nodes.new ≡ written slot None (links_in Queue nodes.old) }
     ensures same { SameBut Queue nodes.old nodes.new }
 {
-    let node = nodes[slot];
-    put_node(
-        nodes,
-        slot,
-        Node {
-            queue: None,
-            ..node
-        },
-    );
+    nodes[slot].queue = None;
 }
 
 /// Puts a row in the place of that at a slot.
@@ -135,8 +100,7 @@ pub(crate) fn set_row<T: Copy>(nodes: &mut Slab<Node<T>>, slot: usize, row: T)
     ensures len { slab_len nodes.new ≡ slab_len nodes.old }
     ensures capacity { nodes.new.capacity ≡ nodes.old.capacity }
 {
-    let node = nodes[slot];
-    put_node(nodes, slot, Node { row, ..node });
+    nodes[slot].row = row;
 }
 
 /// Gives the row at a slot, where there is one, this number in the order of attachment.
@@ -144,7 +108,7 @@ pub(crate) fn set_birth<T: Copy>(nodes: &mut Slab<Node<T>>, slot: usize, born: u
     ensures births { births_in nodes.new ≡ with_birth slot born (births_in nodes.old) }
     ensures same { SameButBirths nodes.old nodes.new }
 {
-    if let Some(node) = node_at(nodes, slot) {
-        put_node(nodes, slot, Node { born, ..node });
+    if let Some(node) = nodes.get_mut(slot) {
+        node.born = born;
     }
 }

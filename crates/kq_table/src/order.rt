@@ -6,9 +6,8 @@ ghost use Rattle.kq_table.specs.Rows.{is_among};
 ghost use Rattle.kq_table.specs.Threads.{births_in, rows_in};
 
 use crate::Keyed;
-use crate::find::indexed;
+use crate::find::{indexed, key_at};
 use crate::node::Node;
-use crate::nodes::node_at;
 use crate::numbered::Birth;
 use crate::table::Table;
 use slab::Slab;
@@ -30,12 +29,11 @@ fn births_of<T: Keyed>(
 {
     places.clear();
     for key in keys {
-        match indexed(nodes, index, *key) {
-            None => {}
-            Some(found) => places.push_reserved(Birth {
-                born: found.node.born,
-                slot: found.slot,
-            }),
+        if let Some(slot) = indexed(nodes, index, *key) {
+            places.push_reserved(Birth {
+                born: nodes[slot].born,
+                slot,
+            });
         }
     }
     places.sort_unstable_by_key(|birth| birth.born);
@@ -50,9 +48,8 @@ fn take_keys<T: Keyed>(nodes: &Slab<Node<T>>, places: &[Birth], keys: &mut Vec<T
 {
     keys.clear();
     for place in places {
-        match node_at(nodes, place.slot) {
-            None => {}
-            Some(node) => keys.push_reserved(node.row.key()),
+        if let Some(key) = key_at(nodes, Some(place.slot)) {
+            keys.push_reserved(key);
         }
     }
 }

@@ -5,6 +5,8 @@ ghost use Rattle.kq_table.specs.Rows.{HaveOwnKeys, HaveRows};
 
 use crate::Keyed;
 use crate::find::{key_at, near, placed_at};
+use crate::node::Thread;
+use crate::nodes::{links_at, slot_behind};
 use crate::placed::{Place, Placed};
 use crate::table::Table;
 use crate::waiting::{dequeue, enqueue};
@@ -23,7 +25,7 @@ impl<T: Keyed> Table<T> {
     {
         match near(&self.nodes, &self.index, guess, key) {
             None => false,
-            Some(found) => found.node.queue.is_some(),
+            Some(slot) => links_at(&self.nodes, Thread::Queue, slot).is_some(),
         }
     }
 
@@ -43,13 +45,10 @@ impl<T: Keyed> Table<T> {
     pub fn behind(&self, key: T::Key) -> Option<T::Key>
         ensures { result ≡ key_behind T.Key.eq key self.now.queue }
     {
-        let Some(found) = near(&self.nodes, &self.index, Place::nowhere(), key) else {
+        let Some(slot) = near(&self.nodes, &self.index, Place::nowhere(), key) else {
             return None;
         };
-        let Some(links) = found.node.queue else {
-            return None;
-        };
-        key_at(&self.nodes, links.after)
+        key_at(&self.nodes, slot_behind(&self.nodes, Thread::Queue, slot))
     }
 
     /// Puts a key that has a row at the back of the queue, where it is not in it. Where its row stands
@@ -59,18 +58,13 @@ impl<T: Keyed> Table<T> {
         ensures queue { self.new.queue ≡ put_in T.Key.eq T.key_of key self.old.rows self.old.queue }
         ensures room { self.new.room ≡ self.old.room }
     {
-        let Some(found) = near(&self.nodes, &self.index, guess, key) else {
+        let Some(slot) = near(&self.nodes, &self.index, guess, key) else {
             return;
         };
-        if found.node.queue.is_some() {
+        if links_at(&self.nodes, Thread::Queue, slot).is_some() {
             return;
         }
-        enqueue(
-            &mut self.nodes,
-            &mut self.queue,
-            &mut self.waiting,
-            found.slot,
-        );
+        enqueue(&mut self.nodes, &mut self.queue, &mut self.waiting, slot);
     }
 
     /// Takes a key out of the queue, where it is in it. Where its row stands at the guessed place, it is
@@ -80,15 +74,10 @@ impl<T: Keyed> Table<T> {
         ensures queue { self.new.queue ≡ without_waiting T.Key.eq key self.old.queue }
         ensures room { self.new.room ≡ self.old.room }
     {
-        let Some(found) = near(&self.nodes, &self.index, guess, key) else {
+        let Some(slot) = near(&self.nodes, &self.index, guess, key) else {
             return;
         };
-        dequeue(
-            &mut self.nodes,
-            &mut self.queue,
-            &mut self.waiting,
-            found.slot,
-        );
+        dequeue(&mut self.nodes, &mut self.queue, &mut self.waiting, slot);
     }
 
     /// Takes the key at the front out of the queue, and gives its row.

@@ -20,7 +20,10 @@ fn fit_names<K: Copy + Eq + Hash, V: Copy>(
     ensures fits { OnOk result (most ≤ names_room names.new) }
 {
     let more = most.saturating_sub(names.len());
-    names.reserve(more).map_err(|_| Memory)
+    if names.reserve(more).is_err() {
+        return Err(Memory);
+    }
+    Ok(())
 }
 
 /// Makes room for `more` rows, with which there are `limit`, and for their keys and targets.
@@ -43,7 +46,9 @@ pub(crate) fn fit<T: Keyed>(
     ensures keys_fit { OnOk result (limit ≤ names_room index.new) }
     ensures targets_fit { OnOk result (limit ≤ names_room targets.new) }
 {
-    nodes.reserve(more).map_err(|_| Memory)?;
+    if nodes.reserve(more).is_err() {
+        return Err(Memory);
+    }
     // Some names more than rows, so that those that have gone are seldom dropped.
     let names = limit.saturating_add(limit / 4);
     fit_names(index, names)?;

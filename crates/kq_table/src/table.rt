@@ -6,10 +6,10 @@ ghost use Rattle.kq_table.specs.Rows.{find_row, row_after, with_row, without_row
 use crate::Keyed;
 use crate::birth::next_birth;
 use crate::enter::{enter, enter_all, make_room, withdraw};
-use crate::find::near;
+use crate::find::{near, placed_at, target_at};
 use crate::link::{link_last, unlink};
 use crate::node::{Ends, Node, Thread};
-use crate::nodes::{row_at, set_row};
+use crate::nodes::{row_at, set_row, slot_behind};
 use crate::placed::{Place, Placed};
 use crate::room::fit;
 use crate::waiting::dequeue;
@@ -154,10 +154,7 @@ impl<T: Keyed> Table<T> {
     pub fn find_at(&self, guess: Place, key: T::Key) -> Option<T>
         ensures { result ≡ find_row T.Key.eq T.key_of key self.now.rows }
     {
-        let Some(found) = near(&self.nodes, &self.index, guess, key) else {
-            return None;
-        };
-        Some(found.node.row)
+        row_at(&self.nodes, near(&self.nodes, &self.index, guess, key))
     }
 
     /// The same as `locate`. Where the row of the key stands at the guessed place, that is all that is
@@ -165,13 +162,7 @@ impl<T: Keyed> Table<T> {
     pub fn locate_at(&self, guess: Place, key: T::Key) -> Option<Placed<T>>
         ensures { option_map (λ p. p.row) result ≡ find_row T.Key.eq T.key_of key self.now.rows }
     {
-        let Some(found) = near(&self.nodes, &self.index, guess, key) else {
-            return None;
-        };
-        Some(Placed {
-            row: found.node.row,
-            place: Place { slot: found.slot },
-        })
+        placed_at(&self.nodes, near(&self.nodes, &self.index, guess, key))
     }
 
     /// Whether there is a row of a key.
@@ -202,10 +193,10 @@ impl<T: Keyed> Table<T> {
     pub fn next_after_at(&self, guess: Place, key: T::Key) -> Option<T>
         ensures { result ≡ row_after T.Key.eq T.key_of key self.now.rows }
     {
-        let Some(found) = near(&self.nodes, &self.index, guess, key) else {
+        let Some(slot) = near(&self.nodes, &self.index, guess, key) else {
             return None;
         };
-        row_at(&self.nodes, found.node.order.after)
+        row_at(&self.nodes, slot_behind(&self.nodes, Thread::Order, slot))
     }
 
     /// Adds a row of a new key behind the others, out of the queue, and says where it stands. It uses
@@ -243,11 +234,12 @@ impl<T: Keyed> Table<T> {
         ensures queue { self.new.queue ≡ self.old.queue }
         ensures room { self.new.room ≡ self.old.room }
     {
-        let Some(found) = near(&self.nodes, &self.index, guess, row.key()) else {
+        let Some(slot) = near(&self.nodes, &self.index, guess, row.key()) else {
             return;
         };
-        set_row(&mut self.nodes, found.slot, row);
-        if found.node.row.target() == row.target() {
+        let target = target_at(&self.nodes, slot);
+        set_row(&mut self.nodes, slot, row);
+        if target == row.target() {
             return;
         }
         let first = self.order.first;
@@ -271,18 +263,12 @@ impl<T: Keyed> Table<T> {
         ensures queue { self.new.queue ≡ without_waiting T.Key.eq key self.old.queue }
         ensures room { MatchOption result (self.new.room ≡ self.old.room) (λ _. self.new.room ≡ self.old.room + 1) }
     {
-        let Some(found) = near(&self.nodes, &self.index, guess, key) else {
+        let Some(slot) = near(&self.nodes, &self.index, guess, key) else {
             return None;
         };
-        dequeue(
-            &mut self.nodes,
-            &mut self.queue,
-            &mut self.waiting,
-            found.slot,
-        );
-        withdraw(&mut self.nodes, &mut self.targets, found.slot);
-        unlink(&mut self.nodes, Thread::Order, &mut self.order, found.slot);
-        self.nodes.try_remove(found.slot);
-        Some(found.node.row)
+        dequeue(&mut self.nodes, &mut self.queue, &mut self.waiting, slot);
+        withdraw(&mut self.nodes, &mut self.targets, slot);
+        unlink(&mut self.nodes, Thread::Order, &mut self.order, slot);
+        Some(self.nodes.remove(slot).row)
     }
 }

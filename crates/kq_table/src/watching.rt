@@ -6,8 +6,9 @@ ghost use Rattle.kq_table.specs.Links.{keys_watching, next_watching};
 
 use crate::Keyed;
 use crate::enter::ends_at;
-use crate::find::{near, placed_at};
-use crate::nodes::node_at;
+use crate::find::{near, placed_at, target_at};
+use crate::node::Thread;
+use crate::nodes::slot_behind;
 use crate::placed::{Place, Placed};
 use crate::table::Table;
 
@@ -30,13 +31,13 @@ impl<T: Keyed> Table<T> {
         ensures row { IfSome result
             (λ p. find_row T.Key.eq T.key_of (T.key_of p.row) self.now.rows ≡ Some p.row) }
     {
-        let Some(found) = near(&self.nodes, &self.index, guess, key) else {
+        let Some(slot) = near(&self.nodes, &self.index, guess, key) else {
             return None;
         };
-        let Some(_) = found.node.row.target() else {
+        let Some(_) = target_at(&self.nodes, slot) else {
             return None;
         };
-        placed_at(&self.nodes, found.node.watch.after)
+        placed_at(&self.nodes, slot_behind(&self.nodes, Thread::Watch, slot))
     }
 
     /// Adds behind `found` the keys that watch a target, in the order in which they were attached.
@@ -50,7 +51,7 @@ impl<T: Keyed> Table<T> {
     {
         let mut next = ends_at(&self.targets, target).first;
         while let Some(slot) = next {
-            let Some(node) = node_at(&self.nodes, slot) else {
+            let Some(node) = self.nodes.get(slot) else {
                 return true;
             };
             if found.len() == found.capacity() {

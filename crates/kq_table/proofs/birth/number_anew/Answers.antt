@@ -40,15 +40,9 @@ returns-in_default-clause-born g c = λ slots linked distinct first counted.
     (passed-out (λ done. AreBorn (births_in now) 0 c.loop-step.step done) c.loop-step.step slots
     (subst (λ (o : Option ℕ). IsNumbering (links_in Order old) c.args.first (births_in now) o c.loop-step.step) c.in_default.is c.loop-step.invariant.numbering slots linked distinct first))
 
-pub returns-in_default-clause-same : goal.returns-in_default-clause-same
-returns-in_default-clause-same g c = c.loop-step.invariant.same
-
 pub returns-clause-born : goal.returns-clause-born
 returns-clause-born g c = λ slots linked distinct first counted.
     let old = c.args.nodes.now in
     let now = c.loop-step.nodes in
     AreBorn-higher (births_in now) 0 c.loop-step.step (slab_len old) slots (omega arith)
     (passed-all (λ done. AreBorn (births_in now) 0 c.loop-step.step done) c.loop-step.next c.loop-step.step slots (c.loop-step.invariant.numbering slots linked distinct first) (omega arith))
-
-pub returns-clause-same : goal.returns-clause-same
-returns-clause-same g c = c.loop-step.invariant.same

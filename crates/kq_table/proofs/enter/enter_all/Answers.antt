@@ -81,9 +81,6 @@ returns-in_default-clause-entered g c = λ slots linked distinct first counted a
     (subst (λ (o : Option ℕ). IsEntering same alike key_of target_of (links_in Order old) (rows_in old) c.args.first (links_in Watch now) c.loop-step.index c.loop-step.targets o c.loop-step._step) c.in_default.is c.loop-step.invariant.entering
     slots linked distinct first apart)
 
-pub returns-in_default-clause-same : goal.returns-in_default-clause-same
-returns-in_default-clause-same g c = c.loop-step.invariant.same
-
 pub returns-clause-entered : goal.returns-clause-entered
 returns-clause-entered g c = λ slots linked distinct first counted apart.
     let same = g.T.Key.PartialEq.eq in
@@ -94,6 +91,3 @@ returns-clause-entered g c = λ slots linked distinct first counted apart.
     let now = c.loop-step.nodes in
     passed-all (λ done. IsEntered same alike key_of target_of (rows_in old) (links_in Watch now) c.loop-step.index c.loop-step.targets done) c.loop-step.next c.loop-step._step slots
     (c.loop-step.invariant.entering slots linked distinct first apart) (omega arith)
-
-pub returns-clause-same : goal.returns-clause-same
-returns-clause-same g c = c.loop-step.invariant.same

@@ -1,45 +1,31 @@
 use Rattle.std.proofs.Common.{◌++◌, ◌∷◌, [], ℕ, Option, Some, cond, sym, ap, ◌∙◌, subst}
-use Rattle.std.proofs.lemmas.Option.{none-some, same_Some}
 use Rattle.std.specs.HashMap.{get as found}
+use Rattle.std.specs.Option.{option_and_then}
 use Rattle.kq_table.specs.declared.node.Ends.{Ends}
 use Rattle.kq_table.specs.declared.node.Links.{Links}
 use Rattle.kq_table.specs.declared.node.Thread.TheVariants.{Watch}
 use Rattle.kq_table.specs.Kept.{AreWatched}
 use Rattle.kq_table.specs.Threads.{rows_in, links_in}
 use Rattle.kq_table.proofs.EnterLaws.{watch-nothing, watch-linked}
-use Rattle.kq_table.proofs.NodeLaws.{SameBut-refl, row-some}
+use Rattle.kq_table.proofs.NodeLaws.{target-some}
 use Rattle.kq_table.proofs.enter.watch.Goals as goal
 
 pub link_last-requires : goal.link_last-requires
-link_last-requires g c = row-some _ c.in-Some.row (sym c.in-Some.ensures)
+link_last-requires g c = target-some g.T.Keyed.target_of _ c.in-Some.target (sym c.in-Some.ensures)
 
 pub returns-in_default-clause-watched : goal.returns-in_default-clause-watched
-returns-in_default-clause-watched g c = λ slots row here. absurd (none-some row (c.in_default.ensures ∙ here))
-
-pub returns-in_default-clause-same : goal.returns-in_default-clause-same
-returns-in_default-clause-same g c = SameBut-refl Watch c.args.nodes.now
-
-pub returns-in_default-target-clause-watched : goal.returns-in_default-target-clause-watched
-returns-in_default-target-clause-watched g c = λ slots row here out are.
+returns-in_default-clause-watched g c = λ slots row here out are.
     let target_of = g.T.Keyed.target_of in
-    let row_is = same_Some row c.in-Some.row (sym here ∙ sym c.in-Some.ensures) in
     watch-nothing g.T.Target.PartialEq.eq target_of g.met.T.Target.Eq.laws (rows_in c.args.nodes.now) (links_in Watch c.args.nodes.now) c.args.targets.now slots c.args.slot row here are
-    (ap target_of row_is ∙ sym c.in_default-target.ensures)
-
-pub returns-in_default-target-clause-same : goal.returns-in_default-target-clause-same
-returns-in_default-target-clause-same g c = SameBut-refl Watch c.args.nodes.now
+    (sym (c.in_default.ensures ∙ ap (option_and_then target_of) here))
 
 pub returns-clause-watched : goal.returns-clause-watched
 returns-clause-watched g c = λ slots row here out are.
     let alike = g.T.Target.PartialEq.eq in
     let target_of = g.T.Keyed.target_of in
     let nodes = c.args.nodes.now in
-    let target = c.in-Some-target.target in
-    let row_is = same_Some row c.in-Some.row (sym here ∙ sym c.in-Some.ensures) in
+    let target = c.in-Some.target in
     subst (λ (f : ℕ → Option Links). AreWatched alike target_of (rows_in nodes) f c.note.new.names (slots ++ c.args.slot ∷ [])) (sym c.link_last.ensures.links)
     (watch-linked alike target_of g.met.T.Target.Eq.laws (rows_in nodes) (links_in Watch nodes) c.args.targets.now slots c.args.slot row here are target
-    (ap target_of row_is ∙ sym c.in-Some-target.ensures) c.ends_at-ends.result c.ends_at-ends.ensures c.note.new.names out
+    (sym (c.in-Some.ensures ∙ ap (option_and_then target_of) here)) c.ends_at-ends.result c.ends_at-ends.ensures c.note.new.names out
     (λ t. c.note.ensures.noted t ∙ ap (λ (e : Ends). cond (alike target t) (Some e) (found alike c.args.targets.now t)) c.link_last.ensures.ends))
-
-pub returns-clause-same : goal.returns-clause-same
-returns-clause-same g c = c.link_last.ensures.same

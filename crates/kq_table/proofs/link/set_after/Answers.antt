@@ -1,7 +1,7 @@
 use Rattle.std.proofs.Common.{sym, ap, ◌∙◌}
 use Rattle.slab.specs.Slab.{get}
 use Rattle.kq_table.specs.Threads.{links_in, with_after}
-use Rattle.kq_table.proofs.NodeLaws.{after-none, after-written, linked-some, SameBut-refl}
+use Rattle.kq_table.proofs.NodeLaws.{after-none, after-written, linked-some}
 use Rattle.kq_table.proofs.link.set_after.Goals as goal
 
 pub put_links-requires : goal.put_links-requires
@@ -10,9 +10,6 @@ put_links-requires g c = linked-some c.args.thread (get c.args.nodes.now c.in-So
 pub returns-in_default-clause-links : goal.returns-in_default-clause-links
 returns-in_default-clause-links g c = ap (λ o. with_after o c.args.after (links_in c.args.thread c.args.nodes.now)) (sym c.in_default.is)
 
-pub returns-in_default-clause-same : goal.returns-in_default-clause-same
-returns-in_default-clause-same g c = SameBut-refl c.args.thread c.args.nodes.now
-
 pub returns-in-Some-links_at-clause-links : goal.returns-in-Some-links_at-clause-links
 returns-in-Some-links_at-clause-links g c =
     let old = links_in c.args.thread c.args.nodes.now in
@@ -20,14 +17,8 @@ returns-in-Some-links_at-clause-links g c =
     ∙ after-written c.in-Some.slot old c.args.after c.in-Some-links_at.links (sym c.in-Some-links_at.ensures)
     ∙ ap (λ o. with_after o c.args.after old) (sym c.in-Some.is)
 
-pub returns-in-Some-links_at-clause-same : goal.returns-in-Some-links_at-clause-same
-returns-in-Some-links_at-clause-same g c = c.put_links.ensures.same
-
 pub returns-in_default-links_at-clause-links : goal.returns-in_default-links_at-clause-links
 returns-in_default-links_at-clause-links g c =
     let old = links_in c.args.thread c.args.nodes.now in
     sym (after-none c.in-Some.slot old c.args.after (sym c.in_default-links_at.ensures))
     ∙ ap (λ o. with_after o c.args.after old) (sym c.in-Some.is)
-
-pub returns-in_default-links_at-clause-same : goal.returns-in_default-links_at-clause-same
-returns-in_default-links_at-clause-same g c = SameBut-refl c.args.thread c.args.nodes.now

@@ -6,9 +6,9 @@ use Rattle.std.proofs.lemmas.List.Sorted.{Contains-permutation, IsPermutation-sy
 use Rattle.kq_table.specs.declared.numbered.Birth.{Birth}
 use Rattle.kq_table.specs.Births.{AreBirthsOf}
 use Rattle.kq_table.specs.Rows.{is_among}
-use Rattle.kq_table.specs.Threads.{births_in, rows_in, row_of, birth_of}
+use Rattle.kq_table.specs.Threads.{births_in, rows_in, birth_of}
 use Rattle.kq_table.proofs.OrderLaws.{AreBirthsOf-none, AreBirthsOf-same, AreBirthsOf-missed, AreBirthsOf-found, kept-dedup, rising-dedup}
-use Rattle.kq_table.proofs.order.births_of.Goals.{in-None, in-Some}
+use Rattle.kq_table.proofs.order.births_of.Goals.{in_default, in-Some}
 use Rattle.kq_table.proofs.order.births_of.Goals as goal
 
 pub loop-key-init : goal.loop-key-init
@@ -37,15 +37,15 @@ loop-key-preserved g c =
     λ row. list_any_more (same (key_of row)) keys i key (omega arith)
     ∙ ap (λ (k : g.row.T-Key.Denot). is_among same key_of (take i keys) row || same (key_of row) k) (sym c.key-item.is) in
     elim c.match-indexed.branch [
-      | in-None w ↦ rw w.places-is (record {
-        births = AreBirthsOf-missed same key_of (rows_in nodes) (births_in nodes) laws one c.args.index.now c.requires.indexed (take i keys) (take (i + 1) keys) key more_is list c.loop-key.invariant.births w.in-None.ensures;
+      | in_default w ↦ rw w.places-is (record {
+        births = AreBirthsOf-missed same key_of (rows_in nodes) (births_in nodes) laws one c.args.index.now c.requires.indexed (take i keys) (take (i + 1) keys) key more_is list c.loop-key.invariant.births w.in_default.ensures;
         len = omega arith;
         capacity = c.loop-key.invariant.capacity;
       })
       | in-Some w ↦ rw w.places-is (record {
         births = subst (λ (bs : List Birth). AreBirthsOf same key_of (rows_in nodes) (births_in nodes) (take (i + 1) keys) bs) (sym w.push_reserved.ensures.items)
             (AreBirthsOf-found same key_of (rows_in nodes) (births_in nodes) laws one c.args.index.now c.requires.indexed (take i keys) (take (i + 1) keys) key more_is list c.loop-key.invariant.births
-            w.in-Some.found.slot w.in-Some.found.node.born w.in-Some.found.node.row (ap row_of w.in-Some.ensures.0) (ap birth_of w.in-Some.ensures.0) w.in-Some.ensures.1);
+            w.in-Some.slot w.index.result.now.born w.in-Some.ensures.row w.in-Some.ensures.here (ap birth_of w.index.ensures) w.in-Some.ensures.is);
         len = omega arith;
         capacity = w.push_reserved.ensures.capacity ∙ c.loop-key.invariant.capacity;
       })

@@ -1,10 +1,10 @@
-use Rattle.std.proofs.Common.{◌≡◌, ◌+◌, ◌++◌, ◌∷◌, [], List, Option, take, take_all, get_or, append-nil, refl, sym, ap, ◌∙◌, arith}
+use Rattle.std.proofs.Common.{◌≡◌, ◌+◌, ◌++◌, ◌∷◌, [], List, take, take_all, get_or, append-nil, refl, sym, ap, ◌∙◌, arith}
 use Rattle.std.proofs.lemmas.List.{take_more}
 use Rattle.kq_table.specs.declared.numbered.Birth.{Birth}
 use Rattle.kq_table.specs.Births.{before_keys, keys_born}
-use Rattle.kq_table.specs.Threads.{rows_in, row_of}
-use Rattle.kq_table.proofs.OrderLaws.{keys_born-push}
-use Rattle.kq_table.proofs.order.take_keys.Goals.{in-None, in-Some}
+use Rattle.kq_table.specs.Threads.{rows_in}
+use Rattle.kq_table.proofs.OrderLaws.{keys_born-push, key-missed, key-found}
+use Rattle.kq_table.proofs.order.take_keys.Goals.{in_default, in-Some}
 use Rattle.kq_table.proofs.order.take_keys.Goals as goal
 
 pub loop-place-init : goal.loop-place-init
@@ -24,19 +24,18 @@ loop-place-preserved g c =
     let place = get_or places i none in
     let more : keys_born key_of rows (take (i + 1) places) ≡ keys_born key_of rows (take i places) ++ before_keys key_of (rows place.slot) [] =
     ap (keys_born key_of rows) (take_more places i none (omega arith)) ∙ keys_born-push key_of rows (take i places) place in
-    elim c.match-node_at.branch [
-      | in-None w ↦ rw w.keys-is (record {
+    let had = keys_born key_of rows (take i places) in
+    elim c.match-key_at.branch [
+      | in_default w ↦ rw w.keys-is (record {
         keys = c.loop-place.invariant.keys
-            ∙ sym (more ∙ ap (λ (o : Option g.row.T.Denot). keys_born key_of rows (take i places) ++ before_keys key_of o []) (sym (ap row_of w.in-None.ensures))
-            ∙ append-nil (keys_born key_of rows (take i places)));
+            ∙ sym (more ∙ ap (λ (ks : List g.row.T-Key.Denot). had ++ ks) (key-missed key_of (rows place.slot) w.in_default.ensures) ∙ append-nil had);
         len = omega arith;
         capacity = c.loop-place.invariant.capacity;
       })
       | in-Some w ↦ rw w.keys-is (record {
         keys = w.push_reserved.ensures.items
-            ∙ ap (λ (ks : List g.row.T-Key.Denot). ks ++ w.key.result ∷ []) c.loop-place.invariant.keys
-            ∙ ap (λ (k : g.row.T-Key.Denot). keys_born key_of rows (take i places) ++ k ∷ []) w.key.ensures
-            ∙ sym (more ∙ ap (λ (o : Option g.row.T.Denot). keys_born key_of rows (take i places) ++ before_keys key_of o []) (sym (ap row_of w.in-Some.ensures)));
+            ∙ ap (λ (ks : List g.row.T-Key.Denot). ks ++ w.in-Some.key ∷ []) c.loop-place.invariant.keys
+            ∙ sym (more ∙ ap (λ (ks : List g.row.T-Key.Denot). had ++ ks) (key-found key_of (rows place.slot) w.in-Some.key w.in-Some.ensures));
         len = omega arith;
         capacity = w.push_reserved.ensures.capacity ∙ c.loop-place.invariant.capacity;
       })

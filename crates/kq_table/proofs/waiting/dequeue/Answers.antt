@@ -3,7 +3,7 @@ use Rattle.kq_table.specs.declared.node.Ends.{Ends}
 use Rattle.kq_table.specs.declared.node.Links.{Links}
 use Rattle.kq_table.specs.declared.node.Thread.TheVariants.{Queue}
 use Rattle.kq_table.specs.Threads.{links_in, without_slot, written, passed_over, IsQueue}
-use Rattle.kq_table.proofs.NodeLaws.{SameBut-refl, SameBut-trans, same-some}
+use Rattle.kq_table.proofs.NodeLaws.{SameBut-trans, same-some}
 use Rattle.kq_table.proofs.QueuedLaws.{IsQueue-out, IsQueue-absent}
 use Rattle.kq_table.proofs.waiting.dequeue.Goals as goal
 
@@ -26,6 +26,3 @@ returns-clause-same g c = SameBut-trans Queue c.args.nodes.now c.unlink.new.node
 pub returns-in_default-clause-queued : goal.returns-in_default-clause-queued
 returns-in_default-clause-queued g c = λ waits is.
     IsQueue-absent (links_in Queue c.args.nodes.now) c.args.queue.now waits c.args.waiting.now c.args.slot (sym c.in_default.ensures) is
-
-pub returns-in_default-clause-same : goal.returns-in_default-clause-same
-returns-in_default-clause-same g c = SameBut-refl Queue c.args.nodes.now

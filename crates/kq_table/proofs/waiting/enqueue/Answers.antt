@@ -12,6 +12,3 @@ returns-clause-queued g c = λ waits out is.
     subst (λ (f : ℕ → Option Links). IsQueue f c.link_last.new.ends (waits ++ c.args.slot ∷ []) (c.args.waiting.now + 1)) (sym c.link_last.ensures.links)
     (subst (λ (e : Ends). IsQueue (put_last c.args.queue.now.last c.args.slot links) e (waits ++ c.args.slot ∷ []) (c.args.waiting.now + 1)) (sym c.link_last.ensures.ends)
     (IsQueue-push links c.args.queue.now waits c.args.waiting.now c.args.slot out is))
-
-pub returns-clause-same : goal.returns-clause-same
-returns-clause-same g c = c.link_last.ensures.same

@@ -1,33 +1,16 @@
-use Rattle.std.proofs.Common.{sym, ap, ◌∙◌}
-use Rattle.kq_table.specs.declared.node.Thread.TheVariants.{Order}
-use Rattle.kq_table.specs.Rows.{Tabled, row_after}
-use Rattle.kq_table.specs.Threads.{row_of, links_of}
-use Rattle.kq_table.proofs.KeptLaws.{indexed, rows_are, missed, next-row}
-use Rattle.kq_table.proofs.SeatLaws.{row_after-away}
+use Rattle.std.proofs.Common.{sym, ◌∙◌}
+use Rattle.kq_table.proofs.KeptLaws.{indexed, seen, missed-after, stands-after}
 use Rattle.kq_table.proofs.table.Table.next_after_at.Goals as goal
 
 pub near-requires : goal.near-requires
-near-requires g c = indexed g.met.T.Key.Eq.laws g.met.T.Keyed.one_key c.self.invariant
+near-requires g c = indexed c.self.invariant
 
 pub returns-in_default : goal.returns-in_default
 returns-in_default g c =
-    let same = g.T.Key.PartialEq.eq in
-    let key_of = g.T.Keyed.key_of in
-    let laws = g.met.T.Key.Eq.laws in
-    let one = g.met.T.Keyed.one_key in
-    let k = c.self.invariant in
-    let rows_seen = sym (rows_are laws one k) ∙ ap (λ (v : Tabled g.row.T-Key.Denot g.row.T.Denot). v.rows) c.self.view_is in
-    sym (row_after-away same key_of laws c.args.key _ (missed laws one k c.args.key c.in_default.ensures)) ∙ ap (row_after same key_of c.args.key) rows_seen
+    let table = seen g.met.T.Key.Eq.laws g.met.T.Target.Eq.laws g.met.T.Keyed.one_key c.self.invariant c.self.view_is in
+    sym (missed-after table c.in_default.ensures)
 
 pub returns : goal.returns
 returns g c =
-    let same = g.T.Key.PartialEq.eq in
-    let key_of = g.T.Keyed.key_of in
-    let laws = g.met.T.Key.Eq.laws in
-    let one = g.met.T.Keyed.one_key in
-    let k = c.self.invariant in
-    let rows_seen = sym (rows_are laws one k) ∙ ap (λ (v : Tabled g.row.T-Key.Denot g.row.T.Denot). v.rows) c.self.view_is in
-    c.row_at.ensures
-    ∙ sym (next-row laws one k c.args.key c.in-Some.found.slot c.in-Some.found.node.row (ap row_of c.in-Some.ensures.0) c.in-Some.ensures.1
-    c.in-Some.found.node.order (ap (links_of Order) c.in-Some.ensures.0))
-    ∙ ap (row_after same key_of c.args.key) rows_seen
+    let table = seen g.met.T.Key.Eq.laws g.met.T.Target.Eq.laws g.met.T.Keyed.one_key c.self.invariant c.self.view_is in
+    c.row_at.ensures ∙ stands-after table c.in-Some.ensures c.slot_behind.result c.slot_behind.ensures

@@ -12,12 +12,7 @@ invariant_of-self g c =
     let i = c.self.inside in
     let k = c.self.invariant in
     let is = c.in_err-fit.ensures in
-    let nodes_room = is.nodes_room in
-    let keys_room = is.keys_room in
-    let targets_room = is.targets_room in
-    let nodes_fit = k.room.nodes_fit in
-    let keys_fit = k.room.keys_fit in
-    let targets_fit = k.room.targets_fit in
+    let room = k.room in
     roomier k c.fit.new.nodes c.fit.new.index c.fit.new.targets i.limit is.nodes is.keys is.targets (le_refl _) (omega arith) (omega arith) (omega arith)
 
 pub returns-in_err-fit-clause-rows : goal.returns-in_err-fit-clause-rows
