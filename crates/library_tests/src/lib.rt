@@ -1,30 +1,21 @@
 //! The calls of the libraries, each run where there is memory and its answer compared: a body that only answers Memory
-//! keeps most contracts. They stand in a crate of their own, since a crate with tests is proved once more with them.
+//! keeps most contracts. And what no contract says of threads that share a lock, a live system or a row of jobs. They
+//! stand in a crate of their own, since a crate with tests is proved once more with them.
 #![tactic(auto)]
 
 #[cfg(test)]
-mod alarms;
+mod dup;
 #[cfg(test)]
-mod every_record;
+mod gates;
 #[cfg(test)]
-mod following;
-#[cfg(test)]
-mod hints;
+mod jobs;
 #[cfg(test)]
 mod joins;
 #[cfg(test)]
-mod judging;
+mod live;
 #[cfg(test)]
-mod knotes;
+mod lock;
 #[cfg(test)]
-mod periods;
+mod replay;
 #[cfg(test)]
-mod steps;
-#[cfg(test)]
-mod system;
-#[cfg(test)]
-mod text;
-#[cfg(test)]
-mod timers;
-#[cfg(test)]
-mod traces;
+mod room;

@@ -3,18 +3,14 @@
 #![tactic(auto)]
 
 #[cfg(test)]
-mod copies;
+mod gates;
 #[cfg(test)]
 mod given;
 #[cfg(test)]
 mod living;
-#[cfg(test)]
-mod merging;
 #[cfg(test)]
 mod replaying;
 #[cfg(test)]
 mod streams;
 #[cfg(test)]
 mod workers;
-#[cfg(test)]
-mod writing;

@@ -1,6 +1,0 @@
--- The seat stays this live system's.
-use Rattle.std.proofs.Common.{◌≡◌}
-use Rattle.live_tests.proofs.live.refusals.assert_happens.Given as goal
-
-abbrev pub invariant-loop-place : goal.invariant-loop-place
-invariant-loop-place g l = l.seat.lock ≡ l.live.lock
