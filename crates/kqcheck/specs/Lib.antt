@@ -1,6 +1,2 @@
 pub mod Fault
-pub mod Replies
-pub mod Stepped
-pub mod Judged
-pub mod Placed
 pub mod Texts

@@ -1,8 +1,8 @@
 -- What is said of an outcome. Behind the line of one that is refused stands why.
 use Rattle.std.specs.Prelude.{ℕ, ◌+◌, List, ◌++◌, codes, decimal}
 use Rattle.kq_model.specs.Names.{why_name}
-use Rattle.kqcheck.specs.declared.outcome.Outcome.{Outcome}
-use Rattle.kqcheck.specs.declared.outcome.Outcome.TheVariants.{Equal, Allowed, Refused, Impossible}
+use Rattle.kq_check.specs.declared.outcome.Outcome.{Outcome}
+use Rattle.kq_check.specs.declared.outcome.Outcome.TheVariants.{Equal, Allowed, Refused, Impossible}
 
 -- a place, and the line of the trace that has its record
 unfoldable pub place_text : ℕ → List ℕ
@@ -14,10 +14,3 @@ outcome_line (Allowed first) = codes "allowed: the first call in another order i
 outcome_line (Refused at) = codes "not allowed: the call at " ++ place_text at ++ codes "\n"
 outcome_line (Impossible at why) =
     codes "impossible: the record at " ++ place_text at ++ codes ": " ++ why_name why ++ codes "\n"
-
--- 0 where all is right
-abbrev pub outcome_status : Outcome → ℕ
-outcome_status Equal = 0
-outcome_status (Allowed first) = 0
-outcome_status (Refused at) = 1
-outcome_status (Impossible at why) = 1

@@ -6,7 +6,7 @@ use kq_trace::TraceError;
 use thiserror::Error;
 
 /// Why nothing was judged, or not the whole of it said. Its text is the line that the program prints on standard error.
-#[derive(Debug, Drop, Clone, Copy, PartialEq, Error)]
+#[derive(Debug, Drop, Clone, Copy, Error)]
 pub enum Fault {
     /// The words of the command line are none of the program's.
     #[error("kqcheck: usage")]

@@ -1,14 +1,14 @@
 //! What some kevents of one kqueue went through.
 
-use crate::answering::has_event;
 use crate::step::{Part, Step, step_of};
+use kq_check::key_of;
 use kq_knote::{Knote, Knotes};
 use kq_model::{Kevent, Key, Memory};
 use kq_system::System;
 use std::alloc::Global;
 
 /// What became of a kevent at a place, by a record of this name.
-#[derive(Debug, Drop, Clone, Copy)]
+#[derive(Drop, Clone, Copy)]
 pub struct Moment {
     pub at: u64,
     pub record: &'static str,
@@ -112,4 +112,14 @@ impl Followed {
         self.knote = knotes.get(self.key);
         Ok(())
     }
+}
+
+/// Whether an event of this key is among these.
+fn has_event(events: &[Kevent], key: Key) -> bool {
+    for event in events {
+        if key_of(event) == key {
+            return true;
+        }
+    }
+    false
 }

@@ -1,22 +1,17 @@
 //! `kqcheck`: says whether the answers that a program recorded are right, and why not.
 #![tactic(auto)]
 
-mod answering;
 mod explaining;
 mod fault;
 mod history;
 mod input;
-mod judging;
-mod misplaced;
 mod order;
-mod outcome;
 mod output;
 mod running;
 mod step;
 mod story;
 mod telling;
 mod text;
-mod verdict;
 mod words;
 
 use fault::Fault;

@@ -2,14 +2,12 @@
 
 use crate::explaining::explained;
 use crate::fault::Fault;
-use crate::judging::judge_all;
-use crate::misplaced::first_misplaced;
 use crate::order::Order;
-use crate::outcome::Outcome;
 use crate::output::write_out;
 use crate::telling::refusal_of;
 use crate::text::put_outcome;
 use kq_answers::{Answer, AnswerFault, read_answers};
+use kq_check::{Outcome, first_misplaced, judge_all};
 use kq_judge::Ignored;
 use kq_model::{Memory, Trace};
 use kq_trace::read_trace_with;

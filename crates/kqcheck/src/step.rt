@@ -4,7 +4,7 @@ use kq_knote::Knote;
 use kq_model::{Event, Filter};
 
 /// The part of a record that did something.
-#[derive(Drop, Clone, Copy, PartialEq, Eq)]
+#[derive(Drop, Clone, Copy)]
 pub enum Part {
     /// The changes of a call.
     Changes,
@@ -15,7 +15,7 @@ pub enum Part {
 }
 
 /// What became of a kevent.
-#[derive(Debug, Drop, Clone, Copy, PartialEq, Eq)]
+#[derive(Drop, Clone, Copy)]
 pub enum Step {
     RegisteredReady,
     Registered,
@@ -87,14 +87,11 @@ pub fn step_of(
 }
 
 fn registered(part: Part, after: &Knote) -> Step {
-    if part == Part::Record {
-        Step::Followed
-    } else if !after.enabled {
-        Step::RegisteredDisabled
-    } else if after.active {
-        Step::RegisteredReady
-    } else {
-        Step::Registered
+    match part {
+        Part::Record => Step::Followed,
+        _ if !after.enabled => Step::RegisteredDisabled,
+        _ if after.active => Step::RegisteredReady,
+        _ => Step::Registered,
     }
 }
 

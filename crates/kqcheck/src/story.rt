@@ -3,10 +3,9 @@
 ghost use Rattle.std.specs.Prelude.{◌≡◌, ◌+◌, ◌-◌, ◌^◌, ◌<◌, ◌≤◌, IfOk, IfSome, OnOk};
 
 use crate::history::History;
-use crate::judging::{answer_at, arrange};
 use crate::step::{Part, name_of};
-use crate::verdict::Call;
 use kq_answers::{Answer, Given};
+use kq_check::{Call, answer_at, arrange};
 use kq_judge::Ignored;
 use kq_model::{Change, Event, Memory, Reply, Trace};
 use kq_system::System;
@@ -34,6 +33,26 @@ pub fn event_at(trace: &Trace, at: u64) -> Option<&Event>
         return None;
     }
     Some(&events[(at - 1) as usize])
+}
+
+/// The call that a record is, and its changes; none for another record.
+pub fn call_of(event: &Event) -> Option<(Call, &[Change])> {
+    match event {
+        Event::Kevent {
+            pid,
+            fd,
+            changes,
+            room,
+        } => {
+            let call = Call {
+                pid: *pid,
+                fd: *fd,
+                room: *room,
+            };
+            Some((call, changes.as_slice()))
+        }
+        _ => None,
+    }
 }
 
 /// Carries out the records before a place, and notes what these kevents go through.

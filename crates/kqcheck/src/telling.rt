@@ -2,13 +2,11 @@
 
 ghost use Rattle.std.specs.Prelude.{◌-◌, ◌^◌, ◌<◌};
 
-use crate::answering::{events_in_order, key_of};
 use crate::history::History;
-use crate::judging::answer_at;
-use crate::story::{Story, event_at, story_before};
+use crate::story::{Story, call_of, event_at, story_before};
 use crate::text::{put_absence, put_difference, put_given, put_key, put_moments, put_reply};
-use crate::verdict::{Call, call_of};
 use kq_answers::{Answer, Given};
+use kq_check::{Call, answer_at, events_in_order, key_of};
 use kq_judge::{Fault, Ignored, Judgement, judge};
 use kq_model::{Change, Event, Kevent, Key, Memory, Reply, Series, Trace};
 use kq_text::{put, put_number};

@@ -5,9 +5,9 @@ ghost use Rattle.kq_text.specs.Adds.{Adds};
 ghost use Rattle.kqcheck.specs.Texts.{outcome_line, place_text};
 
 use crate::history::Followed;
-use crate::outcome::Outcome;
 use bitflags::Flags;
 use kq_answers::Given;
+use kq_check::Outcome;
 use kq_judge::{Absence, Member};
 use kq_knote::Knote;
 use kq_model::{EvFlags, Kevent, Key, Memory, Reply, Why};

@@ -1,8 +1,8 @@
 -- The words behind the program's name.
 use Rattle.std.specs.Prelude.{ℕ, Bool, true, false, List, [], ◌∷◌, codes, Result, Ok, Err, nat_eq, if◌then◌else◌}
 use Rattle.std.specs.Cmp.Lexicographic.{pointwise}
-use Rattle.kqstep.specs.declared.fault.Fault.{Fault}
-use Rattle.kqstep.specs.declared.fault.Fault.TheVariants.{Usage}
+use Rattle.kq_step.specs.declared.fault.Fault.{Fault}
+use Rattle.kq_step.specs.declared.fault.Fault.TheVariants.{Usage}
 use Rattle.kqstep.specs.declared.order.Order.{Order}
 use Rattle.kqstep.specs.declared.order.Order.TheVariants.{Answers, Help}
 

@@ -1,15 +1,10 @@
 //! `kqstep`: answers each record of a trace as it comes.
 #![tactic(auto)]
 
-mod answering;
-mod fault;
 mod order;
-mod output;
 mod running;
-mod stepping;
-mod text;
 
-use fault::Fault;
+use kq_step::Fault;
 use order::{Order, order_of};
 use running::{run_order, tell};
 use std::env;

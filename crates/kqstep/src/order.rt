@@ -2,7 +2,7 @@
 ghost use Rattle.std.specs.Prelude.{◌≡◌, map};
 ghost use Rattle.kqstep.specs.Words.{order_of};
 
-use crate::fault::Fault;
+use kq_step::Fault;
 
 /// What the program is asked for.
 #[derive(Debug, Drop, Clone, Copy, PartialEq, Eq)]

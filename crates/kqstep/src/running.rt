@@ -1,11 +1,9 @@
 ghost use Rattle.std.specs.Prelude.{◌≡◌};
-ghost use Rattle.kqstep.specs.Fault.{status_of};
+ghost use Rattle.kq_step.specs.Fault.{status_of};
 ghost use Rattle.kqstep.specs.Run.{EndsBy};
 
-use crate::answering::answer_all;
-use crate::fault::Fault;
 use crate::order::Order;
-use crate::output::write_out;
+use kq_step::{Fault, answer_all, write_out};
 use std::alloc::Global;
 use std::io::{Read, Write};
 

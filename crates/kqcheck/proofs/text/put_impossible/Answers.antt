@@ -4,7 +4,7 @@ use Rattle.kq_model.specs.declared.why.Why.{Why}
 use Rattle.kq_model.specs.Names.{why_name}
 use Rattle.kq_text.specs.Adds.{Adds}
 use Rattle.kq_text.proofs.Appends.{and_then, as_text}
-use Rattle.kqcheck.specs.declared.outcome.Outcome.TheVariants.{Impossible}
+use Rattle.kq_check.specs.declared.outcome.Outcome.TheVariants.{Impossible}
 use Rattle.kqcheck.specs.Texts.{outcome_line, place_text}
 use Rattle.kqcheck.proofs.text.put_impossible.Goals as goal
 

@@ -1,7 +1,7 @@
 use Rattle.std.proofs.Common.{◌≡◌, ℕ, ◌++◌, codes, refl}
 use Rattle.std.proofs.lemmas.Result.{on_ok_weaker}
 use Rattle.kq_text.proofs.Appends.{and_then, as_text}
-use Rattle.kqcheck.specs.declared.outcome.Outcome.TheVariants.{Refused}
+use Rattle.kq_check.specs.declared.outcome.Outcome.TheVariants.{Refused}
 use Rattle.kqcheck.specs.Texts.{outcome_line, place_text}
 use Rattle.kqcheck.proofs.text.put_refused.Goals as goal
 

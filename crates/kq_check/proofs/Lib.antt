@@ -1,0 +1,5 @@
+pub mod InOrder
+pub mod Folded
+pub mod FirstAnswer
+pub mod Orders
+pub mod PlainSteps

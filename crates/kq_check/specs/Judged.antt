@@ -1,0 +1,59 @@
+-- What the answers to a trace come to: a fold over its records, which ends at the first answer that no order gives, or
+-- the first record that could not be, unless these are permitted.
+use Rattle.std.specs.Prelude.{◌≡◌, ◌⊎◌, ◌+◌, ℕ, Bool, true, false, List, [], ◌∷◌, Option, Some, None}
+use Rattle.kq_answers.specs.declared.answer.Answer.{Answer}
+use Rattle.kq_judge.specs.declared.member.Ignored.{Ignored}
+use Rattle.kq_model.specs.declared.event.Event.{Event}
+use Rattle.kq_model.specs.System.{empty_system}
+use Rattle.kq_model.specs.Tallied.{System}
+use Rattle.kq_check.specs.declared.verdict.Verdict.{Verdict}
+use Rattle.kq_check.specs.declared.verdict.Verdict.TheVariants as verdict
+use Rattle.kq_check.specs.declared.judging.Next.{Next}
+use Rattle.kq_check.specs.declared.judging.Next.TheVariants.{On, Over}
+use Rattle.kq_check.specs.declared.outcome.Outcome.{Outcome}
+use Rattle.kq_check.specs.declared.outcome.Outcome.TheVariants.{Equal, Allowed, Refused, Impossible}
+use Rattle.kq_check.specs.Replies.{behind_place, given_at}
+use Rattle.kq_check.specs.Stepped.{IsStepped}
+
+-- all was right: the first place at which the order was another one, if there is one
+abbrev pub ended : Option ℕ → Outcome
+ended None = Equal
+ended (Some first) = Allowed first
+
+-- the first place at which the order was another one, once there is one
+abbrev pub first_at : ℕ → Option ℕ → Option ℕ
+first_at place None = Some place
+first_at place (Some first) = Some first
+
+-- the run goes on behind this verdict, and this is then the first place at which the order was another one
+abbrev pub GoesOn : Bool → ℕ → Verdict → Option ℕ → Option ℕ → Type 0
+GoesOn permits place verdict.Equal first later = later ≡ first
+GoesOn permits place verdict.Allowed first later = later ≡ first_at place first
+GoesOn permits place verdict.Refused first later = ⊥
+GoesOn permits place (verdict.Impossible why) first later = (permits ≡ true) × (later ≡ first)
+
+-- it ends there
+abbrev pub EndsAt : Bool → ℕ → Verdict → Outcome → Type 0
+EndsAt permits place verdict.Equal o = ⊥
+EndsAt permits place verdict.Allowed o = ⊥
+EndsAt permits place verdict.Refused o = o ≡ Refused place
+EndsAt permits place (verdict.Impossible why) o = (permits ≡ false) × (o ≡ Impossible place why)
+
+-- the outcome of the records from a place on
+abbrev pub IsJudgedFrom : List Ignored → Bool → ℕ → System → List Event → List Answer → Option ℕ → Outcome → Type 0
+IsJudgedFrom ignored permits place s [] answers first o = o ≡ ended first
+IsJudgedFrom ignored permits place s (e ∷ es) answers first o =
+    (v : Verdict) × (next : System) × IsStepped ignored place e (given_at place answers) s v next
+    × (EndsAt permits place v o
+    ⊎ ((later : Option ℕ) × GoesOn permits place v first later
+    × IsJudgedFrom ignored permits (place + 1) next es (behind_place place answers) later o))
+
+-- the outcome of a trace of this version
+abbrev pub IsJudged : List Ignored → Bool → ℕ → List Event → List Answer → Outcome → Type 0
+IsJudged ignored permits version events answers o =
+    IsJudgedFrom ignored permits 1 (empty_system version) events answers None o
+
+-- what is known behind a verdict
+abbrev pub IsNext : Bool → ℕ → Verdict → Option ℕ → Next → Type 0
+IsNext permits place v first (On later) = GoesOn permits place v first later
+IsNext permits place v first (Over o) = EndsAt permits place v o

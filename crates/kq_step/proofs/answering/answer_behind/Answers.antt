@@ -1,0 +1,33 @@
+-- The header, and what the lines behind it come to.
+use Rattle.std.proofs.Common.{rules}
+use Rattle.std.proofs.lemmas.Result.{IfErr-weaker, on_ok_weaker}
+use Rattle.std.specs.Io.KnownBytes.{prepend_known}
+use Rattle.kq_step.specs.Answering.{LeavesBy}
+use Rattle.kq_step.proofs.SoFar.{by_header, nothing_answered, opened}
+use Rattle.kq_step.proofs.answering.answer_behind.Goals as goal
+
+pub returns-in_err-version-clause-fault : goal.returns-in_err-version-clause-fault
+returns-in_err-version-clause-fault g c =
+    let given = g.I.Read.remaining c.args.input.now in
+    let before = g.O.Write.contents c.args.out.now in
+    let left : LeavesBy given before before c.in_err-version.field-0.0 = by_header given before c.in_err-version.field-0.0 c.in_err-version.ensures.fault in
+    search (rules, left)
+
+pub returns-in_default-clause-fault : goal.returns-in_default-clause-fault
+returns-in_default-clause-fault g c = nothing_answered (g.I.Read.remaining c.args.input.now) (g.O.Write.contents c.args.out.now)
+
+pub returns-clause-all : goal.returns-clause-all
+returns-clause-all g c =
+    let given = g.I.Read.remaining c.args.input.now in
+    let before = g.O.Write.contents c.args.out.now in
+    let so_far = opened given before (prepend_known c.header.new.lines.waiting (g.I.Read.remaining c.header.new.input))
+    c.in_ok-version.version c.in-Ok.stepping c.in_ok-version.ensures.opened c.in-Ok.ensures in
+    on_ok_weaker c.answer_lines.result (λ all. all given before so_far) c.answer_lines.ensures.all
+
+pub returns-clause-fault : goal.returns-clause-fault
+returns-clause-fault g c =
+    let given = g.I.Read.remaining c.args.input.now in
+    let before = g.O.Write.contents c.args.out.now in
+    let so_far = opened given before (prepend_known c.header.new.lines.waiting (g.I.Read.remaining c.header.new.input))
+    c.in_ok-version.version c.in-Ok.stepping c.in_ok-version.ensures.opened c.in-Ok.ensures in
+    IfErr-weaker c.answer_lines.result _ _ (λ fault leaves. leaves given before so_far) c.answer_lines.ensures.fault

@@ -1,4 +1,0 @@
-pub mod InOrder
-pub mod Folded
-pub mod FirstAnswer
-pub mod Orders
