@@ -49,9 +49,9 @@ fn returned_in(alloc: Global, value: &Value) -> Result<Result<Given, LineFault>,
 fn kevents_of(alloc: Global, changes: &[Change]) -> Result<Vec<Kevent>, Memory>
     ensures { IfOk result (λ events. events.items ≡ map kevent_of changes.now) }
 {
-    let mut events = Vec::with_capacity(alloc, changes.len()).map_err(|_| Memory)?;
+    let mut events = Vec::with_capacity(alloc, changes.len())?;
     for change in changes {
-        events.push(kevent_of(change)).map_err(|_| Memory)?;
+        events.push(kevent_of(change))?;
     }
     Ok(events)
 }

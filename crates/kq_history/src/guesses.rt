@@ -15,9 +15,9 @@ impl Guesses {
     /// Room for the guesses of about so many looks.
     pub fn new(alloc: Global, looks: usize) -> Result<Self, Memory> {
         let room = room_for(looks);
-        let mut found = Vec::with_capacity(alloc, room).map_err(|_| Memory)?;
+        let mut found = Vec::with_capacity(alloc, room)?;
         for _ in 0..room {
-            found.push(Cell::new(Found::default())).map_err(|_| Memory)?;
+            found.push(Cell::new(Found::default()))?;
         }
         Ok(Guesses {
             found,

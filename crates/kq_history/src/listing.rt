@@ -55,10 +55,10 @@ impl Listing {
 fn copied(alloc: Global, slots: &[(u32, Option<Named>)]) -> Result<Vec<(u32, Named)>, Memory>
     ensures { IfOk result (λ entries. entries.items ≡ filled slots.now) }
 {
-    let mut entries = Vec::with_capacity(alloc, slots.len()).map_err(|_| Memory)?;
+    let mut entries = Vec::with_capacity(alloc, slots.len())?;
     for slot in slots {
         if let Some(named) = slot.1 {
-            entries.push((slot.0, named)).map_err(|_| Memory)?;
+            entries.push((slot.0, named))?;
         }
     }
     Ok(entries)

@@ -50,7 +50,7 @@ impl Log {
         ensures items { self.new.items.items ≡ self.old.items.items }
         ensures shelved { StaysShelved self.old self.new }
     {
-        self.items.reserve(count).map_err(|_| Memory)?;
+        self.items.reserve(count)?;
         self.shelves.reserve(count.min(MANY_SOURCES))
     }
 
@@ -60,7 +60,7 @@ impl Log {
         ensures shelved { OnOk result (StaysShelved self.old self.new) }
     {
         let number = self.items.len();
-        self.items.push(item).map_err(|_| Memory)?;
+        self.items.push(item)?;
         self.shelves.add(item.what.source(), number)
     }
 
@@ -72,7 +72,7 @@ impl Log {
         let mut numbers = Vec::new(self.alloc);
         for source in sources {
             let standing = self.shelves.at(*source);
-            numbers.extend_from_slice(standing).map_err(|_| Memory)?;
+            numbers.extend_from_slice(standing)?;
         }
         Ok(numbers)
     }
@@ -82,9 +82,9 @@ impl Log {
         requires { All (λ n. n < length self.now.items.items) numbers.now }
         ensures { IfOk result (λ picked. picked.items ≡ map (item_at self.now.items.items) numbers.now) }
     {
-        let mut picked = Vec::with_capacity(self.alloc, numbers.len()).map_err(|_| Memory)?;
+        let mut picked = Vec::with_capacity(self.alloc, numbers.len())?;
         for number in numbers {
-            picked.push(self.items[*number]).map_err(|_| Memory)?;
+            picked.push(self.items[*number])?;
         }
         Ok(picked)
     }
@@ -97,7 +97,7 @@ impl Log {
         ensures { IfOk result (λ picked. picked.items ≡ filter (is_from sources.now) self.now.items.items) }
     {
         let mut numbers = self.numbers_of(sources)?;
-        numbers.sort().map_err(|_| Memory)?;
+        numbers.sort()?;
         self.items_at(numbers.as_slice())
     }
 
@@ -203,9 +203,7 @@ impl Log {
     {
         let mut numbers = Vec::new(self.alloc);
         for source in sources {
-            numbers
-                .extend_from_slice(self.others_of(*source, first, last))
-                .map_err(|_| Memory)?;
+            numbers.extend_from_slice(self.others_of(*source, first, last))?;
         }
         Ok(numbers)
     }
@@ -240,7 +238,7 @@ impl Log {
         let first = standing[0];
         let last = standing[standing.len() - 1];
         let mut chosen = self.numbers_within(sources, first, last)?;
-        chosen.sort().map_err(|_| Memory)?;
+        chosen.sort()?;
         let steps = self.steps_within(sources, first, last);
         let items = self.items.as_slice();
         woven(self.alloc, items, chosen.as_slice(), steps)

@@ -11,7 +11,7 @@ pub fn put_plain(plain: &mut Vec<Row>, at: u64, verdict: &Result<(), Why>) -> Re
         Ok(()) => Ok(()),
         Err(why) => {
             let reply = Reply::Impossible(*why);
-            plain.push(Row { at, reply }).map_err(|_| Memory)
+            Ok(plain.push(Row { at, reply })?)
         }
     }
 }

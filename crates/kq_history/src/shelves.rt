@@ -38,7 +38,7 @@ impl Shelf {
         ensures { IfOk result (λ s. s ≡ number ∷ []) }
     {
         let mut numbers = SmallVec::new(alloc);
-        numbers.push(number).map_err(|_| Memory)?;
+        numbers.push(number)?;
         Ok(Shelf { numbers })
     }
 
@@ -52,7 +52,7 @@ impl Shelf {
     fn add(&mut self, number: usize) -> Result<(), Memory>
         ensures { OnOk result (self.new ≡ self.old ++ number ∷ []) }
     {
-        self.numbers.push(number).map_err(|_| Memory)
+        Ok(self.numbers.push(number)?)
     }
 }
 
@@ -71,7 +71,7 @@ impl<K: Copy + Eq + Hash> Shelves<K> {
     pub fn reserve(&mut self, keys: usize) -> Result<(), Memory>
         ensures { (key : K) → shelf_at K.eq self.new.table key ≡ shelf_at K.eq self.old.table key }
     {
-        self.table.reserve(keys).map_err(|_| Memory)
+        Ok(self.table.reserve(keys)?)
     }
 
     /// The numbers under a key.
@@ -93,7 +93,7 @@ impl<K: Copy + Eq + Hash> Shelves<K> {
             Some(shelf) => shelf.add(number),
             None => {
                 let shelf = Shelf::one(self.alloc, number)?;
-                self.table.insert(key, shelf).map_err(|_| Memory)?;
+                self.table.insert(key, shelf)?;
                 Ok(())
             }
         }

@@ -110,7 +110,7 @@ impl Sources {
         ensures list { OnOk result (self.new.list.items ≡ self.old.list.items ++ source ∷ []) }
         ensures grows { OnOk result (Grows (source ∷ []) self.old self.new) }
     {
-        self.list.push(source).map_err(|_| Memory)?;
+        self.list.push(source)?;
         if self.list.len() > FEW_SOURCES {
             let alloc = *self.list.allocator();
             put_known(alloc, &mut self.known, source)?;
@@ -197,12 +197,12 @@ fn put_known(
 {
     match known {
         Some(set) => {
-            set.insert(source).map_err(|_| Memory)?;
+            set.insert(source)?;
         }
         None => {
             let mut set = HashSet::new(alloc);
-            set.insert(source).map_err(|_| Memory)?;
-            *known = Some(Box::new(alloc, set).map_err(|_| Memory)?);
+            set.insert(source)?;
+            *known = Some(Box::new(alloc, set)?);
         }
     }
     Ok(())

@@ -54,8 +54,8 @@ impl<V> Timeline<V> {
         V: Drop,
         ensures { IfOk result (λ t. t ≡ mark place value ∷ []) }
     {
-        let mut marks = Vec::with_capacity(alloc, MARKS_OF_MOST).map_err(|_| Memory)?;
-        marks.push(Mark { place, value }).map_err(|_| Memory)?;
+        let mut marks = Vec::with_capacity(alloc, MARKS_OF_MOST)?;
+        marks.push(Mark { place, value })?;
         Ok(Timeline { marks })
     }
 
@@ -67,7 +67,7 @@ impl<V> Timeline<V> {
         ensures pushed { OnOk result (self.new ≡ self.old ++ mark place value ∷ []) }
         ensures memory { OnErr result (self.new ≡ self.old) }
     {
-        self.marks.push(Mark { place, value }).map_err(|_| Memory)
+        Ok(self.marks.push(Mark { place, value })?)
     }
 
     /// From this place on the value is this one; what it was before is returned. There is no mark

@@ -55,7 +55,7 @@ impl<K: Copy + Eq + Hash, V: Drop> Timelines<K, V> {
             Some(timeline) => timeline.push(place, value),
             None => {
                 let timeline = Timeline::one(self.alloc, place, value)?;
-                self.table.insert(key, timeline).map_err(|_| Memory)?;
+                self.table.insert(key, timeline)?;
                 Ok(())
             }
         }
@@ -120,7 +120,7 @@ impl<K: Copy + Eq + Hash, V: Copy + Drop> Timelines<K, V> {
                     return Ok(before);
                 }
                 let timeline = Timeline::one(self.alloc, place, value)?;
-                self.table.insert(key, timeline).map_err(|_| Memory)?;
+                self.table.insert(key, timeline)?;
                 Ok(before)
             }
         }

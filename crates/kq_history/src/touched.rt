@@ -52,7 +52,7 @@ impl Touched {
             None => Ok(()),
             Some(pid) => {
                 let slots = world.descriptors(pid);
-                self.before.extend_from_slice(slots).map_err(|_| Memory)
+                Ok(self.before.extend_from_slice(slots)?)
             }
         }
     }
@@ -108,7 +108,7 @@ fn put_touched(
     ensures { OnOk result (numbers.new.items ≡ touched_numbers event.now closed.now) }
 {
     numbers.clear();
-    numbers.extend_from_slice(closed).map_err(|_| Memory)?;
+    numbers.extend_from_slice(closed)?;
     push_number(numbers, first_opened(event))?;
     push_number(numbers, second_opened(event))
 }
@@ -118,7 +118,7 @@ fn push_number(numbers: &mut Vec<(u32, u32)>, number: Option<(u32, u32)>) -> Res
 {
     match number {
         None => Ok(()),
-        Some(number) => numbers.push(number).map_err(|_| Memory),
+        Some(number) => Ok(numbers.push(number)?),
     }
 }
 
@@ -232,13 +232,13 @@ fn add(targets: &mut Vec<Target>, target: Target) -> Result<(), Memory>
     if targets.len() <= MOST_LOOKED_THROUGH && targets.as_slice().contains(&target) {
         return Ok(());
     }
-    targets.push(target).map_err(|_| Memory)
+    Ok(targets.push(target)?)
 }
 
 fn push(targets: &mut Vec<Target>, target: Target) -> Result<(), Memory>
     ensures { OnOk result (targets.new.items ≡ targets.old.items ++ target ∷ []) }
 {
-    targets.push(target).map_err(|_| Memory)
+    Ok(targets.push(target)?)
 }
 
 fn push_told(targets: &mut Vec<Target>, hints: &[(Target, Hint)]) -> Result<(), Memory>

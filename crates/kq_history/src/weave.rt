@@ -30,7 +30,7 @@ pub(crate) fn woven(
         let below = rest.partition_point(|step| *step < *number);
         let (before, behind) = rest.split_at(below);
         put_joined(&mut picked, items, before)?;
-        picked.push(items[*number]).map_err(|_| Memory)?;
+        picked.push(items[*number])?;
         rest = behind;
     }
     put_joined(&mut picked, items, rest)?;

@@ -34,7 +34,7 @@ impl Arrived {
     pub fn new(alloc: Global) -> Result<Self, Memory>
         ensures { IfOk result (λ arrived. arrived ≡ []) }
     {
-        let room = vec![in alloc; 0u8; BYTES].map_err(|_| Memory)?;
+        let room = vec![in alloc; 0u8; BYTES]?;
         Ok(Arrived {
             room,
             from: 0,

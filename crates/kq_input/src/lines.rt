@@ -50,7 +50,7 @@ impl Lines {
     {
         Ok(Lines {
             arrived: Arrived::new(alloc)?,
-            line: Vec::with_capacity(alloc, MOST_KEPT_BYTES).map_err(|_| Memory)?,
+            line: Vec::with_capacity(alloc, MOST_KEPT_BYTES)?,
         })
     }
 

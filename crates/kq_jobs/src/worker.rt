@@ -37,7 +37,7 @@ pub fn work<J: Jobs, G: Gate>(
             break;
         };
         let number = claimed as u32;
-        ran.reserve(1).map_err(|_| Memory)?;
+        ran.reserve(1)?;
         gate.enter(worker, number + 1);
         let outcome = jobs.run(number)?;
         ran.push_reserved(Ran { number, outcome });

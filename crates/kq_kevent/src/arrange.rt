@@ -118,7 +118,7 @@ impl Kq {
         ensures { IfOk result (λ keys. keys.items ≡ self.now.kq.queue) }
     {
         let waiting = self.knotes.queue_len();
-        let mut keys = Vec::with_capacity(self.knotes.allocator(), waiting).map_err(|_| Memory)?;
+        let mut keys = Vec::with_capacity(self.knotes.allocator(), waiting)?;
         let mut next = self.knotes.front();
         for _turn in 0..waiting {
             let Some(key) = next else {

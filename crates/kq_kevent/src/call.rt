@@ -82,7 +82,7 @@ impl Kq {
         self.reserve_for(changes.len(), timers_in(changes))?;
         let room = room as usize;
         let most = room.min(self.knotes.queue_len().saturating_add(changes.len()));
-        let mut events = Vec::with_capacity(self.knotes.allocator(), most).map_err(|_| Memory)?;
+        let mut events = Vec::with_capacity(self.knotes.allocator(), most)?;
         match self.process(changes, room, &mut events, views) {
             Ending::Ended(Some(error)) => Ok(Reply::Failed(error)),
             Ending::Ended(None) => Ok(answer(events)),

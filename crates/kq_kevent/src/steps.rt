@@ -79,7 +79,7 @@ impl Kq {
         self.reserve_for(changes.len(), timers_in(changes))?;
         let room = room as usize;
         let most = room.min(changes.len());
-        let mut placed = Vec::with_capacity(self.knotes.allocator(), most).map_err(|_| Memory)?;
+        let mut placed = Vec::with_capacity(self.knotes.allocator(), most)?;
         let ending = self.process(changes, room, &mut placed, views);
         Ok(answer_at(ending, placed))
     }

@@ -68,10 +68,10 @@ impl Book {
 fn copied_events(alloc: Global, entries: &[Entry<Event, Reply>]) -> Result<Vec<Event>, Memory>
     ensures { IfOk result (λ es. es.items ≡ events_in entries.now) }
 {
-    let mut events = Vec::with_capacity(alloc, entries.len()).map_err(|_| Memory)?;
+    let mut events = Vec::with_capacity(alloc, entries.len())?;
     for entry in entries {
         let event = entry.step.copy()?;
-        events.push(event).map_err(|_| Memory)?;
+        events.push(event)?;
     }
     Ok(events)
 }

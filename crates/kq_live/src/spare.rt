@@ -29,7 +29,7 @@ impl Spare {
     pub fn for_reply_to(alloc: Global, event: &Event) -> Result<Spare, Memory>
         ensures { IfOk result (λ s. room_of event.now ≤ s) }
     {
-        let kevents = Vec::with_capacity(alloc, room(event)).map_err(|_| Memory)?;
+        let kevents = Vec::with_capacity(alloc, room(event))?;
         Ok(Spare { kevents })
     }
 

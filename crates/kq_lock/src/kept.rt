@@ -23,7 +23,7 @@ pub fn take_step<M: Machine>(
     ensures err { OnErr result (kept.new.value ≡ kept.old.value) }
     ensures history { OnErr result (kept.new.history.items ≡ kept.old.history.items) }
 {
-    kept.history.reserve(1).map_err(|_| Memory)?;
+    kept.history.reserve(1)?;
     let (answer, copy) = kept.value.apply(&step)?;
     kept.history.push_reserved(Entry { step, answer: copy });
     Ok(answer)

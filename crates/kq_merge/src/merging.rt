@@ -22,7 +22,7 @@ pub fn merge(alloc: Global, kqueues: Vec<Rows>, plain: &[Row]) -> Result<Vec<Row
 {
     let RowLists { kqueues, mut plain } = RowLists::of(alloc, kqueues, plain)?;
     let mut rows = joined(alloc, kqueues)?;
-    rows.append(&mut plain).map_err(|_| Memory)?;
+    rows.append(&mut plain)?;
     rows.sort_unstable_by_key(|row| row.at);
     Ok(rows)
 }
@@ -34,7 +34,7 @@ fn joined(alloc: Global, kqueues: Vec<Rows>) -> Result<Vec<Row>, Memory>
     let mut rows = Vec::new(alloc);
     for kqueue in kqueues {
         let mut list = kqueue.rows.into_vec();
-        rows.append(&mut list).map_err(|_| Memory)?;
+        rows.append(&mut list)?;
     }
     Ok(rows)
 }

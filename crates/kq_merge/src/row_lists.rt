@@ -48,9 +48,9 @@ impl RowLists {
 fn copied(alloc: Global, rows: &[Row]) -> Result<Vec<Row>, Memory>
     ensures { IfOk result (λ copies. copies.items ≡ rows.now) }
 {
-    let mut copies = Vec::with_capacity(alloc, rows.len()).map_err(|_| Memory)?;
+    let mut copies = Vec::with_capacity(alloc, rows.len())?;
     for row in rows {
-        copies.push(row.copy()?).map_err(|_| Memory)?;
+        copies.push(row.copy()?)?;
     }
     Ok(copies)
 }

@@ -56,7 +56,7 @@ impl<T: Copy> Series<T> {
         ensures { IfOk result (λ copied. copied ≡ self.now) }
     {
         let alloc = *self.items.allocator();
-        let items = Vec::from_slice(alloc, &self.items).map_err(|_| Memory)?;
+        let items = Vec::from_slice(alloc, &self.items)?;
         Ok(Series { items })
     }
 }

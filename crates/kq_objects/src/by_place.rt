@@ -33,7 +33,7 @@ impl<T: Object> ByPlace<T> {
         ensures room { OnOk result (0 < spare self.new.table) }
         ensures kept { spare self.old.table ≤ spare self.new.table }
     {
-        self.table.reserve(1).map_err(|_| Memory)?;
+        self.table.reserve(1)?;
         let objects = self.table.len();
         if self.guesses.are_few_for(objects) {
             self.guesses.widen_for(objects)?;

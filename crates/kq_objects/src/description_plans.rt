@@ -82,13 +82,13 @@ impl Objects {
             told: DescriptionRecord::Moved { bytes },
         };
         if bytes == 0 {
-            return vec![in self.alloc; moved].map_err(|_| Memory);
+            return Ok(vec![in self.alloc; moved]?);
         }
         let reached = Doing::ToFile {
             file: number,
             told: FileRecord::Reached { end },
         };
-        vec![in self.alloc; moved, reached].map_err(|_| Memory)
+        Ok(vec![in self.alloc; moved, reached]?)
     }
 
     #[tactic(auto, unfolding(kq_model::specs::FilePlans::write_file, kq_model::specs::FilePlans::written))]

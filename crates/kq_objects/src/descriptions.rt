@@ -35,8 +35,8 @@ impl Descriptions {
         ensures room { OnOk result (1 ≤ room_in self.new) }
         ensures kept { room_in self.old ≤ room_in self.new }
     {
-        self.keys.reserve(1).map_err(|_| Memory)?;
-        self.slab.reserve(1).map_err(|_| Memory)
+        self.keys.reserve(1)?;
+        Ok(self.slab.reserve(1)?)
     }
 
     /// The key of the description of a place.

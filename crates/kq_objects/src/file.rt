@@ -51,7 +51,7 @@ impl File {
         ensures room { OnOk result (1 ≤ self.new.room) }
         ensures kept { self.old.room ≤ self.new.room }
     {
-        self.descriptions.reserve(1).map_err(|_| Memory)
+        Ok(self.descriptions.reserve(1)?)
     }
 
     /// Notes one more record.

@@ -65,11 +65,9 @@ pub fn hints_to(
 {
     let mut hints = Vec::new(alloc);
     for place in descriptions {
-        hints
-            .push((Target::Open(*place), Hint::Readable))
-            .map_err(|_| Memory)?;
+        hints.push((Target::Open(*place), Hint::Readable))?;
     }
-    hints.push(last).map_err(|_| Memory)?;
+    hints.push(last)?;
     Ok(hints)
 }
 
@@ -81,7 +79,7 @@ fn deletion(alloc: Global, number: u32, note: Note) -> Result<Vec<Doing>, Memory
     match note {
         Note::Delete => {
             let told = FileRecord::Deleted;
-            vec![in alloc; Doing::ToFile { file: number, told }].map_err(|_| Memory)
+            Ok(vec![in alloc; Doing::ToFile { file: number, told }]?)
         }
         Note::Attrib | Note::Link | Note::Rename | Note::Revoke => Ok(Vec::new(alloc)),
     }

@@ -34,7 +34,7 @@ impl Files {
         ensures kept { spare self.old.table ≤ spare self.new.table }
         ensures room_on { (q : ℕ) → room_on q self.old ≤ room_on q self.new }
     {
-        self.table.reserve(1).map_err(|_| Memory)
+        Ok(self.table.reserve(1)?)
     }
 
     /// Makes room for one more open description of a file.

@@ -27,7 +27,7 @@ impl Guesses {
     /// Room for four guesses for each of so many entries. What was noted before is then mostly wrong.
     pub fn widen_for(&mut self, entries: usize) -> Result<(), Memory> {
         let room = entries.saturating_mul(4).max(FEWEST);
-        self.indexes.resize(room, 0).map_err(|_| Memory)
+        Ok(self.indexes.resize(room, 0)?)
     }
 
     /// The guess for a key.

@@ -60,9 +60,9 @@ impl Plan {
     ) -> Result<Self, Memory>
         ensures { IfOk result (λ p. p ≡ record { doings = doing ∷ []; hints = hints_for target hint }) }
     {
-        let doings = vec![in alloc; doing].map_err(|_| Memory)?;
+        let doings = vec![in alloc; doing]?;
         let hints = match hint {
-            Some(hint) => vec![in alloc; (target, hint)].map_err(|_| Memory)?,
+            Some(hint) => vec![in alloc; (target, hint)]?,
             None => Vec::new(alloc),
         };
         Ok(Plan { doings, hints })
@@ -77,8 +77,8 @@ impl Plan {
     ) -> Result<Self, Memory>
         ensures { IfOk result (λ p. p ≡ record { doings = first ∷ second ∷ []; hints = hint ∷ [] }) }
     {
-        let doings = vec![in alloc; first, second].map_err(|_| Memory)?;
-        let hints = vec![in alloc; hint].map_err(|_| Memory)?;
+        let doings = vec![in alloc; first, second]?;
+        let hints = vec![in alloc; hint]?;
         Ok(Plan { doings, hints })
     }
 
@@ -95,8 +95,8 @@ impl Plan {
             doings: rest,
             hints,
         } = self;
-        let mut doings = vec![in alloc; first, second].map_err(|_| Memory)?;
-        doings.extend_from_slice(&rest).map_err(|_| Memory)?;
+        let mut doings = vec![in alloc; first, second]?;
+        doings.extend_from_slice(&rest)?;
         Ok(Plan { doings, hints })
     }
 }

@@ -26,10 +26,10 @@ pub fn pairs(
 ) -> Result<Vec<(u32, u32)>, Memory>
     ensures { IfOk result (λ pairs. pairs.items ≡ map (λ (d : ℕ × Name). (pid, d.0)) (filled slots.now)) }
 {
-    let mut pairs = Vec::with_capacity(alloc, slots.len()).map_err(|_| Memory)?;
+    let mut pairs = Vec::with_capacity(alloc, slots.len())?;
     for slot in slots {
         if slot.1.is_some() {
-            pairs.push((pid, slot.0)).map_err(|_| Memory)?;
+            pairs.push((pid, slot.0))?;
         }
     }
     Ok(pairs)

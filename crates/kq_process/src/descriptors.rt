@@ -120,8 +120,7 @@ impl Descriptors {
             .iter()
             .copied()
             .filter(|slot| is_inherited(slot.1))
-            .collect(alloc)
-            .map_err(|_| Memory)?;
+            .collect(alloc)?;
         Ok(Descriptors { slots, empty: 0 })
     }
 }

@@ -40,7 +40,7 @@ impl Effect {
         ensures { IfOk result (Tells ((target, hint) ∷ [])) }
     {
         let mut hints = Vec::new(alloc);
-        hints.push((target, hint)).map_err(|_| Memory)?;
+        hints.push((target, hint))?;
         Ok(Effect {
             verdict: Ok(()),
             closed: Series::from_vec(Vec::new(alloc)),

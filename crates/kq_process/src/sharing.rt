@@ -17,13 +17,9 @@ use std::alloc::Global;
 fn forked(alloc: Global, pid: u32, child: u32) -> Result<Vec<(Target, Hint)>, Memory>
     ensures { IfOk result (λ hints. hints.items ≡ forked pid child) }
 {
-    let mut hints = Vec::with_capacity(alloc, 2).map_err(|_| Memory)?;
-    hints
-        .push((Target::Process(pid), Hint::Note(NOTE_FORK)))
-        .map_err(|_| Memory)?;
-    hints
-        .push((Target::Process(pid), Hint::Child(child)))
-        .map_err(|_| Memory)?;
+    let mut hints = Vec::with_capacity(alloc, 2)?;
+    hints.push((Target::Process(pid), Hint::Note(NOTE_FORK)))?;
+    hints.push((Target::Process(pid), Hint::Child(child)))?;
     Ok(hints)
 }
 
@@ -74,7 +70,7 @@ impl State {
         }
         let descriptors = self.processes.descriptors(pid);
         let closed = pairs(alloc, pid, descriptors)?;
-        let mut hints = Vec::with_capacity(alloc, closed.len() + 1).map_err(|_| Memory)?;
+        let mut hints = Vec::with_capacity(alloc, closed.len() + 1)?;
         let gone = self.processes.exit(pid, status);
         let slots = gone.slots();
         release_each(&mut self.objects, slots, &mut hints);
@@ -96,8 +92,8 @@ impl State {
             Ok(named) => named,
             Err(why) => return Ok(Effect::impossible(alloc, why)),
         };
-        let closed = vec![in alloc; (pid, fd)].map_err(|_| Memory)?;
-        let mut hints = Vec::with_capacity(alloc, 1).map_err(|_| Memory)?;
+        let closed = vec![in alloc; (pid, fd)]?;
+        let mut hints = Vec::with_capacity(alloc, 1)?;
         let _ = self.processes.close(pid, fd);
         self.descriptors -= 1;
         release_one(&mut self.objects, named, &mut hints);
@@ -171,8 +167,8 @@ impl State {
         ensures memory { OnErr result (state_of self.new ≡ state_of self.old) }
     {
         let alloc = self.processes.allocator();
-        let closed = vec![in alloc; (pid, to)].map_err(|_| Memory)?;
-        let mut hints = Vec::with_capacity(alloc, 1).map_err(|_| Memory)?;
+        let closed = vec![in alloc; (pid, to)]?;
+        let mut hints = Vec::with_capacity(alloc, 1)?;
         self.processes.name(pid, to, named)?;
         release_one(&mut self.objects, before, &mut hints);
         self.objects.hold(named);

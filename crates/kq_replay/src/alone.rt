@@ -54,7 +54,7 @@ impl<'s, 'a> Alone<'s, 'a> {
     {
         let alloc = split.allocator();
         let version = split.version();
-        let rows = Vec::with_capacity(alloc, calls_in(items)).map_err(|_| Memory)?;
+        let rows = Vec::with_capacity(alloc, calls_in(items))?;
         let guesses = Guesses::new(alloc, items.len())?;
         Ok(Alone {
             split,
@@ -145,7 +145,7 @@ impl<'s, 'a> Alone<'s, 'a> {
     fn tell(&mut self, target: Target, hint: Hint) -> Result<(), Memory>
         ensures { OnOk result (self.new ≡ gone_on (what_of.Told target hint) self.old) }
     {
-        self.told.push((target, hint)).map_err(|_| Memory)
+        Ok(self.told.push((target, hint))?)
     }
 
     /// The clock goes on from a moment to another, in ns.

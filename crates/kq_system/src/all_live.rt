@@ -159,7 +159,7 @@ fn prepare_one(live: &mut Kqueues, wanted: bool, place: u64, pid: u32) -> Result
 {
     live.ready = None;
     if wanted {
-        live.live.reserve(1).map_err(|_| Memory)?;
+        live.live.reserve(1)?;
         live.owned.add(pid, place)?;
         live.ready = Some((place, pid));
     }

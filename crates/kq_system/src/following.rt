@@ -125,7 +125,7 @@ fn next_after(round: u64) -> Result<u64, Memory>
 fn copy_of(places: &[u64], alloc: Global) -> Result<Vec<u64>, Memory>
     ensures { IfOk result (λ copy. copy.items ≡ places.now) }
 {
-    Vec::from_slice(alloc, places).map_err(|_| Memory)
+    Ok(Vec::from_slice(alloc, places)?)
 }
 
 /// Room for the knotes of a child in the kqueues of these places, which are found for the child from here

@@ -78,7 +78,7 @@ impl<K: Copy + Eq + Hash> Index<K> {
             Some(places) => places.add(place),
             None => {
                 let places = Places::one(self.alloc, place)?;
-                self.table.insert(key, places).map_err(|_| Memory)?;
+                self.table.insert(key, places)?;
                 Ok(())
             }
         }

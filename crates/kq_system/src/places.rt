@@ -25,7 +25,7 @@ impl Places {
         ensures { IfOk result (λ p. p ≡ place ∷ []) }
     {
         let mut list = Vec::new(alloc);
-        list.push(place).map_err(|_| Memory)?;
+        list.push(place)?;
         Ok(Places { list })
     }
 
@@ -52,7 +52,7 @@ impl Places {
         match self.list.binary_search(&place) {
             Ok(_) => Ok(()),
             Err(index) => {
-                self.list.insert(index, place).map_err(|_| Memory)?;
+                self.list.insert(index, place)?;
                 Ok(())
             }
         }

@@ -16,7 +16,7 @@ pub const FLAGS_BYTES: usize = 96;
 pub fn put_flags(out: &mut Vec<u8>, flags: EvFlags) -> Result<(), Memory>
     ensures { OnOk result (Adds out.old.items (compact_text (flags_data flags)) out.new.items) }
 {
-    out.reserve(FLAGS_BYTES).map_err(|_| Memory)?;
+    out.reserve(FLAGS_BYTES)?;
     push_flags(out, flags);
     Ok(())
 }

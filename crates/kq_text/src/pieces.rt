@@ -11,7 +11,7 @@ use kq_model::Memory;
 pub fn put(out: &mut Vec<u8>, text: &str) -> Result<(), Memory>
     ensures { OnOk result (Adds out.old.items text.now out.new.items) }
 {
-    out.reserve(text.len()).map_err(|_| Memory)?;
+    out.reserve(text.len())?;
     push(out, text);
     Ok(())
 }

@@ -109,14 +109,10 @@ fn put(
     if block.len() >= least
         && let Some(end) = memchr(b'\n', came)
     {
-        block
-            .extend_from_slice(&came[..end + 1])
-            .map_err(|_| Memory)?;
-        waiting
-            .extend_from_slice(&came[end + 1..])
-            .map_err(|_| Memory)?;
+        block.extend_from_slice(&came[..end + 1])?;
+        waiting.extend_from_slice(&came[end + 1..])?;
         return Ok(true);
     }
-    block.extend_from_slice(came).map_err(|_| Memory)?;
+    block.extend_from_slice(came)?;
     Ok(false)
 }

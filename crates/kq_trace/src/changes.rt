@@ -28,10 +28,10 @@ fn changes_of(alloc: Global, values: &[Value]) -> Result<Option<Vec<Change>>, Me
     ensures { IfOk result
         (λ found. option_map (λ changes. changes.items) found ≡ changes_of (items_view values.now)) }
 {
-    let mut changes = Vec::with_capacity(alloc, values.len()).map_err(|_| Memory)?;
+    let mut changes = Vec::with_capacity(alloc, values.len())?;
     for value in values {
         match change_of(value) {
-            Some(change) => changes.push(change).map_err(|_| Memory)?,
+            Some(change) => changes.push(change)?,
             None => return Ok(None),
         }
     }

@@ -22,7 +22,7 @@ pub struct Chunk {
 
 impl Chunk {
     pub fn new(alloc: Global) -> Result<Self, Memory> {
-        let bytes = vec![in alloc; 0u8; BYTES].map_err(|_| Memory)?;
+        let bytes = vec![in alloc; 0u8; BYTES]?;
         Ok(Chunk { bytes })
     }
 

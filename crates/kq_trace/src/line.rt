@@ -35,7 +35,7 @@ pub fn lines_up_to<'a>(
     let mut rest = text;
     'lines: while !rest.is_empty() && (lines.len() as u64) < most {
         let (line, behind) = first_line(rest);
-        lines.push(line).map_err(|_| Memory)?;
+        lines.push(line)?;
         rest = behind;
     }
     Ok((lines, rest))

@@ -54,7 +54,7 @@ impl Part {
         ensures { OnOk result (self.new ≡ self.old ++ piece.items) }
     {
         let count = self.count + piece.len() as u64;
-        self.pieces.push(piece).map_err(|_| Memory)?;
+        self.pieces.push(piece)?;
         self.count = count;
         Ok(())
     }

@@ -24,7 +24,7 @@ fn pieces_of<'a>(alloc: Global, text: &'a [u8], bytes: usize) -> Result<Vec<&'a 
     let mut rest = text;
     'pieces: while !rest.is_empty() {
         let (piece, behind) = cut_behind(rest, bytes);
-        pieces.push(piece).map_err(|_| Memory)?;
+        pieces.push(piece)?;
         rest = behind;
     }
     Ok(pieces)
@@ -104,6 +104,6 @@ pub fn records_in<R: Threads + Sync>(
     ensures few { IfOk result (λ part. IfSome part (λ events. length events ≤ most)) }
 {
     let pieces = pieces_of(alloc, text, piece_bytes(text.len(), threads))?;
-    let batches = batches_in(rt, alloc, pieces.as_slice()).map_err(|_| Memory)?;
+    let batches = batches_in(rt, alloc, pieces.as_slice())?;
     gathered(alloc, batches, most)
 }

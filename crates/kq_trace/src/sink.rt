@@ -53,7 +53,7 @@ impl Sink for Kept {
 
     fn accept(&mut self, _before: u64, pieces: Vec<Vec<Event>>) -> Result<(), Memory> {
         for mut piece in pieces {
-            self.events.append(&mut piece).map_err(|_| Memory)?;
+            self.events.append(&mut piece)?;
         }
         Ok(())
     }

@@ -7,7 +7,10 @@ use kq_merge::report_text;
 use kq_model::{Change, EvFlags, Event, Filter, Memory, Row, Series, Trace};
 use kq_replay::RunFault;
 use std::alloc::Global;
+use std::process::Abort;
+use std::sync::Wait;
 use std::test::Fail;
+use std::thread::Threads;
 
 /// NOTE_TRIGGER of kqueue(2): the user event happens now.
 const TRIGGER: u32 = 0x0100_0000;
@@ -48,13 +51,15 @@ fn add(alloc: Global, pid: u32) -> Result<Event, Memory> {
 
 /// Two processes with a kqueue each, of which each is told of an event, and a process that is there already.
 fn two_processes(alloc: Global) -> Result<Trace, Memory> {
+    let one = add(alloc, 1)?;
+    let two = add(alloc, 2)?;
     let events = [
         Event::Proc { pid: 1 },
         Event::Proc { pid: 2 },
         Event::Kqueue { pid: 1, fd: 9 },
         Event::Kqueue { pid: 2, fd: 9 },
-        add(alloc, 1)?,
-        add(alloc, 2)?,
+        one,
+        two,
         call(2, Vec::new(alloc), 1),
         call(1, Vec::new(alloc), 1),
         Event::Proc { pid: 1 },
@@ -66,35 +71,38 @@ fn two_processes(alloc: Global) -> Result<Trace, Memory> {
     })
 }
 
-fn report_of(alloc: Global, rows: &[Row], book: &Book) -> Result<Vec<u8>, Memory> {
-    report_text(alloc, rows, book.len() as u64)
+/// Whether the report of these rows is the one above.
+fn are_reported(alloc: Global, rows: &[Row]) -> Result<bool, Memory> {
+    let report = report_text(alloc, rows, 9)?;
+    Ok(report.as_slice() == REPORT.as_bytes())
+}
+
+/// Whether that is the report of the book's rows, replayed by so many workers.
+fn is_replayed<R: AllocGlobal + Threads + Wait + Sync>(
+    rt: &R,
+    book: &Book,
+    workers: u32,
+) -> Result<bool, RunFault> {
+    let rows = replayed_rows(rt, book, workers)?;
+    Ok(are_reported(rt.alloc(), rows.as_slice())?)
+}
+
+fn assert_replayed<R: Abort + AllocGlobal + Threads + Wait + Sync>(rt: &R, book: &Book) {
+    for workers in [1, 2, 256] {
+        assert!(rt; is_replayed(rt, book, workers) == Ok(true), "by {workers}");
+    }
+    for workers in [0, 257] {
+        assert!(rt;
+            is_replayed(rt, book, workers) == Err(RunFault::Workers),
+            "by {workers}"
+        );
+    }
 }
 
 #[test]
 fn a_book_replays_to_its_rows(rt: HostRuntime) -> Result<(), Fail> {
-    let alloc = rt.alloc();
-    let trace = two_processes(alloc)?;
-    for threads in [1, 2] {
-        let book = live_run(&rt, alloc, &Open, &Always, &trace, threads)?;
-        let report = report_of(alloc, book.rows()?.as_slice(), &book)?;
-        if threads == 1 {
-            assert_eq!(rt; report.as_slice(), REPORT.as_bytes());
-        }
-        for workers in [1, 2, 256] {
-            let rows = replayed_rows(&rt, &book, workers)?;
-            let again = report_of(alloc, rows.as_slice(), &book)?;
-            assert_eq!(rt; again.as_slice(), report.as_slice());
-        }
-    }
-    Ok(())
-}
-
-#[test]
-fn workers_out_of_range_are_refused(rt: HostRuntime) -> Result<(), Fail> {
     let trace = two_processes(rt.alloc())?;
     let book = live_run(&rt, rt.alloc(), &Open, &Always, &trace, 1)?;
-    for workers in [0, 257] {
-        assert!(rt; matches!(replayed_rows(&rt, &book, workers), Err(RunFault::Workers)));
-    }
+    assert_replayed(&rt, &book);
     Ok(())
 }

@@ -18,7 +18,7 @@ pub fn put_reply(out: &mut Vec<u8>, at: u64, reply: &Reply) -> Result<(), Memory
     ensures { OnOk result (Adds out.old.items (reply_line at reply.now) out.new.items) }
 {
     let bytes = usize::try_from(line_bound(reply)).map_err(|_| Memory)?;
-    out.reserve(bytes).map_err(|_| Memory)?;
+    out.reserve(bytes)?;
     push_reply(out, at, reply);
     Ok(())
 }

@@ -30,7 +30,7 @@ impl Piece {
     pub fn new(alloc: Global, bytes: usize) -> Result<Self, Memory>
         ensures { IfOk result (λ piece. bytes ≤ vec_capacity piece.text) }
     {
-        let text = Vec::with_capacity(alloc, bytes).map_err(|_| Memory)?;
+        let text = Vec::with_capacity(alloc, bytes)?;
         Ok(Piece {
             start: 0,
             end: 0,

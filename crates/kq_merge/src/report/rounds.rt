@@ -23,7 +23,7 @@ pub fn empty_pieces(alloc: Global, count: usize, bytes: usize) -> Result<Vec<Pie
     ensures len { IfOk result (λ pieces. length pieces.items ≡ count) }
     ensures room { IfOk result (λ pieces. HaveRoom bytes pieces.items) }
 {
-    let mut pieces = Vec::with_capacity(alloc, count).map_err(|_| Memory)?;
+    let mut pieces = Vec::with_capacity(alloc, count)?;
     for _ in 0..count {
         pieces.push_reserved(Piece::new(alloc, bytes)?);
     }

@@ -35,8 +35,8 @@ returns-in-Some-clause-noted g c =
     (writes.3 some).0 other)
     c.note.ensures.pushed
 
-pub returns-in_ok-map_err-in-None-clause-noted : goal.returns-in_ok-map_err-in-None-clause-noted
-returns-in_ok-map_err-in-None-clause-noted g c =
+pub returns-in_ok-insert-in-None-clause-noted : goal.returns-in_ok-insert-in-None-clause-noted
+returns-in_ok-insert-in-None-clause-noted g c =
     let same = g.K.PartialEq.eq in
     let old = c.args.self.now.table in
     let key = c.args.key in

@@ -28,8 +28,8 @@ returns-in-Some g c =
     (writes.3 some).0 other)
     c.push.ensures.pushed
 
-pub returns-in_ok-map_err-in-None : goal.returns-in_ok-map_err-in-None
-returns-in_ok-map_err-in-None g c =
+pub returns-in_ok-insert-in-None : goal.returns-in_ok-insert-in-None
+returns-in_ok-insert-in-None g c =
     let same = g.K.PartialEq.eq in
     let old = c.args.self.now.table in
     let key = c.args.key in

@@ -9,8 +9,8 @@ returns-in-Ok-clause-added c =
     subst (λ ps. has_place c.args.place ps ≡ true) (c.deref.ensures.value ∙ c.self.view_is)
     (has-found c.args.place c.deref.result.now c.in-Ok.field-0 c.in-Ok.ensures.bound c.in-Ok.ensures.ok)
 
-pub returns-in_ok-map_err-in-Err-clause-kept : goal.returns-in_ok-map_err-in-Err-clause-kept
-returns-in_ok-map_err-in-Err-clause-kept c = λ p there.
+pub returns-in_ok-insert-in-Err-clause-kept : goal.returns-in_ok-insert-in-Err-clause-kept
+returns-in_ok-insert-in-Err-clause-kept c = λ p there.
     subst (λ ps. has_place p ps ≡ true) (sym c.insert.ensures.items)
     (kept-either p c.args.place c.self.inside.list.items c.in-Err.index (is_ok c.insert.result)
     (subst (λ ps. has_place p ps ≡ true) (sym c.self.view_is) there))
