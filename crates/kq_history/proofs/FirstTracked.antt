@@ -15,10 +15,13 @@ use Rattle.kq_model.proofs.ListedWorld.{listed-empty}
 use Rattle.kq_process.specs.declared.world.World.{World}
 use Rattle.kq_process.specs.World.{last_of, world_of}
 use Rattle.kq_history.specs.declared.seen.Seen.{Seen}
+use Rattle.kq_history.specs.declared.sights.Sight.{Sight}
 use Rattle.kq_history.specs.declared.timeline.Mark.{Mark}
-use Rattle.kq_history.specs.Keys.{pair_eq, target_key}
+use Rattle.kq_history.specs.Keys.{pair_eq}
 use Rattle.kq_history.specs.Numbers.{later, no_mark, no_table}
 use Rattle.kq_history.specs.Seen.{IsBlank}
+use Rattle.kq_history.specs.Sights as sights
+use Rattle.kq_history.specs.Sights.{view_at}
 use Rattle.kq_history.specs.Timeline.{mark_at, value_at, IsUpTo}
 use Rattle.kq_history.specs.Timelines.{marks_at}
 use Rattle.kq_history.specs.Traced.{plain_rows_of}
@@ -50,7 +53,7 @@ unfolding views_of named_by named_among view_in view_of process_of process_view 
 first-tracked version w s is none blank = record {
   after = first-world version w is none;
   shows = record {
-    view = λ place t. ap (value_at place None) (blank.views t) ∙ sym (no-view t);
+    view = λ place t. ap (λ (ss : List Sight). view_at ss place t) blank.views ∙ sym (no-view t);
     descriptor = λ place pid number.
         ap₂ (λ m t. later m t number) (ap (mark_at place no_mark) (blank.numbers.marks (pid, number)))
         (ap (mark_at place no_table) (blank.numbers.tables pid));
@@ -62,7 +65,7 @@ first-tracked version w s is none blank = record {
       marks = λ key. none-later (marks_at pair_eq s.numbers.marks.table key) (blank.numbers.marks key);
       tables = λ pid. none-later (marks_at nat_eq s.numbers.tables.table pid) (blank.numbers.tables pid);
     };
-    views = λ t. none-later (marks_at target_key s.views.table t) (blank.views t);
+    views = subst (λ (ss : List Sight). sights.AreUpTo 0 ss) (sym blank.views) (All-nil _);
     clock = none-later s.clock blank.clock;
   };
 }

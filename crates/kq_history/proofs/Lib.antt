@@ -28,6 +28,9 @@ mod NamedTargets
 mod SlotLemmas
 mod TouchedNumbers
 mod NotedKeys
+mod SightLemmas
+mod TakenSights
+mod LookingLemmas
 mod NotedMarks
 mod SameValues
 mod ListedRecords

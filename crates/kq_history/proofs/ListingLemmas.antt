@@ -1,12 +1,12 @@
 -- What stands in a list under a number, by the place where it would stand.
-use Rattle.std.proofs.Common.{◌≡◌, ◌∙◌, ◌<◌, ◌≤◌, ◌==◌, ◌+◌, ℕ, zero, suc, Bool, true, false, ltb, length, get_or, List, [], ◌∷◌, None, Some, refl, sym, ap, subst, arith}
+use Rattle.std.proofs.Common.{◌≡◌, ◌∙◌, ◌<◌, ◌==◌, ℕ, zero, suc, true, false, ltb, length, get_or, List, [], ◌∷◌, None, Some, refl, ap, subst, arith}
 use Rattle.std.specs.List.{AllByRecursion}
 use Rattle.std.specs.List.Sorted.{IsNonDecreasingBy, IsPartitionPoint}
 use Rattle.std.proofs.lemmas.Bool.{eqb-true, ltb-true}
 use Rattle.std.proofs.lemmas.Bool.Decides.{nat_tests}
 use Rattle.kq_model.proofs.KnoteLaws.{by_test}
 use Rattle.kq_process.specs.Shelf.{lookup, AreRising}
-use Rattle.kq_process.proofs.Places.{AreHigher, AreLower, IsOf, gap, higher-from, placed, read-any}
+use Rattle.kq_process.proofs.Places.{AreLower, IsOf, gap, higher-from, placed, read-any}
 
 beyond : (m n : ℕ) → ltb m n ≡ false → (m == n) ≡ false → n < m
 beyond m n not_below other = grind (arith, nat_tests)

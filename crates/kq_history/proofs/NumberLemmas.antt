@@ -1,5 +1,5 @@
 -- What numbers name, where a number is marked once more or a process has one table more.
-use Rattle.std.proofs.Common.{◌≡◌, ◌∙◌, ◌<◌, ◌≤◌, ◌==◌, ◌&&◌, ◌++◌, ◌∷◌, [], ℕ, Bool, true, false, nat_eq, cond, leb, List, Option, None, refl, sym, ap, ap₂, subst, arith}
+use Rattle.std.proofs.Common.{◌≡◌, ◌∙◌, ◌<◌, ◌≤◌, ◌==◌, ◌&&◌, ◌++◌, ℕ, Bool, true, false, nat_eq, cond, leb, List, Option, refl, sym, ap, ap₂, subst, arith}
 use Rattle.std.proofs.lemmas.Bool.{and_parts, eqb-true, false_from_ne_true, le-leb, leb-true}
 use Rattle.kq_model.specs.declared.object.Named.{Named}
 use Rattle.kq_model.proofs.KnoteLaws.{by_test}
@@ -7,7 +7,7 @@ use Rattle.kq_process.specs.Shelf.{lookup}
 use Rattle.kq_history.specs.declared.numbers.Numbers.{Numbers}
 use Rattle.kq_history.specs.declared.timeline.Mark.{Mark}
 use Rattle.kq_history.specs.Keys.{pair_eq}
-use Rattle.kq_history.specs.Numbers.{later, mark_of, named_at, no_mark, no_table, table_of, AreNumbersBefore, AreNumbersUpTo}
+use Rattle.kq_history.specs.Numbers.{later, named_at, no_mark, no_table, AreNumbersBefore, AreNumbersUpTo}
 use Rattle.kq_history.specs.Timeline.{mark, mark_at, marked, IsUpTo}
 use Rattle.kq_history.specs.Timelines.{marks_at}
 use Rattle.kq_history.proofs.Following.{mark-settled, mark-up_to, mark_at-marked, marks-later, up_to-marked}

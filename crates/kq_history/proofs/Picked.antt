@@ -58,7 +58,7 @@ module _ {X : Type 0} where
   standing-none from [] = refl
   standing-none from (x ∷ xs) = standing-none (from + 1) xs
 
-  merged : (p q : X → Bool) → ((x : X) → p x ≡ true → q x ≡ false) → (from : ℕ) (xs : List X)
+  pub merged : (p q : X → Bool) → ((x : X) → p x ≡ true → q x ≡ false) → (from : ℕ) (xs : List X)
       → IsPermutation (standing p from xs ++ standing q from xs) (standing (λ x. p x || q x) from xs)
   merged p q apart from [] = IsPermutation-refl []
   merged p q apart from (x ∷ xs) =

@@ -1,7 +1,6 @@
 -- In a table in rising order each descriptor is what its number names.
 use Rattle.std.proofs.Common.{◌≡◌, ◌∙◌, ℕ, ◌&&◌, ◌||◌, Bool, true, false, cond, eqb, eq-eqb, ltb, List, [], ◌∷◌, Option, None, Some, refl, ap, ap₂, arith}
 use Rattle.std.specs.Prelude.{All}
-use Rattle.std.specs.List.{list_any}
 use Rattle.std.proofs.lemmas.Bool.Decides.{nat_tests}
 use Rattle.std.proofs.lemmas.List.Elements.{All-nil, All-cons, All-head, All-tail, All-weaker}
 use Rattle.kq_model.specs.Close.{Pair, has_pair}

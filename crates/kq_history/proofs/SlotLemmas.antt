@@ -1,6 +1,6 @@
 -- The slots of a process: what its numbers name, that they rise, and that what may have ended with them stands for all
 -- of the process.
-use Rattle.std.proofs.Common.{◌≡◌, ◌∙◌, ◌<◌, ◌==◌, ◌||◌, ◌&&◌, ◌++◌, ◌∷◌, [], ℕ, Bool, true, false, not, cond, eqb, eq-eqb, ltb, length, List, Option, None, Some, refl, sym, ap, ap₂, subst, arith}
+use Rattle.std.proofs.Common.{◌≡◌, ◌∙◌, ◌<◌, ◌==◌, ◌||◌, ◌&&◌, ◌++◌, ◌∷◌, [], ℕ, Bool, true, cond, eqb, eq-eqb, ltb, length, List, Option, None, Some, refl, sym, ap, ap₂, subst, arith}
 use Rattle.std.specs.Prelude.{All}
 use Rattle.std.specs.List.{flat_map, AllByRecursion}
 use Rattle.std.proofs.lemmas.Bool.{both_ways, eqb-true, false≢true}
@@ -11,7 +11,6 @@ use Rattle.kq_model.specs.declared.object.Target.{Target}
 use Rattle.kq_model.specs.Descriptors.{Descriptor, IsRising, is_before, named_among}
 use Rattle.kq_model.specs.Objects.{counted}
 use Rattle.kq_model.specs.ProcessPlans.{descriptors_of}
-use Rattle.kq_model.specs.Targets.{target_eq}
 use Rattle.kq_model.specs.World.{World, named_by, views_of}
 use Rattle.kq_model.proofs.KnoteLaws.{by_test}
 use Rattle.kq_process.specs.Processes.{descriptor_in, descriptors_in}

@@ -2,6 +2,7 @@
 use Rattle.std.proofs.Common.{◌≡◌, ◌+◌, ◌≤◌, ℕ, length, [], ◌∷◌, ◌++◌, Result, Ok, Err, refl, sym, subst, arith}
 use Rattle.std.specs.Prelude.{IsOk}
 use Rattle.std.proofs.lemmas.Bool.{false≢true}
+use Rattle.std.proofs.lemmas.List.Elements.{All-weaker}
 use Rattle.kq_model.specs.declared.event.Event.{Event}
 use Rattle.kq_model.specs.declared.why.Why.{Why}
 use Rattle.kq_model.specs.CountedWorld.{IsCountedWorld}
@@ -16,10 +17,9 @@ use Rattle.kq_process.specs.Effects.{IsEffectOf, world_after}
 use Rattle.kq_process.specs.World.{last_of, world_of, IsEffectBy, IsNext}
 use Rattle.kq_process.proofs.Applied.{counted-now}
 use Rattle.kq_history.specs.declared.seen.Seen.{Seen}
-use Rattle.kq_history.specs.Keys.{target_key}
+use Rattle.kq_history.specs.declared.sights.Sight.{Sight}
 use Rattle.kq_history.specs.Noted.{AreAllBefore, AreAllUpTo, IsNextWorld}
 use Rattle.kq_history.specs.Seen.{seen_by, Shows}
-use Rattle.kq_history.specs.Timelines.{marks_at}
 use Rattle.kq_history.specs.Touched.{touched_targets, touches}
 use Rattle.kq_history.specs.Traced.{Traced, longer, seen_at}
 use Rattle.kq_history.specs.Tracked.{IsFollowed, IsFollowedBy, IsNoted, IsTracked}
@@ -32,7 +32,7 @@ use Rattle.kq_history.proofs.WorldNext.{counted_now, length_is, listed_now, plan
 pub up-later : (n m : ℕ) (s : Seen) → n ≤ m → AreAllUpTo n s → AreAllUpTo m s
 up-later n m s later up = record {
   numbers = numbers-later n m s.numbers later up.numbers;
-  views = λ t. marks-later n m later (marks_at target_key s.views.table t) (up.views t);
+  views = All-weaker (λ (x : Sight). x.place ≤ n) (λ (x : Sight). x.place ≤ m) (λ x below. omega (arith, below, later)) s.views up.views;
   clock = marks-later n m later s.clock up.clock;
 }
 

@@ -15,11 +15,13 @@ pub mod Touched
 pub mod Accounts
 pub mod Within
 pub mod Keys
+pub mod Sights
 pub mod Numbers
 pub mod Slots
 pub mod Seen
 pub mod Noted
 pub mod Traced
+pub mod Looking
 pub mod Tracked
 pub mod Sayings
 pub mod Plain

@@ -3,16 +3,15 @@ use Rattle.std.specs.Prelude.{◌≡◌, ◌<◌, ℕ, Bool, false, List, nat_lt
 use Rattle.kq_model.specs.declared.object.Target.{Target}
 use Rattle.kq_model.specs.Views.{Views}
 use Rattle.kq_history.specs.declared.seen.Seen.{Seen}
-use Rattle.kq_history.specs.Keys.{target_key}
 use Rattle.kq_history.specs.Numbers.{AreNumbersUpTo}
 use Rattle.kq_history.specs.Timeline.{IsUpTo}
-use Rattle.kq_history.specs.Timelines.{AreUpTo}
+use Rattle.kq_history.specs.Sights.{AreUpTo}
 use Rattle.kq_history.specs.Touched.{has_target}
 
 -- nothing was noted behind a place
 pub record AreAllUpTo (place : ℕ) (s : Seen) : Type 0 where
   pub numbers : AreNumbersUpTo place s.numbers
-  pub views : AreUpTo target_key place s.views.table
+  pub views : AreUpTo place s.views
   pub clock : IsUpTo place s.clock
 
 -- all was noted before it

@@ -1,20 +1,19 @@
 -- What was seen of a world after each place, by its marks; and when that is what a trace's worlds show.
-use Rattle.std.specs.Prelude.{◌≡◌, ◌≤◌, ℕ, Bool, List, [], None}
+use Rattle.std.specs.Prelude.{◌≡◌, ◌≤◌, ℕ, Bool, List, []}
 use Rattle.kq_model.specs.declared.object.Target.{Target}
 use Rattle.kq_model.specs.Ticks.{last_moment}
 use Rattle.kq_model.specs.Views.{Views}
 use Rattle.kq_history.specs.declared.numbers.Numbers.{Numbers}
 use Rattle.kq_history.specs.declared.seen.Seen.{Seen}
-use Rattle.kq_history.specs.Keys.{target_key}
 use Rattle.kq_history.specs.Numbers.{IsBlankOf, named_at}
+use Rattle.kq_history.specs.Sights.{view_at}
 use Rattle.kq_history.specs.Timeline.{value_at}
-use Rattle.kq_history.specs.Timelines.{marks_at}
 use Rattle.kq_history.specs.Touched.{targets_left}
 
 -- what the marks give at a place; before all marks the world was empty
 abbrev pub seen_by : Seen → ℕ → Views
 seen_by s place = record {
-  view = λ t. value_at place None (marks_at target_key s.views.table t);
+  view = λ t. view_at s.views place t;
   descriptor = λ pid number. named_at s.numbers place pid number;
   now = value_at place 0 s.clock;
 }
@@ -33,5 +32,5 @@ pub record Shows (worlds seen : ℕ → Views) : Type 0 where
 -- nothing was seen yet
 pub record IsBlank (s : Seen) : Type 0 where
   pub numbers : IsBlankOf s.numbers
-  pub views : (t : Target) → marks_at target_key s.views.table t ≡ []
+  pub views : s.views ≡ []
   pub clock : s.clock ≡ []

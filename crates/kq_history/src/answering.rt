@@ -3,6 +3,7 @@ ghost use Rattle.kq_history.specs.Private.{IsAnswering};
 
 use crate::item::Item;
 use crate::split::Split;
+use kq_model::Target;
 
 /// What of a kqueue's private list can show in its rows: the items from its first call to its last
 /// one, where steps of the clock with no other item between them are one step.
@@ -12,6 +13,8 @@ pub struct Answering<'s, 'a> {
     pub(crate) kqueue: u64,
     pub(crate) owner: u32,
     pub(crate) items: Vec<Item>,
+    /// What its changes name, but for processes that descend from these.
+    pub(crate) targets: Vec<Target>,
     ghost own: { IsAnswering split.now kqueue owner items.items },
 }
 
@@ -35,6 +38,11 @@ impl<'s, 'a> Answering<'s, 'a> {
         ensures { result.now ≡ self.now.items.items }
     {
         self.items.as_slice()
+    }
+
+    /// What its changes name, but for what descends from that. So these are what it mostly looks at.
+    pub fn targets(&self) -> &[Target] {
+        self.targets.as_slice()
     }
 
     /// The split that it is a part of.

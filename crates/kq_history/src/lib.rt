@@ -4,7 +4,6 @@
 
 mod answering;
 mod at;
-mod guesses;
 mod item;
 mod kqueues;
 mod listing;
@@ -16,6 +15,7 @@ mod private;
 mod said;
 mod seen;
 mod shelves;
+mod sights;
 mod sources;
 mod split;
 mod splitting;
@@ -28,7 +28,6 @@ mod weave;
 
 pub use answering::Answering;
 pub use at::HistoryAt;
-pub use guesses::Guesses;
 pub use item::{Item, Source, What};
 pub use looking::Looking;
 pub use private::Private;

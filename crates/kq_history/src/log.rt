@@ -246,7 +246,7 @@ impl Log {
 }
 
 /// Those of rising numbers that are neither below the one nor above the other.
-fn within(numbers: &[usize], first: usize, last: usize) -> &[usize]
+pub(crate) fn within(numbers: &[usize], first: usize, last: usize) -> &[usize]
     requires { IsNonDecreasing numbers.now }
     ensures { result.now ≡ filter (is_within first last) numbers.now }
 {

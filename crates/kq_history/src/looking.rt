@@ -1,28 +1,117 @@
-use crate::guesses::Guesses;
-use crate::split::Split;
-use kq_model::{Named, Target, View, Views};
+ghost use Rattle.std.specs.Prelude.{◌≡◌, ◌≤◌, ◌<◌, ◌&&◌, ℕ, length, take, drop, slice_index_or};
+ghost use Rattle.std.specs.Prelude.{is_some, Some, IfOk, if◌then◌else◌};
+ghost use Rattle.std.specs.HashMap.{get};
+ghost use Rattle.kq_history.specs.Keys.{target_key};
+ghost use Rattle.kq_history.specs.Log.{standing};
+ghost use Rattle.kq_history.specs.Looking.{has_slot, Follow, Show};
+ghost use Rattle.kq_history.specs.Sights.{AreInOrder};
 
-/// The world after the record of a place, as one kqueue sees it that goes from place to place: a look at a target goes
-/// on from where the last one ended.
-#[derive(Drop, Clone, Copy)]
-pub struct Looking<'g, 's, 'a> {
-    pub(crate) split: &'s Split<'a>,
-    pub(crate) place: u64,
-    pub(crate) guesses: &'g Guesses,
+use crate::sights::{Sight, Sights};
+use crate::split::Split;
+use indexmap::IndexMap;
+use kq_model::{Memory, Named, Target, View, Views};
+use std::alloc::Global;
+use std::marker::Model;
+
+/// What is seen of targets, for each its own slot.
+type Slots = IndexMap<Target, Option<View>>;
+
+/// The world after the record of a place, as one kqueue sees it that goes from place to place: what it sees of its
+/// targets stands in slots, which follow the log of sights, so that a look searches nothing. Contracts see the trace
+/// and the place.
+#[derive(Drop)]
+pub struct Looking<'s, 'a> {
+    split: &'s Split<'a>,
+    place: u64,
+    /// The slots follow the log up to this place.
+    last: u64,
+    /// The log up to there.
+    log: &'s [Sight],
+    /// So much of it was gone over.
+    gone: usize,
+    /// Where the sights stand that come to the slots, of which so many came.
+    numbers: Vec<usize>,
+    taken: usize,
+    slots: Slots,
 }
 
-impl<'g, 's, 'a> Views for Looking<'g, 's, 'a> {
+impl<'s, 'a> Model for Looking<'s, 'a> {
+    ghost use Rattle.kq_history.specs.Looking.{IsLooking, Outlook};
+
+    ghost Value = { Outlook };
+
+    ghost view = { λ l. record { trace = l.split.now; place = l.place } };
+
+    ghost invariant = { λ l. IsLooking l.split.now l.place l.last l.log.now l.gone l.numbers.items l.taken l.slots };
+}
+
+impl<'s, 'a> Looking<'s, 'a> {
+    /// From the one place to the other, with a slot for each of these targets. Its cost is that of what is seen of
+    /// these between the two, and two searches for each. Memory: a growth was refused.
+    pub fn new(split: &'s Split<'a>, targets: &[Target], from: u64, to: u64) -> Result<Self, Memory>
+        ensures { IfOk result (λ l. l ≡ record { trace = split.now; place = from }) }
+    {
+        let sights = split.sights();
+        let last = to.max(from);
+        let gone = sights.count_at(from);
+        let end = sights.count_at(last);
+        let (log, _) = sights.as_slice().split_at(end);
+        let (slots, numbers) = slots_for(split.allocator(), sights, targets, gone, end)?;
+        Ok(Looking {
+            split,
+            place: from,
+            last,
+            log,
+            gone,
+            numbers,
+            taken: 0,
+            slots,
+        })
+    }
+
+    /// Goes to another place. Its cost is that of what comes to the slots. There are none from then on where the place
+    /// is not between the last one and the end.
+    pub fn go_to(&mut self, place: u64)
+        ensures { self.new ≡ record { trace = self.old.trace; place = place } }
+    {
+        if self.place <= place && place <= self.last {
+            let (_, left) = self.numbers.as_slice().split_at(self.taken);
+            let (count, gone) = take_to(self.log, left, &mut self.slots, self.gone, place);
+            self.taken += count;
+            self.gone = gone;
+            self.place = place;
+        } else {
+            self.leave_slots(place);
+        }
+    }
+
+    /// Goes to another place, without slots.
+    fn leave_slots(&mut self, place: u64)
+        ensures { self.new ≡ record { trace = self.old.trace; place = place } }
+    {
+        let sights = self.split.sights();
+        let gone = sights.count_at(place);
+        let (log, _) = sights.as_slice().split_at(gone);
+        self.place = place;
+        self.last = place;
+        self.log = log;
+        self.gone = gone;
+        self.numbers.clear();
+        self.taken = 0;
+        self.slots.clear();
+    }
+}
+
+impl<'s, 'a> Views for Looking<'s, 'a> {
     ghost use Rattle.kq_history.specs.Traced.{seen_at};
 
-    ghost sees = { λ l. seen_at l.split.now l.place };
+    ghost sees = { λ l. seen_at l.trace l.place };
 
     fn view(&self, target: Target) -> Option<View> {
-        let Some(guess) = self.guesses.of(target) else {
-            return self.split.view(self.place, target);
-        };
-        let (view, found) = self.split.view_from(self.place, target, guess.get());
-        guess.set(found);
-        view
+        match self.slots.get(&target) {
+            Some(view) => *view,
+            None => self.split.view(self.place, target),
+        }
     }
 
     fn descriptor(&self, pid: u32, number: u32) -> Option<Named> {
@@ -31,5 +120,77 @@ impl<'g, 's, 'a> Views for Looking<'g, 's, 'a> {
 
     fn now(&self) -> i64 {
         self.split.now(self.place)
+    }
+}
+
+/// A slot for each of these targets, with what is seen behind so many sights; and where those of the targets stand from
+/// there to the end.
+fn slots_for(
+    alloc: Global,
+    sights: &Sights,
+    targets: &[Target],
+    gone: usize,
+    end: usize,
+) -> Result<(Slots, Vec<usize>), Memory>
+    requires gone { gone ≤ end }
+    requires end { end ≤ length sights.now }
+    ensures shown { IfOk result (λ p. Show (take end sights.now) gone p.0) }
+    ensures left { IfOk result (λ p. p.1.items ≡ standing (has_slot p.0) gone (drop gone (take end sights.now))) }
+{
+    let mut slots = IndexMap::with_capacity(alloc, targets.len())?;
+    let mut numbers = Vec::new(alloc);
+    for target in targets {
+        let had = slots.insert(*target, sights.behind(*target, gone))?;
+        if had.is_none() {
+            numbers.extend_from_slice(sights.numbers_within(*target, gone, end))?;
+        }
+    }
+    numbers.sort()?;
+    Ok((slots, numbers))
+}
+
+/// Brings what is seen up to a place to the slots, which show what is seen behind so many sights; the sights that come
+/// to them stand there. Returns how many of these came, and behind how many of all the slots are now.
+fn take_to(
+    log: &[Sight],
+    left: &[usize],
+    slots: &mut Slots,
+    gone: usize,
+    place: u64,
+) -> (usize, usize)
+    requires in_order { AreInOrder log.now }
+    requires follow { (before : ℕ) × (before ≤ place) × Follow before log.now gone left.now slots.old }
+    ensures count { result.0 ≤ length left.now }
+    ensures follow { Follow place log.now result.1 (drop result.0 left.now) slots.new }
+{
+    let mut gone = gone;
+    for count in 0..left.len() {
+        let number = left[count];
+        let sight = sight_at(log, number);
+        if place < sight.place {
+            return (count, gone);
+        }
+        show(slots, sight);
+        gone = number + 1;
+    }
+    (left.len(), gone)
+}
+
+/// The sight that stands there.
+fn sight_at(log: &[Sight], number: usize) -> Sight
+    requires { number < length log.now }
+    ensures { result ≡ slice_index_or log.now number result }
+{
+    log[number]
+}
+
+/// Puts what is seen into the slot of its target, if it has one.
+fn show(slots: &mut Slots, sight: Sight)
+    ensures { (t : Target) → get target_key slots.new t
+        ≡ (if target_key sight.target t && is_some (get target_key slots.old t) then Some sight.view
+        else get target_key slots.old t) }
+{
+    if let Some(view) = slots.get_mut(&sight.target) {
+        *view = sight.view;
     }
 }

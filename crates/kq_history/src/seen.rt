@@ -1,22 +1,20 @@
-ghost use Rattle.std.specs.Prelude.{◌≡◌, ◌≤◌, ◌++◌, ℕ, ◌&&◌, nat_le, None, OnOk, if◌then◌else◌};
+ghost use Rattle.std.specs.Prelude.{◌≡◌, ◌≤◌, ◌++◌, ℕ, ◌&&◌, nat_le, OnOk, if◌then◌else◌};
 ghost use Rattle.std.specs.List.{flat_map};
 ghost use Rattle.kq_model.specs.Ticks.{last_moment};
 ghost use Rattle.kq_model.specs.Views as model;
 ghost use Rattle.kq_model.specs.World.{views_of};
 ghost use Rattle.kq_process.specs.World.{world_of};
-ghost use Rattle.kq_history.specs.Keys.{target_key};
 ghost use Rattle.kq_history.specs.Noted.{AreAllBefore, AreAllUpTo, IsNextWorld};
 ghost use Rattle.kq_history.specs.Numbers.{named_at, AreNumbersBefore, AreNumbersUpTo};
 ghost use Rattle.kq_history.specs.Seen.{left_at, IsBlank, seen_by, Shows};
-ghost use Rattle.kq_history.specs.Timeline.{value_at};
-ghost use Rattle.kq_history.specs.Timelines.{marks_at, AreUpTo};
+ghost use Rattle.kq_history.specs.Sights.{view_at, AreUpTo};
 ghost use Rattle.kq_history.specs.Touched.{has_number, has_target, is_of, left_of, to_note, AreAmong, AreApart};
 
 use crate::numbers::Numbers;
+use crate::sights::Sights;
 use crate::timeline::Timeline;
-use crate::timelines::Timelines;
 use crate::touched::{Touched, add_left};
-use kq_model::{Memory, Target, View};
+use kq_model::{Memory, Target};
 use kq_process::World;
 use std::alloc::Global;
 
@@ -24,7 +22,7 @@ use std::alloc::Global;
 #[derive(Drop)]
 pub struct Seen {
     pub(crate) numbers: Numbers,
-    pub(crate) views: Timelines<Target, Option<View>>,
+    pub(crate) views: Sights,
     pub(crate) clock: Timeline<u64>,
 }
 
@@ -35,7 +33,7 @@ impl Seen {
     {
         Seen {
             numbers: Numbers::new(alloc),
-            views: Timelines::new(alloc),
+            views: Sights::new(alloc),
             clock: Timeline::new(alloc),
         }
     }
@@ -132,20 +130,19 @@ fn note_numbers(
 
 /// What is seen of these targets.
 fn note_targets(
-    timelines: &mut Timelines<Target, Option<View>>,
+    sights: &mut Sights,
     place: u64,
     targets: &[Target],
     world: &World,
 ) -> Result<(), Memory>
-    requires { AreUpTo target_key place timelines.old.table }
-    ensures up_to { OnOk result (AreUpTo target_key place timelines.new.table) }
-    ensures noted { OnOk result ((t : Target) (at : ℕ) →
-        value_at at None (marks_at target_key timelines.new.table t)
+    requires { AreUpTo place sights.old }
+    ensures up_to { OnOk result (AreUpTo place sights.new) }
+    ensures noted { OnOk result ((t : Target) (at : ℕ) → view_at sights.new at t
         ≡ (if has_target t targets.now && nat_le place at then (views_of (world_of world.now)).view t
-        else value_at at None (marks_at target_key timelines.old.table t))) }
+        else view_at sights.old at t)) }
 {
     for target in targets {
-        timelines.note(*target, place, None, world.view(*target))?;
+        sights.note(*target, place, world.view(*target))?;
     }
     Ok(())
 }

@@ -1,4 +1,4 @@
-ghost use Rattle.std.specs.Prelude.{◌≡◌, ◌++◌, ◌∷◌, [], IfOk, OnOk};
+ghost use Rattle.std.specs.Prelude.{◌≡◌, ◌++◌, ◌∷◌, [], IfOk, OnErr, OnOk};
 ghost use Rattle.kq_history.specs.Shelves.{shelf_at, shelved};
 
 use kq_model::Memory;
@@ -48,9 +48,10 @@ impl Shelf {
         self.numbers.as_slice()
     }
 
-    /// One number more.
+    /// One number more. After Memory nothing has changed.
     fn add(&mut self, number: usize) -> Result<(), Memory>
-        ensures { OnOk result (self.new ≡ self.old ++ number ∷ []) }
+        ensures ok { OnOk result (self.new ≡ self.old ++ number ∷ []) }
+        ensures memory { OnErr result (self.new ≡ self.old) }
     {
         Ok(self.numbers.push(number)?)
     }
@@ -84,10 +85,12 @@ impl<K: Copy + Eq + Hash> Shelves<K> {
         }
     }
 
-    /// Puts a number under a key, behind those that are there. After Memory nothing is known.
+    /// Puts a number under a key, behind those that are there. After Memory nothing has changed.
     pub fn add(&mut self, key: K, number: usize) -> Result<(), Memory>
-        ensures { OnOk result ((other : K) → shelf_at K.eq self.new.table other
+        ensures ok { OnOk result ((other : K) → shelf_at K.eq self.new.table other
             ≡ shelf_at K.eq self.old.table other ++ shelved (K.eq key other) number) }
+        ensures memory { OnErr result ((other : K) → shelf_at K.eq self.new.table other
+            ≡ shelf_at K.eq self.old.table other) }
     {
         match self.table.get_mut(&key) {
             Some(shelf) => shelf.add(number),

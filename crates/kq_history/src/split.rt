@@ -1,15 +1,14 @@
-ghost use Rattle.std.specs.Prelude.{◌≡◌, pos, IfOk};
+ghost use Rattle.std.specs.Prelude.{◌≡◌, ℕ, pos, IfOk};
+ghost use Rattle.kq_history.specs.Sights.{view_at};
 
 use crate::answering::Answering;
 use crate::at::HistoryAt;
-use crate::guesses::Guesses;
 use crate::item::Source;
-use crate::looking::Looking;
 use crate::private::Private;
 use crate::said::Said;
 use crate::seen::Seen;
+use crate::sights::Sights;
 use crate::splitting::Splitting;
-use crate::timelines::Found;
 use kq_model::{Event, Memory, Named, Row, Target, Trace, View};
 use std::alloc::Global;
 use std::marker::Model;
@@ -114,11 +113,13 @@ impl<'a> Split<'a> {
             .said
             .log
             .pick_reached_between(children, sources, Source::Kqueue(kqueue))?;
+        let targets = targets_of(self.allocator(), sources)?;
         Ok(Answering {
             split: self,
             kqueue,
             owner: concerned.owner,
             items,
+            targets,
         })
     }
 
@@ -137,36 +138,18 @@ impl<'a> Split<'a> {
         HistoryAt { split: self, place }
     }
 
-    /// The same, for a kqueue that goes from place to place: a look at a target costs a constant where few marks came
-    /// since its last one.
-    pub fn looking<'g, 's>(&'s self, place: u64, guesses: &'g Guesses) -> Looking<'g, 's, 'a>
-        ensures split { result.split.now ≡ self.now }
-        ensures place { result.place ≡ place }
-    {
-        Looking {
-            split: self,
-            place,
-            guesses,
-        }
-    }
-
     /// What is seen of a target after a place.
     pub(crate) fn view(&self, place: u64, target: Target) -> Option<View>
         ensures { result ≡ (seen_at self.now place).view target }
     {
-        self.seen.views.at(target, place, None)
+        self.seen.views.at(target, place)
     }
 
-    /// The same, and where it was found, of which one has a guess.
-    pub(crate) fn view_from(
-        &self,
-        place: u64,
-        target: Target,
-        guess: Found,
-    ) -> (Option<View>, Found)
-        ensures { result.0 ≡ (seen_at self.now place).view target }
+    /// All that was seen of targets.
+    pub(crate) fn sights(&self) -> &Sights
+        ensures { (place : ℕ) (t : Target) → (seen_at self.now place).view t ≡ view_at result.now place t }
     {
-        self.seen.views.at_from(target, place, None, guess)
+        &self.seen.views
     }
 
     /// What a number of a process names after a place.
@@ -222,4 +205,15 @@ impl<'a> Split<'a> {
         let before = place.checked_sub(1)?;
         self.events.get(before as usize)
     }
+}
+
+/// The targets among these sources.
+fn targets_of(alloc: Global, sources: &[Source]) -> Result<Vec<Target>, Memory> {
+    let mut targets = Vec::new(alloc);
+    for source in sources {
+        if let Source::Of(target) = *source {
+            targets.push(target)?;
+        }
+    }
+    Ok(targets)
 }

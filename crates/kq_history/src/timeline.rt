@@ -9,9 +9,6 @@ use std::marker::Model;
 /// Most timelines have so many marks.
 const MARKS_OF_MOST: usize = 2;
 
-/// So many counts are tried from a guess on, before there is a search.
-const FEW_COUNTS: usize = 6;
-
 /// From this place on the value is another one.
 #[derive(Debug, Drop, Clone, Copy)]
 pub struct Mark<V> {
@@ -121,17 +118,6 @@ impl<V> Timeline<V> {
         Some(&self.marks[count - 1])
     }
 
-    /// The value, and how many marks are at the place or before it, of which one has a guess. It costs a constant
-    /// where the guess is right or a little too small, else a search.
-    pub fn at_from(&self, place: u64, before: V, guess: usize) -> (V, usize)
-    where
-        V: Copy + Drop,
-        ensures { result.0 ≡ value_at place before self.now }
-    {
-        let count = self.count_from(place, guess);
-        (self.behind(count, before), count)
-    }
-
     /// The value behind so many marks, else the value before all of them.
     fn behind(&self, count: usize, before: V) -> V
     where
@@ -161,19 +147,6 @@ impl<V> Timeline<V> {
         let all = self.marks.len();
         if self.have_begun(all, place) {
             return all;
-        }
-        self.count_at(place)
-    }
-
-    /// The same, where one has a guess.
-    fn count_from(&self, place: u64, guess: usize) -> usize
-        ensures within { result ≤ length self.now }
-        ensures begun { HaveBegun place result self.now }
-    {
-        for count in guess..guess.saturating_add(FEW_COUNTS) {
-            if self.have_begun(count, place) {
-                return count;
-            }
         }
         self.count_at(place)
     }

@@ -8,7 +8,7 @@ ghost use Rattle.kq_history.specs.Traced.{event_at};
 ghost use Rattle.kq_replay.specs.Alone.{after_item, after_items, arrived, called, gone_on, heard, unborn};
 ghost use Rattle.kq_replay.specs.Recorded.{IsCallOf, IsClockOf, IsRecorded};
 
-use kq_history::{Guesses, Item, Split, What};
+use kq_history::{Item, Looking, Split, What};
 use kq_kevent::Kq;
 use kq_model::{Event, Hint, Memory, Reply, Row, Series, Target};
 use std::marker::Model;
@@ -26,7 +26,7 @@ pub struct Alone<'s, 'a> {
     /// The hints that came there, which are heard together.
     told: Vec<(Target, Hint)>,
     rows: Vec<Row>,
-    guesses: Guesses,
+    looking: Looking<'s, 'a>,
 }
 
 impl<'s, 'a> Model for Alone<'s, 'a> {
@@ -44,25 +44,36 @@ impl<'s, 'a> Model for Alone<'s, 'a> {
       rows = a.rows.items;
     } };
 
-    ghost invariant = { λ a. a.kq.version ≡ a.split.now.version };
+    ghost invariant = { λ a. (a.kq.version ≡ a.split.now.version) × (a.looking.trace ≡ a.split.now) };
 }
 
 impl<'s, 'a> Alone<'s, 'a> {
-    /// A kqueue of this process, before the first record, which goes over these items later.
-    pub fn new(split: &'s Split<'a>, owner: u32, items: &[Item]) -> Result<Self, Memory>
+    /// A kqueue of this process, before the first record, which goes over these items later. A look at one of these
+    /// targets searches nothing, while it does.
+    pub fn new(
+        split: &'s Split<'a>,
+        owner: u32,
+        items: &[Item],
+        targets: &[Target],
+    ) -> Result<Self, Memory>
         ensures { IfOk result (λ a. a ≡ unborn split.now owner) }
     {
         let alloc = split.allocator();
         let version = split.version();
         let rows = Vec::with_capacity(alloc, calls_in(items))?;
-        let guesses = Guesses::new(alloc, items.len())?;
+        let looking = Looking::new(
+            split,
+            targets,
+            place_of(items.first()),
+            place_of(items.last()),
+        )?;
         Ok(Alone {
             split,
             place: 0,
             kq: Kq::in_version(alloc, owner, version),
             told: Vec::new(alloc),
             rows,
-            guesses,
+            looking,
         })
     }
 
@@ -123,9 +134,9 @@ impl<'s, 'a> Alone<'s, 'a> {
         if self.told.is_empty() {
             return Ok(());
         }
-        let views = self.split.looking(self.place, &self.guesses);
+        self.looking.go_to(self.place);
         self.kq.reserve_to_follow(self.told.as_slice())?;
-        self.kq.notify(self.told.as_slice(), &views);
+        self.kq.notify(self.told.as_slice(), &self.looking);
         self.told.clear();
         Ok(())
     }
@@ -193,20 +204,31 @@ impl<'s, 'a> Alone<'s, 'a> {
         let Event::Kevent { changes, room, .. } = event else {
             unreachable!();
         };
-        let views = self.split.looking(self.place, &self.guesses);
-        let reply = self.kq.call(changes.as_slice(), *room, &views)?;
+        self.looking.go_to(self.place);
+        let reply = self.kq.call(changes.as_slice(), *room, &self.looking)?;
         put_row(&mut self.rows, self.place, reply)
     }
 }
 
-/// The rows that a kqueue of this process gives alone, from these items.
-pub fn rows_alone(split: &Split, owner: u32, items: &[Item]) -> Result<Series<Row>, Memory>
+/// The rows that a kqueue of this process gives alone, from these items. A look at one of these targets searches
+/// nothing.
+pub fn rows_alone(
+    split: &Split,
+    owner: u32,
+    items: &[Item],
+    targets: &[Target],
+) -> Result<Series<Row>, Memory>
     requires { All (IsRecorded split.now) items.now }
     ensures { IfOk result (λ rows. rows ≡ (after_items items.now (unborn split.now owner)).rows) }
 {
-    let mut alone = Alone::new(split, owner, items)?;
+    let mut alone = Alone::new(split, owner, items, targets)?;
     alone.go_over(items)?;
     Ok(alone.into_rows())
+}
+
+/// The place of an item, or 0 where there is none.
+fn place_of(item: Option<&Item>) -> u64 {
+    item.map_or(0, |item| item.place)
 }
 
 /// How many of these items are calls. Most of them give a row.

@@ -1,4 +1,4 @@
-use Rattle.std.proofs.Common.{◌≡◌, ◌∙◌, ◌++◌, ◌==◌, not, ℕ, List, Some, None, filter, sym, ap, subst, rules}
+use Rattle.std.proofs.Common.{◌≡◌, ◌∙◌, ◌==◌, not, ℕ, List, Some, None, sym, ap, rules}
 use Rattle.std.proofs.lemmas.Fn.{filter_same}
 use Rattle.kq_history.specs.Spoken.{spoken_process}
 use Rattle.kq_history.specs.Touched.{touched_numbers, without_process}

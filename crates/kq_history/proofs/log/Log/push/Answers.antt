@@ -22,4 +22,4 @@ returns-clause-shelved c =
     (shelved-push items c.args.item old new before
     (λ s. added s ∙ ap (λ x. shelf_at source_eq old s ++ shelved (source_eq x s) number) c.source.ensures
     ∙ ap (λ n. shelf_at source_eq old s ++ shelved (source_eq (source_of c.args.item.what) s) n) last)))
-    c.add.ensures
+    c.add.ensures.ok

@@ -1,5 +1,4 @@
-use Rattle.std.proofs.Common.{◌≡◌, ◌∙◌, ◌++◌, ℕ, true, refl, sym, rules}
-use Rattle.std.proofs.lemmas.Result.{on_ok_weaker}
+use Rattle.std.proofs.Common.{◌≡◌, ◌∙◌, true, refl, sym, rules}
 use Rattle.kq_history.specs.declared.numbers.Numbers.{Numbers}
 use Rattle.kq_history.proofs.NumberLemmas.{marked-up_to, named-kept, named-marked}
 use Rattle.kq_history.proofs.SameValues.{named_eq, same_named}

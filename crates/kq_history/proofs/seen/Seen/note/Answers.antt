@@ -48,7 +48,7 @@ returns-clause-shows c =
     let old : Seen = c.args.self.now in
     let mid : Numbers = c.note_process.new.numbers in
     let had : Bool = last_value 0 old.clock == now in
-    let new : Seen = record { numbers = c.note_numbers.new.numbers; views = c.note_targets.new.timelines; clock = c.note.new.self } in
+    let new : Seen = record { numbers = c.note_numbers.new.numbers; views = c.note_targets.new.sights; clock = c.note.new.self } in
     let pushed : c.note.new.self ≡ old.clock ++ marked (not had) place now = c.in_ok-note.ensures.pushed in
     let up : AreAllUpTo place old = all-before place old c.requires.before in
     λ (before : Views) (worlds next : ℕ → Views).

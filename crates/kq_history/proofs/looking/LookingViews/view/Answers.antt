@@ -1,0 +1,12 @@
+use Rattle.std.proofs.Common.{◌≡◌, Some, rules}
+use Rattle.std.specs.HashMap.{get}
+use Rattle.kq_history.specs.Keys.{target_key}
+use Rattle.kq_history.proofs.LookingLemmas.{look-shows}
+use Rattle.kq_history.proofs.looking.LookingViews.view.Goals as goal
+
+pub returns-in-Some : goal.returns-in-Some
+returns-in-Some c =
+    let l = c.self.inside in
+    let found : get target_key l.slots c.args.target ≡ Some c.in-Some.view.now = search rules in
+    let shown = look-shows l.split.now l.place l.last l.log.now l.gone l.numbers.items l.taken l.slots c.self.invariant c.args.target c.in-Some.view.now found in
+    search rules
