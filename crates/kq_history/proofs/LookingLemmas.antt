@@ -23,7 +23,7 @@ use Rattle.kq_history.specs.Traced.{Traced, seen_at}
 use Rattle.kq_history.proofs.NotedKeys.{as_target}
 use Rattle.kq_history.proofs.Picked.{merged, standing-none, standing-rises}
 use Rattle.kq_history.proofs.Rising.{one_order, DoNotFall}
-use Rattle.kq_history.proofs.SightLemmas.{none-left, standing-same, view-cut, view-now, within-take}
+use Rattle.kq_history.proofs.SightLemmas.{standing-same, view-cut, view-now, within-take}
 
 -- ---- slots for more and more targets
 
@@ -195,14 +195,6 @@ module _ {S : Type 0} (t : Traced) where
           shown = shown;
         };
       }
-
-  pub looks-anew : (place gone : ℕ) (all : List Sight) (slots : HashMap Target (Option View) S) → gone ≤ length all → AreUpTo place (take gone all)
-      → AreLater place (drop gone all) → AreInOrder all → ((at : ℕ) (u : Target) → (seen_at t at).view u ≡ view_at all at u) → IsEmpty slots
-      → IsLooking t place place (take gone all) gone [] 0 slots
-  looks-anew place gone all slots within up later rise says empty =
-      looks-first place place gone gone all [] slots (omega arith) within within up later later rise says
-      (λ u v found. absurd (none-some v (sym (no-slots slots empty u) ∙ found)))
-      (sym (ap (standing (has_slot slots) gone) (none-left gone gone all (omega arith))))
 
   pub looks-on : (before place last count next gone : ℕ) (log : List Sight) (numbers : List ℕ) (taken : ℕ) (old new : HashMap Target (Option View) S)
       → IsLooking t before last log gone numbers taken old → place ≤ last → count ≤ length (drop taken numbers)

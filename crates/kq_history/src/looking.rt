@@ -33,16 +33,20 @@ pub struct Looking<'s, 'a> {
     numbers: Vec<usize>,
     taken: usize,
     slots: Slots,
+    /// Whether the slots follow the log, as they do until a place is not between the one before it and the last one.
+    follows: bool,
 }
 
 impl<'s, 'a> Model for Looking<'s, 'a> {
+    ghost use Rattle.std.specs.Prelude.{◌≡◌, true};
     ghost use Rattle.kq_history.specs.Looking.{IsLooking, Outlook};
 
     ghost Value = { Outlook };
 
     ghost view = { λ l. record { trace = l.split.now; place = l.place } };
 
-    ghost invariant = { λ l. IsLooking l.split.now l.place l.last l.log.now l.gone l.numbers.items l.taken l.slots };
+    ghost invariant = { λ l. l.follows ≡ true
+        → IsLooking l.split.now l.place l.last l.log.now l.gone l.numbers.items l.taken l.slots };
 }
 
 impl<'s, 'a> Looking<'s, 'a> {
@@ -51,6 +55,9 @@ impl<'s, 'a> Looking<'s, 'a> {
     pub fn new(split: &'s Split<'a>, targets: &[Target], from: u64, to: u64) -> Result<Self, Memory>
         ensures { IfOk result (λ l. l ≡ record { trace = split.now; place = from }) }
     {
+        if targets.is_empty() {
+            return Ok(Looking::without_slots(split, from));
+        }
         let sights = split.sights();
         let last = to.max(from);
         let gone = sights.count_at(from);
@@ -66,39 +73,43 @@ impl<'s, 'a> Looking<'s, 'a> {
             numbers,
             taken: 0,
             slots,
+            follows: true,
         })
     }
 
-    /// Goes to another place. Its cost is that of what comes to the slots. There are none from then on where the place
-    /// is not between the last one and the end.
+    /// At a place, where each look searches.
+    fn without_slots(split: &'s Split<'a>, place: u64) -> Self
+        ensures { result ≡ record { trace = split.now; place = place } }
+    {
+        let alloc = split.allocator();
+        Looking {
+            split,
+            place,
+            last: place,
+            log: &[],
+            gone: 0,
+            numbers: Vec::new(alloc),
+            taken: 0,
+            slots: IndexMap::new(alloc),
+            follows: false,
+        }
+    }
+
+    /// Goes to another place. Its cost is that of what comes to the slots. Where the place is not between the one before
+    /// it and the end, each look searches from then on.
     pub fn go_to(&mut self, place: u64)
         ensures { self.new ≡ record { trace = self.old.trace; place = place } }
     {
-        if self.place <= place && place <= self.last {
+        if self.follows && self.place <= place && place <= self.last {
             let (_, left) = self.numbers.as_slice().split_at(self.taken);
             let (count, gone) = take_to(self.log, left, &mut self.slots, self.gone, place);
             self.taken += count;
             self.gone = gone;
             self.place = place;
-        } else {
-            self.leave_slots(place);
+            return;
         }
-    }
-
-    /// Goes to another place, without slots.
-    fn leave_slots(&mut self, place: u64)
-        ensures { self.new ≡ record { trace = self.old.trace; place = place } }
-    {
-        let sights = self.split.sights();
-        let gone = sights.count_at(place);
-        let (log, _) = sights.as_slice().split_at(gone);
+        self.follows = false;
         self.place = place;
-        self.last = place;
-        self.log = log;
-        self.gone = gone;
-        self.numbers.clear();
-        self.taken = 0;
-        self.slots.clear();
     }
 }
 
@@ -108,10 +119,12 @@ impl<'s, 'a> Views for Looking<'s, 'a> {
     ghost sees = { λ l. seen_at l.trace l.place };
 
     fn view(&self, target: Target) -> Option<View> {
-        match self.slots.get(&target) {
-            Some(view) => *view,
-            None => self.split.view(self.place, target),
+        if self.follows {
+            if let Some(view) = self.slots.get(&target) {
+                return *view;
+            }
         }
+        self.split.view(self.place, target)
     }
 
     fn descriptor(&self, pid: u32, number: u32) -> Option<Named> {

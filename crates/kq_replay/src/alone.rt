@@ -13,6 +13,9 @@ use kq_kevent::Kq;
 use kq_model::{Event, Hint, Memory, Reply, Row, Series, Target};
 use std::marker::Model;
 
+/// A kqueue with fewer items searches for what it looks at.
+const FEW_ITEMS: usize = 16;
+
 /// The last moment of the clock, in ns.
 const LAST_MOMENT: u64 = i64::MAX as u64;
 
@@ -63,7 +66,7 @@ impl<'s, 'a> Alone<'s, 'a> {
         let rows = Vec::with_capacity(alloc, calls_in(items))?;
         let looking = Looking::new(
             split,
-            targets,
+            with_slots(items, targets),
             place_of(items.first()),
             place_of(items.last()),
         )?;
@@ -224,6 +227,14 @@ pub fn rows_alone(
     let mut alone = Alone::new(split, owner, items, targets)?;
     alone.go_over(items)?;
     Ok(alone.into_rows())
+}
+
+/// Of these targets those that get slots: none, where there are so few items that searches cost less.
+fn with_slots<'t>(items: &[Item], targets: &'t [Target]) -> &'t [Target] {
+    if items.len() < FEW_ITEMS {
+        return &[];
+    }
+    targets
 }
 
 /// The place of an item, or 0 where there is none.
