@@ -35,7 +35,8 @@ module _ {S : Type 0} where
 
   -- the slots show what is seen at a place, behind so many sights; and these stand where the rest does that they will
   -- show
-  pub record Follow (place : ℕ) (log : List Sight) (gone : ℕ) (left : List ℕ) (slots : HashMap Target (Option View) S) : Type 0 where
+  pub record Follow (place : ℕ) (log : List Sight) (gone : ℕ) (left : List ℕ)
+      (slots : HashMap Target (Option View) S) : Type 0 where
     pub within : gone ≤ length log
     pub up_to : AreUpTo place (take gone log)
     pub later : AreShownLater place slots (drop gone log)

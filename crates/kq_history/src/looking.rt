@@ -95,8 +95,8 @@ impl<'s, 'a> Looking<'s, 'a> {
         }
     }
 
-    /// Goes to another place. Its cost is that of what comes to the slots. Where the place is not between the one before
-    /// it and the end, each look searches from then on.
+    /// Goes to another place. Its cost is that of what comes to the slots. Where the place is not between the one
+    /// before it and the end, each look searches from then on.
     pub fn go_to(&mut self, place: u64)
         ensures { self.new ≡ record { trace = self.old.trace; place = place } }
     {
@@ -162,8 +162,9 @@ fn slots_for(
     Ok((slots, numbers))
 }
 
-/// Brings what is seen up to a place to the slots, which show what is seen behind so many sights; the sights that come
-/// to them stand there. Returns how many of these came, and behind how many of all the slots are now.
+/// Brings what is seen up to a place to the slots. They show what is seen behind so many sights (`gone`), and `left`
+/// has where the rest stands that comes to them. Returns how much of it came, and behind how many sights the slots are
+/// now.
 fn take_to(
     log: &[Sight],
     left: &[usize],

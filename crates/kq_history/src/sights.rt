@@ -104,7 +104,7 @@ impl Sights {
     }
 
     /// From this place on this is seen of a target. Where it is seen already, nothing is written. After Memory nothing
-    /// has changed.
+    /// is known.
     pub fn note(&mut self, target: Target, place: u64, view: Option<View>) -> Result<(), Memory>
         requires { AreUpTo place self.old }
         ensures up_to { OnOk result (AreUpTo place self.new) }
