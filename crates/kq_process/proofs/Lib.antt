@@ -6,6 +6,7 @@ pub mod Blocks
 pub mod Closing
 pub mod Opening
 pub mod Told
+pub mod On
 pub mod Planned
 pub mod Sums
 pub mod NamesThere

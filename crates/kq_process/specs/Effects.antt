@@ -1,6 +1,7 @@
 -- What a record did, against its plan.
 use Rattle.std.specs.Prelude.{◌≡◌, ℕ, List, [], map, Some, Result, Ok, Err, IsOk}
 use Rattle.kq_model.specs.declared.change.Change.{Change}
+use Rattle.kq_model.specs.declared.object.Named.{Named}
 use Rattle.kq_model.specs.declared.why.Why.{Why}
 use Rattle.kq_model.specs.Close.{Pair}
 use Rattle.kq_model.specs.Objects.{Objects, counted, listed}
@@ -23,6 +24,11 @@ world_after place (Possible p) w = carried_out place p w
 abbrev pub listed_after : ℕ → Planned → World listed → World listed
 listed_after place (Impossible why) w = w
 listed_after place (Possible p) w = carried_out place p w
+
+-- what is planned for what a descriptor names, or the reason why there is none
+abbrev pub planned_on : (Named → Planned) → Result Named Why → Planned
+planned_on planned (Ok n) = planned n
+planned_on planned (Err why) = Impossible why
 
 abbrev pub pair_of : ℕ × ℕ → Pair
 pair_of p = record { pid = p.0; number = p.1 }

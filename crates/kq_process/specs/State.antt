@@ -1,10 +1,9 @@
 -- The model's world that the code keeps, whatever the places of its records, and what a record does to it.
-use Rattle.std.specs.Prelude.{◌≡◌, ℕ, [], ◌∷◌, ◌++◌, Option, Result, Ok, Err}
+use Rattle.std.specs.Prelude.{◌≡◌, ℕ, [], ◌∷◌, ◌++◌, Option}
 use Rattle.kq_model.specs.declared.object.Named.{Named}
-use Rattle.kq_model.specs.declared.why.Why.{Why}
 use Rattle.kq_model.specs.Objects.{counted}
 use Rattle.kq_model.specs.World as model
-use Rattle.kq_model.specs.World.{Plan, Planned, Impossible, idle}
+use Rattle.kq_model.specs.World.{Plan, Planned, idle}
 use Rattle.kq_model.specs.DescriptorPlans.{closes, close_doings, close_hints}
 use Rattle.kq_model.specs.Holding.{hold_doings}
 use Rattle.kq_objects.specs.Objects.{objects_of}
@@ -28,11 +27,6 @@ IsEffectBy plan old e = IsEffectOf (plan (state_of old)) e
 -- the new state is the one that the plan for the old one leads to
 abbrev pub IsNext : ℕ → (model.World counted → Planned) → State → State → Type 0
 IsNext place plan old new = state_of new ≡ world_after place (plan (state_of old)) (state_of old)
-
--- what is planned for what a descriptor names, or the reason why there is none
-abbrev pub planned_on : (Named → Planned) → Result Named Why → Planned
-planned_on planned (Ok n) = planned n
-planned_on planned (Err why) = Impossible why
 
 -- the number is closed, if it named something before, and names this from now on
 abbrev pub sharing : ℕ → ℕ → Option Named → Named → model.World counted → Plan

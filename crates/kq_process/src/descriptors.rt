@@ -1,9 +1,11 @@
-ghost use Rattle.std.specs.Prelude.{◌≡◌, not, filter, [], IfOk, OnOk, OnErr, None};
+ghost use Rattle.std.specs.Prelude.{◌≡◌, ℕ, Option, not, filter, [], IfOk, OnOk, OnErr, None};
+ghost use Rattle.kq_model.specs.declared.object.Named.{Named as Name};
 ghost use Rattle.kq_model.specs.ProcessPlans.{is_kqueue};
 ghost use Rattle.kq_process.specs.Shelf.{lookup, put, without, AreRising};
 ghost use Rattle.kq_process.specs.Slots.{filled, is_inherited};
 
-use crate::search::search;
+use crate::guesses::Guesses;
+use crate::search::find;
 use kq_model::{Memory, Named};
 use std::alloc::Global;
 use std::marker::Model;
@@ -18,6 +20,7 @@ pub struct Descriptors {
     slots: Vec<(u32, Option<Named>)>,
     /// How many slots are empty.
     empty: usize,
+    guesses: Guesses,
 }
 
 impl Model for Descriptors {
@@ -41,6 +44,7 @@ impl Descriptors {
         Descriptors {
             slots: Vec::new(alloc),
             empty: 0,
+            guesses: Guesses::new(alloc),
         }
     }
 
@@ -49,7 +53,7 @@ impl Descriptors {
         ensures found { result ≡ lookup number self.now }
         ensures rising { AreRising self.now }
     {
-        match search(&self.slots, number) {
+        match find(&self.slots, number, &self.guesses) {
             Ok(index) => self.slots[index].1,
             Err(_) => None,
         }
@@ -69,17 +73,21 @@ impl Descriptors {
         ensures err { OnErr result ((self.new ≡ self.old) × (lookup number self.old ≡ None)) }
         ensures rising { AreRising self.old }
     {
-        match search(&self.slots, number) {
+        match find(&self.slots, number, &self.guesses) {
             Ok(index) => {
                 let was_empty = self.slots[index].1.is_none();
                 self.empty = self.empty.saturating_sub(was_empty as usize);
                 self.slots[index] = (number, Some(named));
                 Ok(())
             }
-            Err(index) => self
-                .slots
-                .insert(index, (number, Some(named)))
-                .map_err(|_| Memory),
+            Err(index) => {
+                self.guesses.make_room(&self.slots, number)?;
+                self.slots
+                    .insert(index, (number, Some(named)))
+                    .map_err(|_| Memory)?;
+                self.guesses.note(&self.slots, index);
+                Ok(())
+            }
         }
     }
 
@@ -88,7 +96,7 @@ impl Descriptors {
         ensures removed { result ≡ lookup number self.old }
         ensures rest { self.new ≡ without number self.old }
     {
-        match search(&self.slots, number) {
+        match find(&self.slots, number, &self.guesses) {
             Ok(index) => {
                 let named = self.slots[index].1;
                 self.slots[index] = (number, None);
@@ -107,6 +115,7 @@ impl Descriptors {
         if self.slots.len() / 2 < self.empty {
             self.slots.retain(|slot| slot.1.is_some());
             self.empty = 0;
+            self.guesses.note(&self.slots, 0);
         }
     }
 
@@ -115,14 +124,29 @@ impl Descriptors {
         ensures copies { IfOk result (λ copies. copies ≡ filter (λ entry. not (is_kqueue entry.1)) self.now) }
         ensures rising { AreRising self.now }
     {
-        let slots = self
-            .slots
-            .iter()
-            .copied()
-            .filter(|slot| is_inherited(slot.1))
-            .collect(alloc)?;
-        Ok(Descriptors { slots, empty: 0 })
+        Ok(Descriptors {
+            slots: inherited(alloc, &self.slots)?,
+            empty: 0,
+            guesses: Guesses::new(alloc),
+        })
     }
+}
+
+/// Copies of the slots of what a child of fork(2) has too.
+fn inherited(
+    alloc: Global,
+    slots: &[(u32, Option<Named>)],
+) -> Result<Vec<(u32, Option<Named>)>, Memory>
+    ensures { IfOk result (λ copies. copies.items
+        ≡ filter (λ (slot : ℕ × Option Name). is_inherited slot.1) slots.now) }
+{
+    let mut copies = Vec::with_capacity(alloc, slots.len())?;
+    for slot in slots {
+        if is_inherited(slot.1) {
+            copies.push(*slot)?;
+        }
+    }
+    Ok(copies)
 }
 
 #[tactic(auto, unfolding(kq_model::specs::ProcessPlans::is_kqueue))]

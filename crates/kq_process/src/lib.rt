@@ -6,6 +6,7 @@ mod applying;
 mod counting;
 mod descriptors;
 mod effect;
+mod guesses;
 mod ignored;
 mod process;
 mod processes;

@@ -1,18 +1,20 @@
-ghost use Rattle.std.specs.Prelude.{◌≡◌, ◌==◌, ◌∷◌, ◌≤◌, [], true, false, None, Some, IfOk, OnOk, OnErr};
+ghost use Rattle.std.specs.Prelude.{◌≡◌, ℕ, ◌==◌, ◌∷◌, ◌≤◌, [], true, false, None, Some, IfOk, OnOk, OnErr};
 ghost use Rattle.kq_model.specs.Limits.{most_signal};
 ghost use Rattle.kq_model.specs.Descriptors.{named_among, with_descriptor, with_descriptors, without_closed};
-ghost use Rattle.kq_model.specs.DescriptorPlans.{closes};
+ghost use Rattle.kq_model.specs.declared.object.Named.{Named as NamedObject};
+ghost use Rattle.kq_model.specs.DescriptorPlans.{closes, on_descriptor};
+ghost use Rattle.kq_model.specs.Objects.{Objects, counted};
 ghost use Rattle.kq_model.specs.ProcessPlans.{descriptors_of, pairs_of, inherited};
 ghost use Rattle.kq_model.specs.Processes.{was_used, is_live, process_of, ignores_none, ignored_by};
 ghost use Rattle.kq_model.specs.Processes.{with_process, without_process, with_disposition};
-ghost use Rattle.kq_model.specs.World.{process_view};
+ghost use Rattle.kq_model.specs.World.{process_view, Planned};
 ghost use Rattle.kq_process.specs.Slots.{filled};
 
 use crate::descriptors::Descriptors;
 use crate::ignored::Ignored;
 use crate::process::Process;
 use crate::shelf::Shelf;
-use kq_model::{Memory, Named, View};
+use kq_model::{Memory, Named, View, Why};
 use std::alloc::Global;
 use std::mem;
 
@@ -26,6 +28,7 @@ pub struct Processes {
 impl Processes {
     ghost use Rattle.kq_process.specs.Processes.{processes_of, table_of, descriptors_in};
     ghost use Rattle.kq_process.specs.Processes.{descriptor_in, descriptor_there, AreOnce};
+    ghost use Rattle.kq_process.specs.Effects.{planned_on, world_with};
 
     pub fn new(alloc: Global) -> Self
         ensures processes { processes_of result ≡ [] }
@@ -83,6 +86,28 @@ impl Processes {
     {
         let process = self.shelf.get(pid)?;
         process.descriptors.get(number)
+    }
+
+    /// What an open descriptor of a live process names. NoProcess; NoDescriptor: the number is not open.
+    pub fn on(&self, pid: u32, number: u32) -> Result<Named, Why>
+        ensures planned { (planned : NamedObject → Planned) (o : Objects counted) (now : ℕ) →
+            on_descriptor pid number planned (world_with self.now o now) ≡ planned_on planned result }
+        ensures live { OnOk result (is_live pid (processes_of self.now) ≡ true) }
+        ensures named { IfOk result (λ named. named_among pid number (table_of self.now) ≡ Some named) }
+        ensures once { IfOk result (λ named. AreOnce (descriptor_in pid (number, named) ∷ []) (table_of self.now)) }
+    {
+        match self.shelf.get(pid) {
+            None => Err(Why::NoProcess),
+            Some(process) => {
+                if process.exited.is_some() {
+                    return Err(Why::NoProcess);
+                }
+                match process.descriptors.get(number) {
+                    Some(named) => Ok(named),
+                    None => Err(Why::NoDescriptor),
+                }
+            }
+        }
     }
 
     /// The slots of a process's numbers, in rising order of these, where what is not open is empty;

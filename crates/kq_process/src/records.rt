@@ -90,22 +90,19 @@ impl Processes {
     /// The kqueue of a kevent call, by the place of the record that made it. It takes no memory.
     /// NoProcess; NoDescriptor: the number is not open; WrongKind: it names no kqueue; TooMany:
     /// more than 1,024 changes, or room for more than 65,536 events.
-    #[tactic(auto, unfolding(kq_model::specs::DescriptorPlans::plan_kevent, kq_model::specs::DescriptorPlans::plan_call, kq_model::specs::DescriptorPlans::on_descriptor, kq_model::specs::DescriptorPlans::on_named, kq_model::specs::World::named_by))]
+    #[tactic(auto, unfolding(kq_model::specs::DescriptorPlans::plan_kevent, kq_model::specs::DescriptorPlans::plan_call))]
     pub fn call(&self, pid: u32, fd: u32, changes: &[Change], room: u32) -> Result<u64, Why>
         ensures { IsCallBy (plan_kevent pid fd changes.now room) self.now changes.now room result }
     {
-        if !self.is_live(pid) {
-            return Err(Why::NoProcess);
-        }
-        match self.named(pid, fd) {
-            None => Err(Why::NoDescriptor),
-            Some(Named::Kqueue(kqueue)) => {
+        match self.on(pid, fd) {
+            Err(why) => Err(why),
+            Ok(Named::Kqueue(kqueue)) => {
                 if changes.len() > MOST_CHANGES || room > MOST_ROOM {
                     return Err(Why::TooMany);
                 }
                 Ok(kqueue)
             }
-            Some(_) => Err(Why::WrongKind),
+            Ok(_) => Err(Why::WrongKind),
         }
     }
 }

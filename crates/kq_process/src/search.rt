@@ -2,12 +2,30 @@
 ghost use Rattle.std.specs.Prelude.{◌≡◌, ◌<◌, ◌≤◌, length, MatchResult};
 ghost use Rattle.kq_process.specs.Shelf.{AreRising, IsPlace, IsGap};
 
+use crate::guesses::Guesses;
+
 /// How many guesses are made before what is left is halved.
 const GUESSES: u32 = 4;
 
+/// The index of the number's pair, or where it would stand. It costs one look where the guess is right, and else a
+/// search.
+pub fn find<T>(entries: &[(u32, T)], number: u32, guesses: &Guesses) -> Result<usize, usize>
+    requires { AreRising entries.now }
+    ensures { MatchResult result (IsPlace number entries.now) (IsGap number entries.now) }
+{
+    let guess = guesses.of(entries, number);
+    if guess < entries.len() {
+        let there = entries[guess].0;
+        if there == number {
+            return Ok(guess);
+        }
+    }
+    search(entries, number)
+}
+
 /// The index of the number's pair, or where it would stand. It costs one look where no number is missing, two or
 /// three where they are missing at regular intervals, and else a few more than a search by halves.
-pub fn search<T>(entries: &[(u32, T)], number: u32) -> Result<usize, usize>
+fn search<T>(entries: &[(u32, T)], number: u32) -> Result<usize, usize>
     requires { AreRising entries.now }
     ensures { MatchResult result (IsPlace number entries.now) (IsGap number entries.now) }
 {

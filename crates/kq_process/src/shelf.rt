@@ -2,7 +2,8 @@ ghost use Rattle.std.specs.Prelude.{◌≡◌, ◌==◌, not, filter, [], None, 
 ghost use Rattle.std.specs.Option.{option_copied, option_copied_mut};
 ghost use Rattle.kq_process.specs.Shelf.{lookup, put, without, AreRising, IsPlace, IsGap};
 
-use crate::search::search;
+use crate::guesses::Guesses;
+use crate::search::find;
 use kq_model::Memory;
 use std::alloc::Global;
 use std::marker::Model;
@@ -12,6 +13,7 @@ use std::marker::Model;
 #[derive(Drop)]
 pub struct Shelf<T> {
     entries: Vec<(u32, T)>,
+    guesses: Guesses,
 }
 
 impl<T> Model for Shelf<T> {
@@ -35,6 +37,7 @@ impl<T> Shelf<T> {
     {
         Shelf {
             entries: Vec::new(alloc),
+            guesses: Guesses::new(alloc),
         }
     }
 
@@ -75,7 +78,7 @@ impl<T> Shelf<T> {
         ensures place { MatchResult result (IsPlace number self.now) (IsGap number self.now) }
         ensures rising { AreRising self.now }
     {
-        search(&self.entries, number)
+        find(&self.entries, number, &self.guesses)
     }
 }
 
@@ -92,10 +95,14 @@ impl<T: Drop> Shelf<T> {
                 self.entries[index] = (number, thing);
                 Ok(())
             }
-            Err(index) => self
-                .entries
-                .insert(index, (number, thing))
-                .map_err(|_| Memory),
+            Err(index) => {
+                self.guesses.make_room(&self.entries, number)?;
+                self.entries
+                    .insert(index, (number, thing))
+                    .map_err(|_| Memory)?;
+                self.guesses.note(&self.entries, index);
+                Ok(())
+            }
         }
     }
 }

@@ -28,7 +28,8 @@ pub struct State {
 }
 
 impl State {
-    ghost use Rattle.kq_process.specs.State.{state_of, planned_on};
+    ghost use Rattle.kq_process.specs.Effects.{planned_on};
+    ghost use Rattle.kq_process.specs.State.{state_of};
 
     /// Before the first record.
     pub fn new(alloc: Global) -> Result<Self, Memory>
@@ -43,7 +44,7 @@ impl State {
     }
 
     /// What a record's descriptor names, or NoProcess or NoDescriptor.
-    #[tactic(auto, unfolding(kq_model::specs::World::named_by, kq_model::specs::DescriptorPlans::on_descriptor, kq_model::specs::DescriptorPlans::on_named))]
+    #[tactic(auto, unfolding(kq_model::specs::World::named_by))]
     pub fn on(&self, pid: u32, fd: u32) -> Result<Named, Why>
         ensures planned { (planned : NamedObject → Planned) →
             on_descriptor pid fd planned (state_of self.now) ≡ planned_on planned result }
@@ -51,12 +52,6 @@ impl State {
         ensures named { IfOk result (λ named. named_by pid fd (state_of self.now) ≡ Some named) }
         ensures once { IfOk result (λ named. AreOnce (descriptor_in pid (fd, named) ∷ []) (state_of self.now).table) }
     {
-        if !self.processes.is_live(pid) {
-            return Err(Why::NoProcess);
-        }
-        match self.processes.named(pid, fd) {
-            Some(named) => Ok(named),
-            None => Err(Why::NoDescriptor),
-        }
+        self.processes.on(pid, fd)
     }
 }
