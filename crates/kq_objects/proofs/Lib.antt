@@ -1,5 +1,4 @@
 pub mod Making
-pub mod Standing
 pub mod Ready
 pub mod Notes
 pub mod Releasing

@@ -1,6 +1,6 @@
 -- Lists of things noted that can be carried out.
-use Rattle.std.proofs.Common.{◌≡◌, ◌∙◌, ◌==◌, ℕ, ◌+◌, ◌<◌, ◌≤◌, Bool, true, false, nat_eq, List, [], ◌∷◌, Option, None, Some, refl, sym, ap, cond, subst, arith, eqb-true, eq-eqb, if◌then◌else◌}
-use Rattle.std.specs.HashMap.{get, spare}
+use Rattle.std.proofs.Common.{◌≡◌, ◌∙◌, ◌==◌, ℕ, ◌+◌, ◌<◌, ◌≤◌, Bool, true, false, List, [], ◌∷◌, Option, None, Some, refl, sym, ap, cond, subst, arith, eqb-true, eq-eqb, if◌then◌else◌}
+use Rattle.std.specs.HashMap.{spare}
 use Rattle.kq_model.specs.declared.mode.Mode.{Mode}
 use Rattle.kq_model.specs.declared.doing.DescriptionRecord.{DescriptionRecord}
 use Rattle.kq_model.specs.declared.doing.DescriptionRecord.TheVariants as description
@@ -20,7 +20,7 @@ use Rattle.kq_model.specs.Limits.{most_file_size}
 use Rattle.kq_model.specs.Objects as model
 use Rattle.kq_model.specs.Sockets.{SocketState, is_socket_held, no_socket, socket_after}
 use Rattle.kq_objects.specs.declared.objects.Objects.{Objects}
-use Rattle.kq_objects.specs.Descriptions.{description_at, room_in}
+use Rattle.kq_objects.specs.ByPlace.{object_at, room_in}
 use Rattle.kq_objects.specs.Files.{file_at, room_on}
 use Rattle.kq_objects.specs.Fits.{FitsDescriptionAt, FitsFileAt, FitsPipeAt, FitsSocketAt, IsNote, IsPipeNote, made_description, made_file, opened_at, opened_on}
 use Rattle.kq_objects.specs.Objects.{objects_of, AllFit, sockets_made, pipes_made, descriptions_made, files_made, opened_in, spare_room, AreSocketNotes, IsRoomFor, IsReady, Room}
@@ -65,13 +65,13 @@ ready-none o = record {
   room = record { sockets = omega arith; pipes = omega arith; descriptions = omega arith; files = omega arith; lists = λ number. omega arith };
 }
 
-pub ready-socket : (o : Objects) (place : ℕ) (r : SocketRecord) → IsNote r (get nat_eq o.sockets.table place) → IsReady (ToSocket place r ∷ []) o
+pub ready-socket : (o : Objects) (place : ℕ) (r : SocketRecord) → IsNote r (object_at o.sockets place) → IsReady (ToSocket place r ∷ []) o
 ready-socket o place r note = record { fits = (note.1, tt); room = room-none (ToSocket place r) o note.0 refl refl refl (λ number. refl) }
 
-pub ready-pipe : (o : Objects) (place : ℕ) (r : PipeRecord) → IsPipeNote r (get nat_eq o.pipes.table place) → IsReady (ToPipe place r ∷ []) o
+pub ready-pipe : (o : Objects) (place : ℕ) (r : PipeRecord) → IsPipeNote r (object_at o.pipes place) → IsReady (ToPipe place r ∷ []) o
 ready-pipe o place r note = record { fits = (note.1, tt); room = room-none (ToPipe place r) o refl note.0 refl refl (λ number. refl) }
 
-pub ready-description : (o : Objects) (place : ℕ) (r : DescriptionRecord) → made_description r ≡ 0 → FitsDescriptionAt r (description_at o.descriptions place)
+pub ready-description : (o : Objects) (place : ℕ) (r : DescriptionRecord) → made_description r ≡ 0 → FitsDescriptionAt r (object_at o.descriptions place)
     → IsReady (ToDescription place r ∷ []) o
 ready-description o place r none fits = record { fits = (fits, tt); room = room-none (ToDescription place r) o refl refl none refl (λ number. refl) }
 
@@ -87,14 +87,14 @@ ready-file o number r made none fits = record {
 fits-new_socket : (x : Option SocketState) (receive send : ℕ) → x ≡ None → FitsSocketAt (socket.Made receive send) x
 fits-new_socket x receive send none = subst (FitsSocketAt (socket.Made receive send)) (sym none) tt
 
-pub ready-new_socket : (o : Objects) (place receive send : ℕ) → get nat_eq o.sockets.table place ≡ None → 0 < spare o.sockets.table
+pub ready-new_socket : (o : Objects) (place receive send : ℕ) → object_at o.sockets place ≡ None → 0 < room_in o.sockets
     → IsReady (ToSocket place (socket.Made receive send) ∷ []) o
 ready-new_socket o place receive send none room = record {
-  fits = (fits-new_socket (get nat_eq o.sockets.table place) receive send none, tt);
+  fits = (fits-new_socket (object_at o.sockets place) receive send none, tt);
   room = record { sockets = omega arith; pipes = omega arith; descriptions = omega arith; files = omega arith; lists = λ number. omega arith };
 }
 
-pub ready-new_pipe : (o : Objects) (place cap : ℕ) → get nat_eq o.pipes.table place ≡ None → 0 < spare o.pipes.table
+pub ready-new_pipe : (o : Objects) (place cap : ℕ) → object_at o.pipes place ≡ None → 0 < room_in o.pipes
     → IsReady (ToPipe place (pipe.Made cap) ∷ []) o
 ready-new_pipe o place cap none room = record {
   fits = (subst (FitsPipeAt (pipe.Made cap)) (sym none) tt, tt);
@@ -115,7 +115,7 @@ opened_if : (here : Bool) (number n : ℕ) (o : Objects) → (here ≡ true → 
 opened_if true number n o same room = let e : room_on n o.files ≡ room_on number o.files = ap (λ q. room_on q o.files) (same refl) in omega arith
 opened_if false number n o same room = omega arith
 
-pub ready-open : (o : Objects) (place number : ℕ) (mode : Mode) (s : FileState) → description_at o.descriptions place ≡ None
+pub ready-open : (o : Objects) (place number : ℕ) (mode : Mode) (s : FileState) → object_at o.descriptions place ≡ None
     → file_at o.files number ≡ Some s → 0 < room_in o.descriptions → 0 < room_on number o.files
     → IsReady (ToDescription place (description.Opened number mode) ∷ ToFile number (file.Opened place) ∷ []) o
 unfolding model.done
@@ -145,12 +145,12 @@ listener_if : (here : Bool) (x y z : Option SocketState) (r : SocketRecord) → 
 listener_if true x y z r gone note = absurd (not_made r (subst (IsNote r) (gone refl) note))
 listener_if false x y z r gone note = note.1
 
-pub ready-accept : (o : Objects) (place receive send listener : ℕ) (r : SocketRecord) → get nat_eq o.sockets.table place ≡ None
-    → IsNote r (get nat_eq o.sockets.table listener) → 0 < spare o.sockets.table
+pub ready-accept : (o : Objects) (place receive send listener : ℕ) (r : SocketRecord) → object_at o.sockets place ≡ None
+    → IsNote r (object_at o.sockets listener) → 0 < room_in o.sockets
     → IsReady (ToSocket place (socket.Made receive send) ∷ ToSocket place socket.Connected ∷ ToSocket listener r ∷ []) o
 unfolding model.done
 ready-accept o place receive send listener r none note room =
-    let table : ℕ → Option SocketState = λ p. get nat_eq o.sockets.table p in
+    let table : ℕ → Option SocketState = λ p. object_at o.sockets p in
     let made = socket_after (socket.Made receive send) no_socket in
     let there = made-at model.counted.sockets is_socket_held place (socket.Made receive send) table made none refl (made_socket-held (socket.Made receive send) tt)
     place (Some made) (sym (ap (λ t. cond t (Some made) (table place)) (eq-eqb place place refl))) in
@@ -174,7 +174,7 @@ ready-accept o place receive send listener r none note room =
 -- ---- a write, and a note
 
 reached_if : (nothing : Bool) (o : Objects) (place number bytes end : ℕ) (s : FileState)
-    → FitsDescriptionAt (description.Moved bytes) (description_at o.descriptions place) → file_at o.files number ≡ Some s → end ≤ most_file_size
+    → FitsDescriptionAt (description.Moved bytes) (object_at o.descriptions place) → file_at o.files number ≡ Some s → end ≤ most_file_size
     → IsReady (ToDescription place (description.Moved bytes) ∷ (if nothing then [] else ToFile number (file.Reached end) ∷ [])) o
 unfolding model.done
 reached_if true o place number bytes end s fits there within = ready-description o place (description.Moved bytes) refl fits
@@ -184,7 +184,7 @@ reached_if false o place number bytes end s fits there within = record {
 }
 
 pub ready-write : (o : Objects) (place number bytes end : ℕ) (s : FileState)
-    → FitsDescriptionAt (description.Moved bytes) (description_at o.descriptions place) → file_at o.files number ≡ Some s → end ≤ most_file_size
+    → FitsDescriptionAt (description.Moved bytes) (object_at o.descriptions place) → file_at o.files number ≡ Some s → end ≤ most_file_size
     → IsReady (ToDescription place (description.Moved bytes) ∷ reached number bytes end) o
 unfolding reached
 ready-write o place number bytes end s = reached_if (bytes == 0) o place number bytes end s
@@ -199,8 +199,8 @@ ready-deletion o number note.Revoke s there = ready-none o
 
 -- the same where the step at the listening socket was worked out before the new one had room
 pub ready-accept-notes : (o : Objects) (old : model.Objects model.counted) (place receive send : ℕ) (ds : List Doing)
-    → get nat_eq o.sockets.table place ≡ None → ((q : ℕ) → get nat_eq o.sockets.table q ≡ old.socket q)
-    → AreSocketNotes ds old → 0 < spare o.sockets.table
+    → object_at o.sockets place ≡ None → ((q : ℕ) → object_at o.sockets q ≡ old.socket q)
+    → AreSocketNotes ds old → 0 < room_in o.sockets
     → IsReady (ToSocket place (socket.Made receive send) ∷ ToSocket place socket.Connected ∷ ds) o
 ready-accept-notes o old place receive send (ToSocket listener r ∷ []) none same note room =
     ready-accept o place receive send listener r none (subst (IsNote r) (sym (same listener)) note) room

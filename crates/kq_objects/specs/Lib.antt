@@ -1,7 +1,7 @@
 pub mod Fits
+pub mod Keys
 pub mod ByPlace
 pub mod Kept
-pub mod Descriptions
 pub mod Files
 pub mod Objects
 pub mod Holding

@@ -1,6 +1,6 @@
 -- What contracts see of all objects, and what a plan needs to be carried out without memory.
-use Rattle.std.specs.Prelude.{◌≡◌, ℕ, nat_eq, ◌+◌, ◌≤◌, List, [], ◌∷◌, Result, Ok, Err, IsOk}
-use Rattle.std.specs.HashMap.{get, spare}
+use Rattle.std.specs.Prelude.{◌≡◌, ℕ, ◌+◌, ◌≤◌, List, [], ◌∷◌, Result, Ok, Err, IsOk}
+use Rattle.std.specs.HashMap.{spare}
 use Rattle.kq_model.specs.declared.doing.Doing.{Doing}
 use Rattle.kq_model.specs.declared.doing.Doing.TheVariants.{ToSocket, ToPipe, ToDescription, ToFile}
 use Rattle.kq_model.specs.ObjectPlan.{ObjectPlan, Planned}
@@ -8,7 +8,7 @@ use Rattle.kq_model.specs.Objects as model
 use Rattle.kq_objects.specs.declared.error.PlanError.{PlanError}
 use Rattle.kq_objects.specs.declared.error.PlanError.TheVariants as plan_error
 use Rattle.kq_objects.specs.declared.objects.Objects.{Objects}
-use Rattle.kq_objects.specs.Descriptions.{description_at, room_in}
+use Rattle.kq_objects.specs.ByPlace.{object_at, room_in}
 use Rattle.kq_objects.specs.Files.{file_at, room_on}
 use Rattle.kq_objects.specs.Fits.{FitsSocketAt, FitsPipeAt, FitsDescriptionAt, FitsFileAt, made_socket, made_pipe}
 use Rattle.kq_objects.specs.Fits.{made_description, made_file, opened_at, IsNote}
@@ -16,9 +16,9 @@ use Rattle.kq_objects.specs.Fits.{made_description, made_file, opened_at, IsNote
 -- the quantities of all objects
 abbrev pub objects_of : Objects → model.Objects model.counted
 objects_of o = record {
-  socket = λ place. get nat_eq o.sockets.table place;
-  pipe = λ place. get nat_eq o.pipes.table place;
-  description = λ place. description_at o.descriptions place;
+  socket = λ place. object_at o.sockets place;
+  pipe = λ place. object_at o.pipes place;
+  description = λ place. object_at o.descriptions place;
   file = λ number. file_at o.files number;
 }
 
@@ -73,8 +73,8 @@ pub record Room : Type 0 where
 
 abbrev pub spare_room : Objects → Room
 spare_room o = record {
-  sockets = spare o.sockets.table;
-  pipes = spare o.pipes.table;
+  sockets = room_in o.sockets;
+  pipes = room_in o.pipes;
   descriptions = room_in o.descriptions;
   files = spare o.files.table;
   on_file = λ number. room_on number o.files;

@@ -1,123 +1,112 @@
-ghost use Rattle.std.specs.Prelude.{◌≡◌, ℕ, nat_eq, ◌+◌, ◌<◌, ◌≤◌, None, MatchOption, OnOk};
-ghost use Rattle.std.specs.HashMap.{get, spare, Updates};
+ghost use Rattle.std.specs.Prelude.{◌≡◌, ℕ, ◌+◌, ◌≤◌, cond, ◌==◌, None, MatchOption, OnOk};
+ghost use Rattle.std.specs.Option.{option_copied};
 ghost use Rattle.kq_model.specs.Objects.{told_at};
-ghost use Rattle.kq_objects.specs.ByPlace.{IsAt};
+ghost use Rattle.kq_objects.specs.ByPlace.{object_at, room_in, IsKeyOf};
 
-use crate::guesses::Guesses;
+use crate::keys::Keys;
 use crate::object::Object;
-use indexmap::IndexMap;
 use kq_model::Memory;
+use slab::Slab;
 use std::alloc::Global;
 
-/// The sockets or the pipes that descriptors name, by the place of the record that made them. One is
-/// looked for where it was put, and by its place only where it does not stand there.
+/// An object, with the place of the record that made it.
+#[derive(Drop)]
+struct Placed<T> {
+    place: u64,
+    object: T,
+}
+
+/// The sockets, the pipes or the descriptions that descriptors name, by the place of the record that made them. Each
+/// has its place beside it, so that `keys` may be wrong about places of which there is none.
 #[derive(Drop)]
 pub struct ByPlace<T> {
-    table: IndexMap<u64, T>,
-    guesses: Guesses,
+    keys: Keys,
+    slab: Slab<Placed<T>>,
 }
 
 impl<T: Object> ByPlace<T> {
     pub fn new(alloc: Global) -> Self
-        ensures { (q : ℕ) → get nat_eq result.table q ≡ None }
+        ensures { (q : ℕ) → object_at result q ≡ None }
     {
         ByPlace {
-            table: IndexMap::new(alloc),
-            guesses: Guesses::new(alloc),
+            keys: Keys::new(alloc),
+            slab: Slab::new(alloc),
         }
     }
 
-    /// Makes room for one more.
-    pub fn reserve(&mut self) -> Result<(), Memory>
-        ensures same { (q : ℕ) → get nat_eq self.new.table q ≡ get nat_eq self.old.table q }
-        ensures room { OnOk result (0 < spare self.new.table) }
-        ensures kept { spare self.old.table ≤ spare self.new.table }
+    /// Makes room for one more, at this place.
+    pub fn reserve(&mut self, place: u64) -> Result<(), Memory>
+        ensures same { (q : ℕ) → object_at self.new q ≡ object_at self.old q }
+        ensures room { OnOk result (1 ≤ room_in self.new) }
+        ensures kept { room_in self.old ≤ room_in self.new }
     {
-        self.table.reserve(1)?;
-        let objects = self.table.len();
-        if self.guesses.are_few_for(objects) {
-            self.guesses.widen_for(objects)?;
-            note_all(&mut self.guesses, &self.table);
-        }
-        Ok(())
+        self.keys.reserve(place, self.slab.len())?;
+        Ok(self.slab.reserve(1)?)
     }
 
-    pub fn get(&self, place: u64) -> Option<T>
-        ensures { result ≡ get nat_eq self.now.table place }
+    /// The key of the object of a place.
+    fn key_of(&self, place: u64) -> Option<usize>
+        ensures { MatchOption result (object_at self.now place ≡ None) (IsKeyOf place self.now) }
     {
-        match self.table.get_index(self.guesses.of(place)) {
-            Some((there, object)) if *there == place => Some(*object),
-            _ => self.table.get(&place).copied(),
+        let key = self.keys.get(place)?;
+        match self.slab.get(key) {
+            Some(placed) if placed.place == place => Some(key),
+            _ => None,
         }
     }
 
-    /// The index of the object of a place.
-    fn index_of(&self, place: u64) -> Option<usize>
-        ensures { MatchOption result (get nat_eq self.now.table place ≡ None) (IsAt place self.now.table) }
+    pub fn get(&self, place: u64) -> Option<&T>
+        ensures { option_copied result ≡ object_at self.now place }
     {
-        let guess = self.guesses.of(place);
-        if let Some((there, _)) = self.table.get_index(guess) {
-            if *there == place {
-                return Some(guess);
-            }
+        match self.slab.get(self.keys.get(place)?) {
+            Some(placed) if placed.place == place => Some(&placed.object),
+            _ => None,
         }
-        let (index, _, _) = self.table.get_full(&place)?;
-        Some(index)
     }
 
     /// Notes one more record of the object at a place, which is there from its first record until
     /// no descriptor names it any more.
     pub fn tell(&mut self, place: u64, told: T::Record)
-        requires fits { T.fits told (get nat_eq self.old.table place) }
-        requires room { T.makes told ≤ spare self.old.table }
-        ensures done { (q : ℕ) → get nat_eq self.new.table q
-            ≡ told_at T.book T.stays place told (get nat_eq self.old.table) q }
-        ensures room { spare self.old.table ≤ spare self.new.table + T.makes told }
+        requires fits { T.fits told (object_at self.old place) }
+        requires room { T.makes told ≤ room_in self.old }
+        ensures done { (q : ℕ) → object_at self.new q
+            ≡ told_at T.book T.stays place told (object_at self.old) q }
+        ensures room { room_in self.old ≤ room_in self.new + T.makes told }
     {
-        let Some(index) = self.index_of(place) else {
+        let Some(key) = self.key_of(place) else {
             self.make(place, told);
             return;
         };
-        self.guesses.note(place, index);
-        let Some(object) = self.table.get_index_mut(index) else {
+        let Some(placed) = self.slab.get_mut(key) else {
             return;
         };
-        object.tell(told);
-        if !object.is_held() {
-            self.remove(place, index);
+        placed.object.tell(told);
+        if !placed.object.is_held() {
+            self.remove(place, key);
         }
     }
 
     /// Notes the first record of an object.
     fn make(&mut self, place: u64, told: T::Record)
-        requires absent { get nat_eq self.old.table place ≡ None }
+        requires absent { object_at self.old place ≡ None }
         requires fits { T.fits told None }
-        requires room { T.makes told ≤ spare self.old.table }
-        ensures done { (q : ℕ) → get nat_eq self.new.table q
-            ≡ told_at T.book T.stays place told (get nat_eq self.old.table) q }
-        ensures room { spare self.old.table ≤ spare self.new.table + T.makes told }
+        requires room { T.makes told ≤ room_in self.old }
+        ensures done { (q : ℕ) → object_at self.new q
+            ≡ told_at T.book T.stays place told (object_at self.old) q }
+        ensures room { room_in self.old ≤ room_in self.new + T.makes told }
     {
         let object = T::first(told);
-        self.guesses.note(place, self.table.len());
-        let _ = self.table.insert(place, object);
+        let key = self.slab.insert_reserved(Placed { place, object });
+        self.keys.put(place, key);
     }
 
-    /// Takes out the object of a place, which stands at this index. The last one stands there then.
-    fn remove(&mut self, place: u64, index: usize)
-        requires { IsAt place self.old.table index }
-        ensures removed { Updates nat_eq self.old.table self.new.table place None }
-        ensures room { spare self.old.table ≤ spare self.new.table }
+    /// Takes out the object of a place, which stands under this key.
+    fn remove(&mut self, place: u64, key: usize)
+        requires { IsKeyOf place self.old key }
+        ensures removed { (q : ℕ) → object_at self.new q ≡ cond (place == q) None (object_at self.old q) }
+        ensures room { room_in self.old ≤ room_in self.new }
     {
-        let _ = self.table.swap_remove_index(index);
-        if let Some((moved, _)) = self.table.get_index(index) {
-            self.guesses.note(*moved, index);
-        }
-    }
-}
-
-/// Notes where each object stands.
-fn note_all<T>(guesses: &mut Guesses, table: &IndexMap<u64, T>) {
-    for (index, place) in table.keys().enumerate() {
-        guesses.note(*place, index);
+        let _ = self.slab.try_remove(key);
+        self.keys.forget(place);
     }
 }

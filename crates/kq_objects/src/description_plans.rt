@@ -3,7 +3,7 @@ ghost use Rattle.std.specs.Prelude.{◌≡◌, ◌∷◌, IfOk};
 ghost use Rattle.kq_model.specs.FilePlans.{plan_seek, read_file, write_file, grows, reached};
 ghost use Rattle.kq_model.specs.declared.doing.DescriptionRecord.TheVariants as description;
 ghost use Rattle.kq_model.specs.declared.doing.Doing.TheVariants.{ToDescription};
-ghost use Rattle.kq_objects.specs.Descriptions.{description_at};
+ghost use Rattle.kq_objects.specs.ByPlace.{object_at};
 ghost use Rattle.kq_objects.specs.Objects.{objects_of, IsPlanned, IsReady};
 
 use crate::file_plans::{MOST_FILE_SIZE, extending, file_amount, hints_to, noted};
@@ -49,7 +49,7 @@ impl Objects {
     #[tactic(auto, unfolding(kq_model::specs::FilePlans::read_file, kq_model::specs::FilePlans::noted, kq_model::specs::ObjectPlan::hints_for))]
     pub(crate) fn read_file(&self, place: u64, bytes: u32) -> Result<Plan, PlanError>
         ensures plan { IsPlanned result
-            (read_file place bytes (description_at self.now.descriptions place) (objects_of self.now)) }
+            (read_file place bytes (object_at self.now.descriptions place) (objects_of self.now)) }
         ensures ready { IfOk result (λ p. IsReady p.doings self.now) }
     {
         let Some(description) = self.descriptions.get(place) else {
@@ -94,7 +94,7 @@ impl Objects {
     #[tactic(auto, unfolding(kq_model::specs::FilePlans::write_file, kq_model::specs::FilePlans::written))]
     pub(crate) fn write_file(&self, place: u64, bytes: u32) -> Result<Plan, PlanError>
         ensures plan { IsPlanned result
-            (write_file place bytes (description_at self.now.descriptions place) (objects_of self.now)) }
+            (write_file place bytes (object_at self.now.descriptions place) (objects_of self.now)) }
         ensures ready { IfOk result (λ p. IsReady p.doings self.now) }
     {
         let Some(description) = self.descriptions.get(place) else {

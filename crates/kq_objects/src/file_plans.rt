@@ -6,7 +6,7 @@ ghost use Rattle.kq_model.specs.FilePlans.{plan_truncate, sized, plan_note, dele
 ghost use Rattle.kq_model.specs.Limits.{most_file_size};
 ghost use Rattle.kq_model.specs.NoteBits.{bit_of};
 ghost use Rattle.kq_model.specs.declared.doing.Doing.{Doing};
-ghost use Rattle.kq_objects.specs.Descriptions.{description_at};
+ghost use Rattle.kq_objects.specs.ByPlace.{object_at};
 ghost use Rattle.kq_objects.specs.Files.{file_at};
 ghost use Rattle.kq_objects.specs.Kept.{FileKept};
 ghost use Rattle.kq_objects.specs.Objects.{objects_of, IsPlanned, IsReady};
@@ -123,7 +123,7 @@ impl Objects {
         number: u32,
         mode: Mode,
     ) -> Result<Plan, PlanError>
-        requires { description_at self.old.descriptions place ≡ None }
+        requires { object_at self.old.descriptions place ≡ None }
         ensures same { objects_of self.new ≡ objects_of self.old }
         ensures plan { IsPlanned result (plan_open place number mode (objects_of self.old)) }
         ensures ready { IfOk result (λ p. IsReady p.doings self.new) }
@@ -132,7 +132,7 @@ impl Objects {
         let Some(_present) = self.present(number) else {
             return Err(PlanError::Why(Why::Absent));
         };
-        self.reserve_open(number)?;
+        self.reserve_open(place, number)?;
         let opened = Doing::ToDescription {
             place,
             told: DescriptionRecord::Opened { file: number, mode },

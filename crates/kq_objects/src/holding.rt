@@ -1,12 +1,11 @@
 // Descriptors that name objects: one more, and one less.
-ghost use Rattle.std.specs.Prelude.{◌≡◌, ℕ, nat_eq, pos, ◌≤ℤ◌, None};
-ghost use Rattle.std.specs.HashMap.{get};
+ghost use Rattle.std.specs.Prelude.{◌≡◌, ℕ, pos, ◌≤ℤ◌, None};
 ghost use Rattle.kq_model.specs.Holding.{hold, release, release_hint, end_hint, close_hint, leaving, socket_holders};
 ghost use Rattle.kq_model.specs.Holding.{readers, writers, description_holders};
 ghost use Rattle.kq_model.specs.Objects.{all_done};
 ghost use Rattle.kq_model.specs.declared.object.Hint.TheVariants as hint;
 ghost use Rattle.kq_model.specs.declared.object.Named.TheVariants as named;
-ghost use Rattle.kq_objects.specs.Descriptions.{description_at};
+ghost use Rattle.kq_objects.specs.ByPlace.{object_at};
 ghost use Rattle.kq_objects.specs.Files.{file_at};
 ghost use Rattle.kq_objects.specs.Holding.{CanHold, CanRelease};
 ghost use Rattle.kq_objects.specs.Objects.{objects_of};
@@ -67,7 +66,7 @@ impl Objects {
 
     #[tactic(auto, unfolding(kq_model::specs::Holding::release, kq_model::specs::Holding::release_doings, kq_model::specs::Objects::all_done))]
     fn release_socket(&mut self, place: u64) -> Option<(Target, Hint)>
-        requires { pos 1 ≤ℤ socket_holders (get nat_eq self.old.sockets.table place) }
+        requires { pos 1 ≤ℤ socket_holders (object_at self.old.sockets place) }
         ensures done { objects_of self.new ≡ release (named.Socket place) (objects_of self.old) }
         ensures hint { result ≡ None }
     {
@@ -80,11 +79,11 @@ impl Objects {
 
     #[tactic(auto, unfolding(kq_model::specs::Holding::release, kq_model::specs::Holding::release_doings, kq_model::specs::Holding::end_hint, kq_model::specs::Objects::all_done))]
     fn release_reader(&mut self, place: u64) -> Option<(Target, Hint)>
-        requires { pos 1 ≤ℤ readers (get nat_eq self.old.pipes.table place) }
+        requires { pos 1 ≤ℤ readers (object_at self.old.pipes place) }
         ensures done { objects_of self.new ≡ release (named.PipeRead place) (objects_of self.old) }
-        ensures hint { result ≡ end_hint place hint.Writable (readers (get nat_eq self.old.pipes.table place)) }
+        ensures hint { result ≡ end_hint place hint.Writable (readers (object_at self.old.pipes place)) }
     {
-        let pipe = self.pipes.get(place)?;
+        let pipe = *self.pipes.get(place)?;
         self.note(Doing::ToPipe {
             place,
             told: PipeRecord::Released { end: Side::Read },
@@ -98,11 +97,11 @@ impl Objects {
 
     #[tactic(auto, unfolding(kq_model::specs::Holding::release, kq_model::specs::Holding::release_doings, kq_model::specs::Holding::end_hint, kq_model::specs::Objects::all_done))]
     fn release_writer(&mut self, place: u64) -> Option<(Target, Hint)>
-        requires { pos 1 ≤ℤ writers (get nat_eq self.old.pipes.table place) }
+        requires { pos 1 ≤ℤ writers (object_at self.old.pipes place) }
         ensures done { objects_of self.new ≡ release (named.PipeWrite place) (objects_of self.old) }
-        ensures hint { result ≡ end_hint place hint.Readable (writers (get nat_eq self.old.pipes.table place)) }
+        ensures hint { result ≡ end_hint place hint.Readable (writers (object_at self.old.pipes place)) }
     {
-        let pipe = self.pipes.get(place)?;
+        let pipe = *self.pipes.get(place)?;
         self.note(Doing::ToPipe {
             place,
             told: PipeRecord::Released { end: Side::Write },
@@ -116,13 +115,11 @@ impl Objects {
 
     #[tactic(auto, unfolding(kq_model::specs::Holding::release, kq_model::specs::Holding::release_doings, kq_model::specs::Holding::left, kq_model::specs::Holding::leaving, kq_model::specs::Holding::close_hint, kq_model::specs::Objects::all_done))]
     fn release_description(&mut self, place: u64) -> Option<(Target, Hint)>
-        requires { pos 1 ≤ℤ description_holders (description_at self.old.descriptions place) }
+        requires { pos 1 ≤ℤ description_holders (object_at self.old.descriptions place) }
         ensures done { (number : ℕ) → objects_of self.new ≡ release (named.Open place number) (objects_of self.old) }
-        ensures hint { result ≡ close_hint (description_at self.old.descriptions place) }
+        ensures hint { result ≡ close_hint (object_at self.old.descriptions place) }
     {
-        let Some(description) = self.descriptions.get(place) else {
-            return None;
-        };
+        let description = *self.descriptions.get(place)?;
         self.note(Doing::ToDescription {
             place,
             told: DescriptionRecord::Released,

@@ -3,7 +3,7 @@ ghost use Rattle.kq_model.specs.Books.{Book};
 
 /// What descriptors name, as a socket: its first record makes it, and it is there until no descriptor names
 /// it any more.
-pub trait Object: Copy + Drop {
+pub trait Object: Drop {
     type Record: Copy + Drop;
 
     // What its records make of it.

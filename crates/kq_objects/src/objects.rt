@@ -4,7 +4,7 @@ ghost use Rattle.kq_model.specs.Objects.{counted, no_objects, size_of, view_of};
 ghost use Rattle.kq_objects.specs.Files.{file_at};
 
 use crate::by_place::ByPlace;
-use crate::descriptions::Descriptions;
+use crate::description::Description;
 use crate::files::Files;
 use crate::pipe::Pipe;
 use crate::socket::Socket;
@@ -17,7 +17,7 @@ use std::alloc::Global;
 pub struct Objects {
     pub(crate) sockets: ByPlace<Socket>,
     pub(crate) pipes: ByPlace<Pipe>,
-    pub(crate) descriptions: Descriptions,
+    pub(crate) descriptions: ByPlace<Description>,
     pub(crate) files: Files,
     pub(crate) alloc: Global,
 }
@@ -32,7 +32,7 @@ impl Objects {
         Ok(Objects {
             sockets: ByPlace::new(alloc),
             pipes: ByPlace::new(alloc),
-            descriptions: Descriptions::new(alloc),
+            descriptions: ByPlace::new(alloc),
             files: Files::new(alloc),
             alloc,
         })

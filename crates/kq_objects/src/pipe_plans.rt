@@ -1,6 +1,6 @@
 // The plans of the records about pipes.
-ghost use Rattle.std.specs.Prelude.{◌≡◌, nat_eq, None, Some, IfOk, List};
-ghost use Rattle.std.specs.HashMap.{get};
+ghost use Rattle.std.specs.Prelude.{◌≡◌, None, Some, IfOk, List};
+ghost use Rattle.kq_objects.specs.ByPlace.{object_at};
 ghost use Rattle.std.specs.Result.{ForOk};
 ghost use Rattle.kq_model.specs.PipePlans.{plan_pipe, pipe_plan, plan_at_pipe};
 ghost use Rattle.kq_model.specs.PipeSteps.{read_pipe, write_pipe};
@@ -17,7 +17,7 @@ use kq_model::{Doing, PipeRecord, Target, Why};
 impl Objects {
     #[tactic(auto, unfolding(kq_model::specs::PipePlans::plan_pipe, kq_model::specs::ObjectPlan::hints_for))]
     pub(crate) fn plan_pipe(&mut self, place: u64, cap: u32) -> Result<Plan, PlanError>
-        requires { get nat_eq self.old.pipes.table place ≡ None }
+        requires { object_at self.old.pipes place ≡ None }
         ensures same { objects_of self.new ≡ objects_of self.old }
         ensures plan { IsPlanned result (plan_pipe place cap) }
         ensures ready { IfOk result (λ p. IsReady p.doings self.new) }
@@ -26,7 +26,7 @@ impl Objects {
         if !is_capacity(cap) {
             return Err(PlanError::Why(Why::TooMany));
         }
-        self.reserve_pipe()?;
+        self.reserve_pipe(place)?;
         let doing = Doing::ToPipe {
             place,
             told: PipeRecord::Made { cap },
@@ -37,7 +37,7 @@ impl Objects {
     /// The plan of one step at a pipe.
     #[tactic(auto, unfolding(kq_model::specs::PipePlans::pipe_plan))]
     fn note_pipe(&self, place: u64, step: PipeStep) -> Result<Plan, PlanError>
-        requires { ForOk step (λ s. IsPipeNote s.0 (get nat_eq self.now.pipes.table place)) }
+        requires { ForOk step (λ s. IsPipeNote s.0 (object_at self.now.pipes place)) }
         ensures plan { IsPlanned result (pipe_plan place step) }
         ensures ready { IfOk result (λ p. IsReady p.doings self.now) }
     {
@@ -48,7 +48,7 @@ impl Objects {
 
     #[tactic(auto, unfolding(kq_model::specs::PipePlans::plan_at_pipe))]
     pub(crate) fn read_pipe(&self, place: u64, bytes: u32) -> Result<Plan, PlanError>
-        ensures plan { IsPlanned result (plan_at_pipe (read_pipe bytes) place (get nat_eq self.now.pipes.table place)) }
+        ensures plan { IsPlanned result (plan_at_pipe (read_pipe bytes) place (object_at self.now.pipes place)) }
         ensures ready { IfOk result (λ p. IsReady p.doings self.now) }
     {
         match self.pipes.get(place) {
@@ -60,7 +60,7 @@ impl Objects {
     #[tactic(auto, unfolding(kq_model::specs::PipePlans::plan_at_pipe))]
     pub(crate) fn write_pipe(&self, place: u64, bytes: u32) -> Result<Plan, PlanError>
         ensures plan { IsPlanned result
-            (plan_at_pipe (write_pipe bytes) place (get nat_eq self.now.pipes.table place)) }
+            (plan_at_pipe (write_pipe bytes) place (object_at self.now.pipes place)) }
         ensures ready { IfOk result (λ p. IsReady p.doings self.now) }
     {
         match self.pipes.get(place) {

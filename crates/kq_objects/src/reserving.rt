@@ -8,22 +8,22 @@ use crate::objects::Objects;
 use kq_model::Memory;
 
 impl Objects {
-    /// Room for a socket.
-    pub(crate) fn reserve_socket(&mut self) -> Result<(), Memory>
+    /// Room for a socket at this place.
+    pub(crate) fn reserve_socket(&mut self, place: u64) -> Result<(), Memory>
         ensures same { objects_of self.new ≡ objects_of self.old }
         ensures room { OnOk result (0 < (spare_room self.new).sockets) }
         ensures stays { (ds : List Doing) → IsReady ds self.old → IsReady ds self.new }
     {
-        self.sockets.reserve()
+        self.sockets.reserve(place)
     }
 
-    /// Room for a pipe.
-    pub(crate) fn reserve_pipe(&mut self) -> Result<(), Memory>
+    /// Room for a pipe at this place.
+    pub(crate) fn reserve_pipe(&mut self, place: u64) -> Result<(), Memory>
         ensures same { objects_of self.new ≡ objects_of self.old }
         ensures room { OnOk result (0 < (spare_room self.new).pipes) }
         ensures stays { (ds : List Doing) → IsReady ds self.old → IsReady ds self.new }
     {
-        self.pipes.reserve()
+        self.pipes.reserve(place)
     }
 
     /// Room for a file.
@@ -35,15 +35,15 @@ impl Objects {
         self.files.reserve()
     }
 
-    /// Room for a description of this file.
-    pub(crate) fn reserve_open(&mut self, number: u32) -> Result<(), Memory>
+    /// Room for a description of this file, at this place.
+    pub(crate) fn reserve_open(&mut self, place: u64, number: u32) -> Result<(), Memory>
         ensures same { objects_of self.new ≡ objects_of self.old }
         ensures room { OnOk result (0 < (spare_room self.new).descriptions) }
         ensures on_file { OnOk result (IfSome (file_at self.new.files number)
             (λ _. 0 < (spare_room self.new).on_file number)) }
         ensures stays { (ds : List Doing) → IsReady ds self.old → IsReady ds self.new }
     {
-        self.descriptions.reserve()?;
+        self.descriptions.reserve(place)?;
         self.files.reserve_on(number)
     }
 }

@@ -1,6 +1,6 @@
 // The plans of the records about sockets.
-ghost use Rattle.std.specs.Prelude.{◌≡◌, nat_eq, None, Some, IfOk, List};
-ghost use Rattle.std.specs.HashMap.{get};
+ghost use Rattle.std.specs.Prelude.{◌≡◌, None, Some, IfOk, List};
+ghost use Rattle.kq_objects.specs.ByPlace.{object_at};
 ghost use Rattle.std.specs.Result.{ForOk};
 ghost use Rattle.kq_model.specs.SocketPlans.{plan_socket, socket_at, socket_plan, plan_at_socket, plan_accept};
 ghost use Rattle.kq_model.specs.SocketPlans.{accepted};
@@ -24,7 +24,7 @@ impl Objects {
         receive_buffer: u32,
         send_buffer: u32,
     ) -> Result<Plan, PlanError>
-        requires { get nat_eq self.old.sockets.table place ≡ None }
+        requires { object_at self.old.sockets place ≡ None }
         ensures same { objects_of self.new ≡ objects_of self.old }
         ensures plan { IsPlanned result (plan_socket place receive_buffer send_buffer) }
         ensures ready { IfOk result (λ p. IsReady p.doings self.new) }
@@ -33,7 +33,7 @@ impl Objects {
         if !(is_capacity(receive_buffer) && is_capacity(send_buffer)) {
             return Err(PlanError::Why(Why::TooMany));
         }
-        self.reserve_socket()?;
+        self.reserve_socket(place)?;
         let told = SocketRecord::Made {
             receive_buffer,
             send_buffer,
@@ -46,13 +46,13 @@ impl Objects {
     #[tactic(auto, unfolding(kq_model::specs::SocketPlans::socket_at, kq_model::specs::SocketPlans::socket_found))]
     fn socket_at(&self, on: Named) -> Result<(u64, Socket), Why>
         ensures exact { result ≡ socket_at on (objects_of self.now) }
-        ensures there { IfOk result (λ found. get nat_eq self.now.sockets.table found.0 ≡ Some found.1) }
+        ensures there { IfOk result (λ found. object_at self.now.sockets found.0 ≡ Some found.1) }
     {
         let Named::Socket(place) = on else {
             return Err(Why::WrongKind);
         };
         match self.sockets.get(place) {
-            Some(socket) => Ok((place, socket)),
+            Some(socket) => Ok((place, *socket)),
             None => Err(Why::WrongKind),
         }
     }
@@ -60,7 +60,7 @@ impl Objects {
     /// The plan of one step at a socket.
     #[tactic(auto, unfolding(kq_model::specs::SocketPlans::socket_plan))]
     fn note_socket(&self, place: u64, step: SocketStep) -> Result<Plan, PlanError>
-        requires { ForOk step (λ s. IsNote s.0 (get nat_eq self.now.sockets.table place)) }
+        requires { ForOk step (λ s. IsNote s.0 (object_at self.now.sockets place)) }
         ensures plan { IsPlanned result (socket_plan place step) }
         ensures ready { IfOk result (λ p. IsReady p.doings self.now) }
         ensures notes { IfOk result (λ p. AreSocketNotes p.doings (objects_of self.now)) }
@@ -95,14 +95,14 @@ impl Objects {
         receive_buffer: u32,
         send_buffer: u32,
     ) -> Result<Plan, PlanError>
-        requires { get nat_eq self.old.sockets.table place ≡ None }
+        requires { object_at self.old.sockets place ≡ None }
         ensures same { objects_of self.new ≡ objects_of self.old }
         ensures plan { IsPlanned result (plan_accept place on receive_buffer send_buffer (objects_of self.old)) }
         ensures ready { IfOk result (λ p. IsReady p.doings self.new) }
         ensures stays { (ds : List Doing) → IsReady ds self.old → IsReady ds self.new }
     {
         let taken = self.take_pending(on, receive_buffer, send_buffer)?;
-        self.reserve_socket()?;
+        self.reserve_socket(place)?;
         let made = SocketRecord::Made {
             receive_buffer,
             send_buffer,

@@ -16,10 +16,10 @@ returns-clause-ready c =
     let PlanReady : ObjectPlan → Type 0 = λ p. IsReady p.doings c.args.self.now in
     let Ready : List Doing → Type 0 = λ ds. IsReady ds c.args.self.now in
     let within : c.offset.result + c.from.result ≤ most_file_size = omega arith in
-    let moved : c.in-Some.description.state.offset + c.args.bytes ≤ most_file_size = omega arith in
+    let moved : c.in-Some.description.now.offset + c.args.bytes ≤ most_file_size = omega arith in
     let Fits : Option DescriptionState → Type 0 = FitsDescriptionAt (description.Moved c.args.bytes) in
     let there : file_at c.args.self.now.files c.file-number.result ≡ Some c.in-Some-get.file.now.state =
     sym (ap (option_map (λ (kept : FileKept). kept.state)) c.in-Some-get.ensures) in
     subst PlanReady (sym c.of.ensures) (subst Ready (sym c.in_ok-doings.ensures)
     (ready-write c.args.self.now c.args.place c.file-number.result c.args.bytes (c.offset.result + c.from.result) _
-    (subst Fits c.in-Some.ensures.state moved) there within))
+    (subst Fits c.in-Some.ensures moved) there within))
