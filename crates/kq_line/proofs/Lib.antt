@@ -9,6 +9,8 @@ pub mod Pieces
 pub mod Parts
 pub mod LookUps
 pub mod SignedLookUps
-pub mod FlagRows
 pub mod KnownChange
 pub mod RecordKinds
+pub mod MemberSteps
+pub mod UsualRecords
+pub mod UsualChange

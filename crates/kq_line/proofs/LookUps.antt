@@ -54,7 +54,7 @@ below_there found ms name n shows is = let h = held found ms name (Below n) show
 
 -- ---- numbers
 
-u32_of : (n : ℕ) → n < 2 ^ 32 → u32_in (number (unsigned n)) ≡ Some n
+pub u32_of : (n : ℕ) → n < 2 ^ 32 → u32_in (number (unsigned n)) ≡ Some n
 unfolding u32_in
 u32_of n fits = rw (lt-ltb n (2 ^ 32) fits) refl
 

@@ -99,7 +99,7 @@ pub change_value : (text members tail : List ℕ) (found : Found) (c : Change) �
 change_value text members tail found c cut all known =
     let is = known all.0 all.2 in (object all.0, members_value 1 text members tail all.0 cut all.1, is.0, is.1)
 
-no_tail : (tail : List ℕ) → length tail ≡ 0 → tail ≡ []
+pub no_tail : (tail : List ℕ) → length tail ≡ 0 → tail ≡ []
 no_tail [] none = refl
 no_tail (b ∷ bs) none = absurd (omega (arith, none))
 

@@ -11,7 +11,7 @@ use Rattle.kq_line.specs.declared.found.Found.{Found}
 use Rattle.kq_line.specs.Shows.{Shows}
 use Rattle.kq_line.specs.Typed.{IsRecord, IsText}
 
-known : (ms : Members) (op : List ℕ) (kind : RecordKind) (e : Event) → IsText ms (codes "op") op → kind_named op ≡ Some kind → IsRecord kind ms e
+pub known : (ms : Members) (op : List ℕ) (kind : RecordKind) (e : Event) → IsText ms (codes "op") op → kind_named op ≡ Some kind → IsRecord kind ms e
     → event_of (Some (object ms)) ≡ Ok e
 unfolding event_of event_by read_as shaped
 known ms op kind e at named is = rw (at, named, is.typed, is.value) refl

@@ -1,11 +1,7 @@
 -- Values without parts, as they stand in a line.
-use Rattle.std.proofs.Common.{◌≡◌, ℕ, suc, ◌+◌, ◌^◌, ◌<◌, negsuc, Bool, true, false, List, [], ◌∷◌, ◌++◌, length, take, drop, decimal, Option, Some, MatchOption, IfSome, Bor, IsUtf8, None, option_map, refl, sym, ap, ap₂, ◌∙◌, arith, append_assoc}
-use Rattle.std.specs.Cmp.Lexicographic.{pointwise}
+use Rattle.std.proofs.Common.{◌≡◌, ℕ, suc, ◌^◌, ◌<◌, negsuc, Bool, List, [], ◌∷◌, ◌++◌, decimal, Bor, IsUtf8, option_map, refl, sym, ap, ◌∙◌, arith, append_assoc}
 use Rattle.std.specs.Fmt.{signed_decimal}
-use Rattle.std.specs.Prelude.{nat_eq}
 use Rattle.std.proofs.lemmas.Fmt.{IsAscii-decimal}
-use Rattle.std.proofs.lemmas.List.{take-append-drop}
-use Rattle.std.proofs.lemmas.Slice.Eq.{bytes_eq-Decides}
 use Rattle.std.proofs.lemmas.Str.{IsUtf8-append, IsUtf8-from_ascii}
 use Rattle.json.specs.Json as json
 use Rattle.json.specs.Print.{quoted, token_text}
@@ -64,15 +60,6 @@ truth_value text tail b word cut is = record {
 }
 
 -- ---- what the code found
-
-pub stripped : (text word : List ℕ) (r : Option (Bor (List ℕ)))
-    → MatchOption r (pointwise nat_eq (take (length word) text) word ≡ false)
-    (λ x. (pointwise nat_eq (take (length word) text) word ≡ true) × (x.now ≡ drop (length word) text) × (length x.now + length word ≡ length text))
-    → IfSome r (λ rest. text ≡ word ++ rest.now)
-stripped text word None h = tt
-stripped text word (Some rest) h =
-    let front : take (length word) text ≡ word = (bytes_eq-Decides (take (length word) text) word).0 h.0 in
-    sym (take-append-drop (length word) text) ∙ ap₂ (λ (x y : List ℕ). x ++ y) front (sym h.1)
 
 pub name_scalar : (text name tail : List ℕ) (s : Bor (List ℕ)) → s.now ≡ name → IsName name → text ≡ 34 ∷ (name ++ 34 ∷ tail) → IsScalar text (Name s) tail
 name_scalar text name tail s is letters cut = (string name, name_value text name tail letters cut, λ changes. ap string (sym is))

@@ -3,3 +3,4 @@ pub mod Spells
 pub mod Values
 pub mod Shows
 pub mod Typed
+pub mod Usual

@@ -2,14 +2,15 @@
 
 ghost use Rattle.std.specs.Prelude.{◌≡◌, ◌<◌, ◌≤◌, true, IfSome, Some, length};
 ghost use Rattle.serde_json.specs.Data.{Members, object};
-ghost use Rattle.kq_model.specs.ChangeText.{change_of, change_with, extra_width, is_change};
+ghost use Rattle.kq_model.specs.ChangeText.{change_of, extra_width, is_change};
 ghost use Rattle.kq_line.specs.Shows.{Shows};
 ghost use Rattle.kq_line.specs.Values.{IsChange, IsChangeList};
 
 use crate::cursor::{behind, without_blank};
 use crate::found::Found;
 use crate::members::change_members;
-use kq_model::{Change, EvFlags, Filter};
+use crate::usual_change::{change_with, usual_change};
+use kq_model::Change;
 
 /// How many of the members that a change may lack are there.
 fn extra_width(found: &Found) -> usize
@@ -19,29 +20,6 @@ fn extra_width(found: &Found) -> usize
     usize::from(found.has(b"fflags"))
         + usize::from(found.has(b"data"))
         + usize::from(found.has(b"udata"))
-}
-
-/// The change with these parts.
-#[tactic(auto, unfolding(kq_model::specs::ChangeText::change_with))]
-fn change_with(
-    ident: u64,
-    filter: Filter,
-    flags: EvFlags,
-    fflags: u32,
-    datum: i64,
-    udata: u64,
-) -> Change
-    ensures { Some result
-        ≡ change_with (Some ident) (Some filter) (Some flags.0) (Some fflags) (Some datum) (Some udata) }
-{
-    Change {
-        ident,
-        filter,
-        flags,
-        fflags,
-        datum,
-        udata,
-    }
 }
 
 /// The change that has these members, and no further ones.
@@ -66,6 +44,9 @@ fn change<'a>(text: &'a [u8], found: &mut Found<'a>) -> Option<(Change, &'a [u8]
     ensures value { IfSome result (λ r. IsChange text.now r.0 r.1.now) }
     ensures shorter { IfSome result (λ r. length r.1.now < length text.now) }
 {
+    if let Some(usual) = usual_change(text) {
+        return Some(usual);
+    }
     let members = behind(text, b'{')?;
     let tail = change_members(members, found)?;
     let change = change_from(found)?;

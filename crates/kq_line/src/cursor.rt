@@ -34,3 +34,20 @@ pub fn is(name: &[u8], other: &[u8]) -> bool
 {
     name == other
 }
+
+/// The text behind this word, where it begins with it.
+#[inline(always)]
+pub fn behind_word<'a>(text: &'a [u8], word: &[u8]) -> Option<&'a [u8]>
+    ensures cut { IfSome result (λ rest. text.now ≡ word.now ++ rest.now) }
+    ensures shorter { IfSome result (λ rest. length rest.now ≤ length text.now) }
+{
+    if text.len() < word.len() {
+        return None;
+    }
+    for (place, byte) in word.iter().enumerate() {
+        if text[place] != *byte {
+            return None;
+        }
+    }
+    Some(&text[word.len()..])
+}

@@ -14,15 +14,29 @@ use kq_model::EvFlags;
 fn flag_named(name: &[u8]) -> Option<EvFlags>
     ensures { IfSome result (λ flag. find_name flag_table name.now ≡ Some flag.0) }
 {
-    if name.is_empty() {
-        return None;
+    if is(name, b"ADD") {
+        Some(EvFlags::ADD)
+    } else if is(name, b"CLEAR") {
+        Some(EvFlags::CLEAR)
+    } else if is(name, b"ONESHOT") {
+        Some(EvFlags::ONESHOT)
+    } else if is(name, b"DELETE") {
+        Some(EvFlags::DELETE)
+    } else if is(name, b"ENABLE") {
+        Some(EvFlags::ENABLE)
+    } else if is(name, b"DISABLE") {
+        Some(EvFlags::DISABLE)
+    } else if is(name, b"DISPATCH") {
+        Some(EvFlags::DISPATCH)
+    } else if is(name, b"RECEIPT") {
+        Some(EvFlags::RECEIPT)
+    } else if is(name, b"EOF") {
+        Some(EvFlags::EOF)
+    } else if is(name, b"ERROR") {
+        Some(EvFlags::ERROR)
+    } else {
+        None
     }
-    for flag in EvFlags::flags() {
-        if is(flag.name.as_bytes(), name) {
-            return Some(flag.value);
-        }
-    }
-    None
 }
 
 /// The flags that the names of a list name, each of them once, from behind its bracket; and the text behind

@@ -11,6 +11,7 @@ mod cursor;
 mod file_records;
 mod flags;
 mod found;
+mod keys;
 mod kinds;
 mod line_reader;
 mod lookup;
@@ -21,5 +22,8 @@ mod piece;
 mod records;
 mod scalars;
 mod signal_records;
+mod usual;
+mod usual_change;
+mod usual_numbers;
 
 pub use line_reader::LineReader;

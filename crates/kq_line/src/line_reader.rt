@@ -7,6 +7,7 @@ use crate::cursor::behind;
 use crate::found::Found;
 use crate::members::record_members;
 use crate::records::event_from;
+use crate::usual::usual_event;
 use kq_model::Event;
 use std::alloc::Global;
 
@@ -31,6 +32,9 @@ impl<'a> LineReader<'a> {
     pub fn event_on(&mut self, line: &'a [u8]) -> Option<Event>
         ensures { IfSome result (λ e. event_of (json_of line.now) ≡ Ok e) }
     {
+        if let Some(event) = usual_event(line, &mut self.record, &mut self.change) {
+            return Some(event);
+        }
         let members = behind(line, b'{')?;
         let tail = record_members(members, &mut self.record, &mut self.change)?;
         if !tail.is_empty() {

@@ -193,7 +193,7 @@ impl<'a> Found<'a> {
 }
 
 /// The filter of this name.
-fn filter_named(name: &[u8]) -> Option<Filter>
+pub fn filter_named(name: &[u8]) -> Option<Filter>
     ensures { IfSome result (λ filter. filter_named name.now ≡ Some filter) }
 {
     if is(name, b"USER") {

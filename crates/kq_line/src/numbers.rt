@@ -64,7 +64,8 @@ pub fn signed(number: u64) -> Option<i64>
 
 /// The number that stands so far below -1, where it fits 64 bits.
 pub fn below(far: u64) -> Option<i64>
-    ensures { IfSome result (λ z. z ≡ negsuc far) }
+    ensures value { IfSome result (λ z. z ≡ negsuc far) }
+    ensures fits { IfSome result (λ z. far < 2 ^ 63) }
 {
     match i64::try_from(far) {
         Ok(far) => Some(-1 - far),

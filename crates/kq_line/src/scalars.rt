@@ -3,7 +3,7 @@
 ghost use Rattle.std.specs.Prelude.{◌≡◌, ◌<◌, ◌++◌, IfSome, length};
 ghost use Rattle.kq_line.specs.Values.{IsScalar};
 
-use crate::cursor::behind;
+use crate::cursor::{behind, behind_word};
 use crate::names::quoted;
 use crate::numbers::number;
 use crate::piece::Piece;
@@ -37,14 +37,6 @@ fn below_value<'a>(text: &'a [u8]) -> Option<(Piece<'a>, &'a [u8])>
         return None;
     }
     Some((Piece::Below(size - 1), tail))
-}
-
-/// The text behind this word, where it begins with it.
-#[inline(always)]
-fn behind_word<'a>(text: &'a [u8], word: &[u8]) -> Option<&'a [u8]>
-    ensures cut { IfSome result (λ rest. text.now ≡ word.now ++ rest.now) }
-{
-    text.strip_prefix(word)
 }
 
 #[inline(always)]

@@ -9,4 +9,4 @@ returns-in-Number c =
 
 pub returns-in-Below : goal.returns-in-Below
 returns-in-Below c =
-    i64_far c.args.self.now c.args.name.now c.in-Below.far c.below.result c.below.ensures (ap Some (sym c.in-Below.is) ∙ c.in_ok-number.ensures)
+    i64_far c.args.self.now c.args.name.now c.in-Below.far c.below.result c.below.ensures.value (ap Some (sym c.in-Below.is) ∙ c.in_ok-number.ensures)

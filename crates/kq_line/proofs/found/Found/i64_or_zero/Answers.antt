@@ -9,7 +9,7 @@ returns-in-Some-Number c =
 
 pub returns-in-Some-Below : goal.returns-in-Some-Below
 returns-in-Some-Below c =
-    i64_or_far c.args.self.now c.args.name.now c.in-Some-Below.far c.below.result c.below.ensures
+    i64_or_far c.args.self.now c.args.name.now c.in-Some-Below.far c.below.result c.below.ensures.value
     (ap Some (sym c.in-Some-Below.field-0-is) ∙ c.in-Some-Below.ensures)
 
 pub returns-in-None : goal.returns-in-None
