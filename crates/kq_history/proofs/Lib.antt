@@ -1,5 +1,6 @@
 mod TimelineLemmas
 mod Rising
+mod NumberSetLemmas
 mod Picked
 mod Between
 mod Joined

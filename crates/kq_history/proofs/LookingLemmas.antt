@@ -27,7 +27,7 @@ use Rattle.kq_history.proofs.SightLemmas.{standing-same, view-cut, view-now, wit
 
 -- ---- slots for more and more targets
 
-same-key : (a b : Target) → target_key a b ≡ true → a ≡ b
+pub same-key : (a b : Target) → target_key a b ≡ true → a ≡ b
 same-key a b same = same_target a b (sym (as_target a b) ∙ same)
 
 key-symm : (a b : Target) → target_key a b ≡ target_key b a
@@ -119,12 +119,13 @@ module _ {S : Type 0} where
       one_order sorted all rises (standing-rises (has_slot slots) gone (drop gone log))
       (λ f. sum_by-IsPermutation f numbers sorted moved ∙ sym (sum_by-IsPermutation f numbers all begun.there))
 
-pub absent : {X : Type 0} (found : Option X) (none : Bool) → is_some found ≡ not none → none ≡ true → found ≡ None
-absent None none is true_is = refl
-absent (Some x) none is true_is = absurd (false≢true (sym (is ∙ ap not true_is)))
+pub absent : {X : Type 0} (found : Option X) (fresh : Bool) → fresh ≡ not (is_some found) → fresh ≡ true → found ≡ None
+absent None fresh is holds = refl
+absent (Some x) fresh is holds = absurd (false≢true (sym is ∙ holds))
 
-pub present : {X : Type 0} (found : Option X) (none : Bool) → is_some found ≡ not none → none ≡ false → is_some found ≡ true
-present found none is false_is = is ∙ ap not false_is
+pub present : {X : Type 0} (found : Option X) (fresh : Bool) → fresh ≡ not (is_some found) → fresh ≡ false → is_some found ≡ true
+present None fresh is fails = absurd (false≢true (sym fails ∙ is))
+present (Some x) fresh is fails = refl
 
 -- ---- a look
 

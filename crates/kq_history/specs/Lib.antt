@@ -26,6 +26,8 @@ pub mod Tracked
 pub mod Sayings
 pub mod Plain
 pub mod Split
+pub mod NumberSets
+pub mod Showing
 pub mod Said
 pub mod BetweenCalls
 pub mod Private

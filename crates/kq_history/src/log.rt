@@ -14,6 +14,7 @@ ghost use Rattle.kq_history.specs.declared.item.Source.{Source};
 ghost use Rattle.kq_history.specs.declared.item.Source.TheVariants.{Clock};
 
 use crate::item::{Item, Source, What};
+use crate::ordering::in_order;
 use crate::shelves::Shelves;
 use crate::sources::Sources;
 use crate::weave::woven;
@@ -89,15 +90,15 @@ impl Log {
         Ok(picked)
     }
 
-    /// The items that come from these sources, in their order. It costs these items alone: those of
-    /// each source are a run in order, and the sort merges runs.
+    /// The items that come from these sources, in their order. It costs these items, and where they are many a word for
+    /// each 64 of the log; where they are few, a sort of them.
     pub fn pick(&self, sources: &[Source]) -> Result<Vec<Item>, Memory>
         requires distinct { IsDistinct source_eq sources.now }
         requires shelved { AreShelved self.now.items.items self.now.shelves.table }
         ensures { IfOk result (λ picked. picked.items ≡ filter (is_from sources.now) self.now.items.items) }
     {
-        let mut numbers = self.numbers_of(sources)?;
-        numbers.sort()?;
+        let gathered = self.numbers_of(sources)?;
+        let numbers = in_order(self.alloc, gathered, 0, self.items.len())?;
         self.items_at(numbers.as_slice())
     }
 
@@ -237,8 +238,8 @@ impl Log {
         }
         let first = standing[0];
         let last = standing[standing.len() - 1];
-        let mut chosen = self.numbers_within(sources, first, last)?;
-        chosen.sort()?;
+        let gathered = self.numbers_within(sources, first, last)?;
+        let chosen = in_order(self.alloc, gathered, first, last)?;
         let steps = self.steps_within(sources, first, last);
         let items = self.items.as_slice();
         woven(self.alloc, items, chosen.as_slice(), steps)

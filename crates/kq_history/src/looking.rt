@@ -1,20 +1,15 @@
-ghost use Rattle.std.specs.Prelude.{◌≡◌, ◌≤◌, ◌<◌, ◌&&◌, ℕ, length, take, drop, slice_index_or};
-ghost use Rattle.std.specs.Prelude.{is_some, Some, IfOk, if◌then◌else◌};
-ghost use Rattle.std.specs.HashMap.{get};
-ghost use Rattle.kq_history.specs.Keys.{target_key};
+ghost use Rattle.std.specs.Prelude.{◌≡◌, ◌≤◌, ◌<◌, ℕ, length, take, drop, slice_index_or, IfOk};
 ghost use Rattle.kq_history.specs.Log.{standing};
 ghost use Rattle.kq_history.specs.Looking.{has_slot, Follow, Show};
 ghost use Rattle.kq_history.specs.Sights.{AreInOrder};
 
+use crate::ordering::in_order;
 use crate::sights::{Sight, Sights};
+use crate::slots::Slots;
 use crate::split::Split;
-use indexmap::IndexMap;
 use kq_model::{Memory, Named, Target, View, Views};
 use std::alloc::Global;
 use std::marker::Model;
-
-/// What is seen of targets, for each its own slot.
-type Slots = IndexMap<Target, Option<View>>;
 
 /// The world after the record of a place, as one kqueue sees it that goes from place to place: what it sees of its
 /// targets stands in slots, which follow the log of sights, so that a look searches nothing. Contracts see the trace
@@ -46,7 +41,7 @@ impl<'s, 'a> Model for Looking<'s, 'a> {
     ghost view = { λ l. record { trace = l.split.now; place = l.place } };
 
     ghost invariant = { λ l. l.follows ≡ true
-        → IsLooking l.split.now l.place l.last l.log.now l.gone l.numbers.items l.taken l.slots };
+        → IsLooking l.split.now l.place l.last l.log.now l.gone l.numbers.items l.taken l.slots.views };
 }
 
 impl<'s, 'a> Looking<'s, 'a> {
@@ -90,7 +85,7 @@ impl<'s, 'a> Looking<'s, 'a> {
             gone: 0,
             numbers: Vec::new(alloc),
             taken: 0,
-            slots: IndexMap::new(alloc),
+            slots: Slots::new(alloc),
             follows: false,
         }
     }
@@ -120,8 +115,8 @@ impl<'s, 'a> Views for Looking<'s, 'a> {
 
     fn view(&self, target: Target) -> Option<View> {
         if self.follows {
-            if let Some(view) = self.slots.get(&target) {
-                return *view;
+            if let Some(view) = self.slots.get(target) {
+                return view;
             }
         }
         self.split.view(self.place, target)
@@ -147,18 +142,18 @@ fn slots_for(
 ) -> Result<(Slots, Vec<usize>), Memory>
     requires gone { gone ≤ end }
     requires end { end ≤ length sights.now }
-    ensures shown { IfOk result (λ p. Show (take end sights.now) gone p.0) }
-    ensures left { IfOk result (λ p. p.1.items ≡ standing (has_slot p.0) gone (drop gone (take end sights.now))) }
+    ensures shown { IfOk result (λ p. Show (take end sights.now) gone p.0.views) }
+    ensures left { IfOk result (λ p. p.1.items ≡ standing (has_slot p.0.views) gone (drop gone (take end sights.now))) }
 {
-    let mut slots = IndexMap::with_capacity(alloc, targets.len())?;
-    let mut numbers = Vec::new(alloc);
+    let mut slots = Slots::with_capacity(alloc, targets.len())?;
+    let mut gathered = Vec::new(alloc);
     for target in targets {
-        let had = slots.insert(*target, sights.behind(*target, gone))?;
-        if had.is_none() {
-            numbers.extend_from_slice(sights.numbers_within(*target, gone, end))?;
+        let fresh = slots.insert(*target, sights.behind(*target, gone))?;
+        if fresh {
+            gathered.extend_from_slice(sights.numbers_within(*target, gone, end))?;
         }
     }
-    numbers.sort()?;
+    let numbers = in_order(alloc, gathered, gone, end)?;
     Ok((slots, numbers))
 }
 
@@ -173,9 +168,9 @@ fn take_to(
     place: u64,
 ) -> (usize, usize)
     requires in_order { AreInOrder log.now }
-    requires follow { (before : ℕ) × (before ≤ place) × Follow before log.now gone left.now slots.old }
+    requires follow { (before : ℕ) × (before ≤ place) × Follow before log.now gone left.now slots.old.views }
     ensures count { result.0 ≤ length left.now }
-    ensures follow { Follow place log.now result.1 (drop result.0 left.now) slots.new }
+    ensures follow { Follow place log.now result.1 (drop result.0 left.now) slots.new.views }
 {
     let mut gone = gone;
     for count in 0..left.len() {
@@ -184,7 +179,7 @@ fn take_to(
         if place < sight.place {
             return (count, gone);
         }
-        show(slots, sight);
+        slots.show(sight.target, sight.view);
         gone = number + 1;
     }
     (left.len(), gone)
@@ -196,15 +191,4 @@ fn sight_at(log: &[Sight], number: usize) -> Sight
     ensures { result ≡ slice_index_or log.now number result }
 {
     log[number]
-}
-
-/// Puts what is seen into the slot of its target, if it has one.
-fn show(slots: &mut Slots, sight: Sight)
-    ensures { (t : Target) → get target_key slots.new t
-        ≡ (if target_key sight.target t && is_some (get target_key slots.old t) then Some sight.view
-        else get target_key slots.old t) }
-{
-    if let Some(view) = slots.get_mut(&sight.target) {
-        *view = sight.view;
-    }
 }

@@ -3,4 +3,4 @@ use Rattle.kq_history.proofs.LookingLemmas.{AreBegun}
 use Rattle.kq_history.proofs.looking.slots_for.Given as goal
 
 abbrev pub invariant-loop-target : goal.invariant-loop-target
-invariant-loop-target l = AreBegun (take l.end l.sights) l.gone l.numbers.items l.slots
+invariant-loop-target l = AreBegun (take l.end l.sights) l.gone l.gathered.items l.slots.views

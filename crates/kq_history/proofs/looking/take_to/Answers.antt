@@ -6,14 +6,14 @@ use Rattle.kq_history.proofs.looking.take_to.Goals as goal
 
 pub loop-count-init : goal.loop-count-init
 loop-count-init c =
-    follows-on c.requires.follow.0 c.args.place c.args.log.now c.args.gone c.args.left.now c.args.slots.now c.requires.follow.1 c.requires.follow.2
+    follows-on c.requires.follow.0 c.args.place c.args.log.now c.args.gone c.args.left.now c.args.slots.now.views c.requires.follow.1 c.requires.follow.2
 
 pub sight_at-sight-requires : goal.sight_at-sight-requires
 sight_at-sight-requires c =
     let left = c.args.left.now in
     let count = c.loop-count.count in
-    number-within c.args.place c.args.log.now c.loop-count.gone (get_or left count 0) (drop (count + 1) left) c.loop-count.slots
-    (subst (λ (ns : List ℕ). AreFollowing c.args.place c.args.log.now c.loop-count.gone ns c.loop-count.slots)
+    number-within c.args.place c.args.log.now c.loop-count.gone (get_or left count 0) (drop (count + 1) left) c.loop-count.slots.views
+    (subst (λ (ns : List ℕ). AreFollowing c.args.place c.args.log.now c.loop-count.gone ns c.loop-count.slots.views)
     (drop_more left count 0 c.loop-count-test.true) c.loop-count.invariant)
 
 pub returns-then-place-sight-clause-follow : goal.returns-then-place-sight-clause-follow
@@ -21,17 +21,17 @@ returns-then-place-sight-clause-follow c =
     let left = c.args.left.now in
     let count = c.loop-count.count in
     let more = drop_more left count 0 c.loop-count-test.true in
-    let now = subst (λ (ns : List ℕ). AreFollowing c.args.place c.args.log.now c.loop-count.gone ns c.loop-count.slots) more c.loop-count.invariant in
-    subst (λ (ns : List ℕ). Follow c.args.place c.args.log.now c.loop-count.gone ns c.loop-count.slots) (sym more)
-    (follows-up c.args.place c.args.log.now c.loop-count.gone (get_or left count 0) (drop (count + 1) left) c.loop-count.slots now
+    let now = subst (λ (ns : List ℕ). AreFollowing c.args.place c.args.log.now c.loop-count.gone ns c.loop-count.slots.views) more c.loop-count.invariant in
+    subst (λ (ns : List ℕ). Follow c.args.place c.args.log.now c.loop-count.gone ns c.loop-count.slots.views) (sym more)
+    (follows-up c.args.place c.args.log.now c.loop-count.gone (get_or left count 0) (drop (count + 1) left) c.loop-count.slots.views now
     c.sight_at-sight.result c.sight_at-sight.ensures c.requires.in_order c.if-place-sight.true)
 
 pub overflow_add-gone : goal.overflow_add-gone
 overflow_add-gone c =
     let left = c.args.left.now in
     let count = c.loop-count.count in
-    let within = number-within c.args.place c.args.log.now c.loop-count.gone (get_or left count 0) (drop (count + 1) left) c.loop-count.slots
-    (subst (λ (ns : List ℕ). AreFollowing c.args.place c.args.log.now c.loop-count.gone ns c.loop-count.slots)
+    let within = number-within c.args.place c.args.log.now c.loop-count.gone (get_or left count 0) (drop (count + 1) left) c.loop-count.slots.views
+    (subst (λ (ns : List ℕ). AreFollowing c.args.place c.args.log.now c.loop-count.gone ns c.loop-count.slots.views)
     (drop_more left count 0 c.loop-count-test.true) c.loop-count.invariant) in
     search rules
 
@@ -39,17 +39,17 @@ pub loop-count-preserved : goal.loop-count-preserved
 loop-count-preserved c =
     let left = c.args.left.now in
     let count = c.loop-count.count in
-    let now = subst (λ (ns : List ℕ). AreFollowing c.args.place c.args.log.now c.loop-count.gone ns c.loop-count.slots)
+    let now = subst (λ (ns : List ℕ). AreFollowing c.args.place c.args.log.now c.loop-count.gone ns c.loop-count.slots.views)
     (drop_more left count 0 c.loop-count-test.true) c.loop-count.invariant in
-    follows-next c.args.place c.args.log.now c.loop-count.gone (get_or left count 0) (drop (count + 1) left) c.loop-count.slots now
-    c.sight_at-sight.result c.sight_at-sight.ensures c.show.new.slots c.requires.in_order c.if-place-sight.false c.show.ensures
+    follows-next c.args.place c.args.log.now c.loop-count.gone (get_or left count 0) (drop (count + 1) left) c.loop-count.slots.views now
+    c.sight_at-sight.result c.sight_at-sight.ensures c.show.new.self.views c.requires.in_order c.if-place-sight.false c.show.ensures
 
 pub returns-clause-follow : goal.returns-clause-follow
 returns-clause-follow c =
     let left = c.args.left.now in
     let none = drop_all (length left) left (omega arith) in
     let end : length left ≤ c.loop-count.count = search rules in
-    subst (λ (ns : List ℕ). Follow c.args.place c.args.log.now c.loop-count.gone ns c.loop-count.slots) (sym none)
-    (follows-all c.args.place c.args.log.now c.loop-count.gone c.loop-count.slots
-    (subst (λ (ns : List ℕ). AreFollowing c.args.place c.args.log.now c.loop-count.gone ns c.loop-count.slots)
+    subst (λ (ns : List ℕ). Follow c.args.place c.args.log.now c.loop-count.gone ns c.loop-count.slots.views) (sym none)
+    (follows-all c.args.place c.args.log.now c.loop-count.gone c.loop-count.slots.views
+    (subst (λ (ns : List ℕ). AreFollowing c.args.place c.args.log.now c.loop-count.gone ns c.loop-count.slots.views)
     (drop_all c.loop-count.count left end) c.loop-count.invariant))

@@ -1,7 +1,5 @@
 use Rattle.std.proofs.Common.{◌≡◌, ◌<◌, ◌∙◌, ◌-◌, All, List, [], ℕ, false, length, get_or, refl, sym, ap, subst, rules}
-use Rattle.std.specs.List.Sorted.{IsNonDecreasing, IsPermutation, IsSortedByKey}
-use Rattle.std.specs.Ordering.{nat_cmp}
-use Rattle.std.proofs.lemmas.List.Sorted.{IsNonDecreasingBy-from_sort}
+use Rattle.std.specs.List.Sorted.{IsNonDecreasing, IsPermutation}
 use Rattle.std.proofs.lemmas.Result.{IfOk-weaker}
 use Rattle.kq_history.specs.contracts.item.SourceEq.TheImpl.Laws.{laws-law}
 use Rattle.kq_history.specs.declared.item.Item.{Item}
@@ -28,10 +26,9 @@ woven-requires-clause-there c =
     let ns = c.at-standing.result.now in
     let first = get_or ns 0 0 in
     let last = get_or ns (length ns - 1) 0 in
-    let sorted = c.sort.new.self.items in
-    let moved = subst (λ (ns : List ℕ). IsPermutation ns sorted) c.in_ok-chosen.ensures c.sort.ensures.permutation in
-    let in_order : IsSortedByKey (λ (n : ℕ). n) nat_cmp sorted = search rules in
-    let rises = do_not_fall sorted (IsNonDecreasingBy-from_sort (λ n. n) sorted in_order) in
+    let sorted = c.in_ok-chosen.chosen.items in
+    let moved = subst (λ (ns : List ℕ). IsPermutation ns sorted) c.in_ok-gathered.ensures c.in_ok-chosen.ensures.permutation in
+    let rises = do_not_fall sorted c.in_ok-chosen.ensures.rising in
     let chosen_is = c.as_slice.ensures.value ∙ sorted-others laws-law items sources c.requires.distinct first last sorted moved rises in
     subst (λ (xs : List Item). All (λ n. n < length xs) c.as_slice.result.now) (sym c.as_slice-items.ensures.value)
     (subst (λ (ms : List ℕ). All (λ n. n < length items) ms) (sym chosen_is) (others-inside laws-law items sources c.requires.distinct first last))
@@ -43,10 +40,9 @@ woven-requires-clause-others c =
     let ns = c.at-standing.result.now in
     let first = get_or ns 0 0 in
     let last = get_or ns (length ns - 1) 0 in
-    let sorted = c.sort.new.self.items in
-    let moved = subst (λ (ns : List ℕ). IsPermutation ns sorted) c.in_ok-chosen.ensures c.sort.ensures.permutation in
-    let in_order : IsSortedByKey (λ (n : ℕ). n) nat_cmp sorted = search rules in
-    let rises = do_not_fall sorted (IsNonDecreasingBy-from_sort (λ n. n) sorted in_order) in
+    let sorted = c.in_ok-chosen.chosen.items in
+    let moved = subst (λ (ns : List ℕ). IsPermutation ns sorted) c.in_ok-gathered.ensures c.in_ok-chosen.ensures.permutation in
+    let rises = do_not_fall sorted c.in_ok-chosen.ensures.rising in
     let chosen_is = c.as_slice.ensures.value ∙ sorted-others laws-law items sources c.requires.distinct first last sorted moved rises in
     subst (λ (xs : List Item). All (λ n. is_step xs n ≡ false) c.as_slice.result.now) (sym c.as_slice-items.ensures.value)
     (subst (λ (ms : List ℕ). All (λ n. is_step items n ≡ false) ms) (sym chosen_is) (others-fail laws-law items sources c.requires.distinct first last))
@@ -79,10 +75,9 @@ returns c =
     let ns = c.at-standing.result.now in
     let first = get_or ns 0 0 in
     let last = get_or ns (length ns - 1) 0 in
-    let sorted = c.sort.new.self.items in
-    let moved = subst (λ (ns : List ℕ). IsPermutation ns sorted) c.in_ok-chosen.ensures c.sort.ensures.permutation in
-    let in_order : IsSortedByKey (λ (n : ℕ). n) nat_cmp sorted = search rules in
-    let rises = do_not_fall sorted (IsNonDecreasingBy-from_sort (λ n. n) sorted in_order) in
+    let sorted = c.in_ok-chosen.chosen.items in
+    let moved = subst (λ (ns : List ℕ). IsPermutation ns sorted) c.in_ok-gathered.ensures c.in_ok-chosen.ensures.permutation in
+    let rises = do_not_fall sorted c.in_ok-chosen.ensures.rising in
     let chosen_is = c.as_slice.ensures.value ∙ sorted-others laws-law items sources c.requires.distinct first last sorted moved rises in
     let steps_is = c.steps_within-steps.ensures ∙ steps-are laws-law items sources c.requires.distinct first last in
     let whole = numbers laws-law items sources c.requires.distinct first last in

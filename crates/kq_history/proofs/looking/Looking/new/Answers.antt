@@ -20,7 +20,7 @@ invariant_of-result c =
     let later : c.args.from ≤ last = search rules in
     let log_is : c.split_at.result.0.now ≡ take end all = c.split_at.ensures.front ∙ ap (take end) c.as_slice.ensures.all in
     λ _.
-    subst (λ (log : List Sight). IsLooking t c.args.from last log gone c.in_ok-slots.numbers.items 0 c.in_ok-slots.slots) (sym log_is)
-    (looks-first t c.args.from last gone end all c.in_ok-slots.numbers.items c.in_ok-slots.slots later
+    subst (λ (log : List Sight). IsLooking t c.args.from last log gone c.in_ok-slots.numbers.items 0 c.in_ok-slots.slots.views) (sym log_is)
+    (looks-first t c.args.from last gone end all c.in_ok-slots.numbers.items c.in_ok-slots.slots.views later
     c.count_at-gone.ensures.within c.count_at-end.ensures.within c.count_at-gone.ensures.up_to c.count_at-gone.ensures.later c.count_at-end.ensures.later
     c.as_slice.ensures.in_order c.sights-sights.ensures c.in_ok-slots.ensures.shown c.in_ok-slots.ensures.left)
