@@ -1,4 +1,4 @@
-use Rattle.std.proofs.Common.{◌∙◌, ◌+◌, [], ◌++◌, sym, ap, drop, take, arith}
+use Rattle.std.proofs.Common.{◌∙◌, [], ◌++◌, sym, ap, drop, take, arith}
 use Rattle.bitflags.specs.declared.traits.Flag.{Flag}
 use Rattle.kq_model.specs.declared.event_flags.EvFlags.{EvFlags}
 use Rattle.kq_text.proofs.FlagTextLemmas.{name_taken, name_left, names_ended, names_bytes-all, names_bytes-more, names_bytes-some}
