@@ -1,5 +1,5 @@
 -- Pieces that were filled, and what they have to do with the slots of their runs.
-use Rattle.std.proofs.Common.{◌≡◌, ◌∙◌, ◌+◌, ◌<◌, ◌≤◌, ◌++◌, ℕ, suc, inl, inr, List, [], ◌∷◌, length, get_or, take, drop, Bor, Option, refl, sym, ap, ap₂, arith, vec_capacity, append-nil, append_assoc, subst, take-append-drop}
+use Rattle.std.proofs.Common.{◌≡◌, ◌∙◌, ◌+◌, ◌<◌, ◌≤◌, ◌++◌, ℕ, suc, inl, inr, List, [], ◌∷◌, length, get_or, take, drop, Bor, Option, refl, sym, ap, ap₂, arith, append-nil, append_assoc, subst, take-append-drop}
 use Rattle.std.specs.List.{All, AllZip}
 use Rattle.std.proofs.lemmas.Bool.{cases_lt}
 use Rattle.std.proofs.lemmas.List.{drop-drop, take_more}
@@ -9,7 +9,7 @@ use Rattle.kq_model.specs.declared.row.Row.{Row}
 use Rattle.kq_model.specs.Report.{row_lines}
 use Rattle.kq_merge.specs.AtPlaces.{present}
 use Rattle.kq_merge.specs.Bounds.{AreWithin, line_bound}
-use Rattle.kq_merge.specs.Pieces.{HaveRoom, IsFilled, run_of, runs_of, text_of}
+use Rattle.kq_merge.specs.Pieces.{HaveRoom, IsFilled, lines_in, run_of, runs_of, text_of}
 use Rattle.kq_merge.specs.declared.report.pieces.Piece.{Piece}
 use Rattle.kq_merge.proofs.SlotRows.{present-append}
 use Rattle.kq_merge.proofs.WrittenRows.{lines-behind}
@@ -35,9 +35,9 @@ room_filled bytes slots [] [] each room = room
 room_filled bytes slots [] (piece ∷ new) each room = absurd each
 room_filled bytes slots (piece ∷ old) [] each room = absurd each
 room_filled bytes slots (piece ∷ old) (filled ∷ new) each room =
-    All-cons (λ (p : Piece). bytes ≤ vec_capacity p.text) filled new
-    (omega (arith, each.0.room, All-head (λ (p : Piece). bytes ≤ vec_capacity p.text) piece old room))
-    (room_filled bytes slots old new each.1 (All-tail (λ (p : Piece). bytes ≤ vec_capacity p.text) piece old room))
+    All-cons (λ (p : Piece). bytes ≤ length p.buffer.items) filled new
+    (omega (arith, each.0.room, All-head (λ (p : Piece). bytes ≤ length p.buffer.items) piece old room))
+    (room_filled bytes slots old new each.1 (All-tail (λ (p : Piece). bytes ≤ length p.buffer.items) piece old room))
 
 -- each was, at its place
 pub each_filled : (slots : List (Option (Bor Row))) (old new : List Piece) → length new ≡ length old
@@ -100,19 +100,19 @@ moves_on bytes start here end slots from to some within lt =
 
 -- one text more
 pub text_more : (pieces : List Piece) (i : ℕ) (piece : Piece) → i < length pieces → piece ≡ get_or pieces i piece
-    → text_of (take (i + 1) pieces) ≡ text_of (take i pieces) ++ piece.text.items
+    → text_of (take (i + 1) pieces) ≡ text_of (take i pieces) ++ lines_in piece
 text_more pieces i piece lt at =
     ap text_of (take_more pieces i piece lt)
-    ∙ flat_map-append (λ (p : Piece). p.text.items) (take i pieces) (get_or pieces i piece ∷ [])
-    ∙ ap (λ l. text_of (take i pieces) ++ l) (append-nil (get_or pieces i piece).text.items)
-    ∙ ap (λ (p : Piece). text_of (take i pieces) ++ p.text.items) (sym at)
+    ∙ flat_map-append lines_in (take i pieces) (get_or pieces i piece ∷ [])
+    ∙ ap (λ l. text_of (take i pieces) ++ l) (append-nil (lines_in (get_or pieces i piece)))
+    ∙ ap (λ (p : Piece). text_of (take i pieces) ++ lines_in p) (sym at)
 
 -- all texts, cut round one
 pub text_within : (pieces : List Piece) (i : ℕ) (piece : Piece) → i < length pieces → piece ≡ get_or pieces i piece
-    → text_of pieces ≡ text_of (take i pieces) ++ (piece.text.items ++ text_of (drop (i + 1) pieces))
+    → text_of pieces ≡ text_of (take i pieces) ++ (lines_in piece ++ text_of (drop (i + 1) pieces))
 text_within pieces i piece lt at =
     let ahead = text_of (drop (i + 1) pieces) in
     ap text_of (sym (take-append-drop (i + 1) pieces))
-    ∙ flat_map-append (λ (p : Piece). p.text.items) (take (i + 1) pieces) (drop (i + 1) pieces)
+    ∙ flat_map-append lines_in (take (i + 1) pieces) (drop (i + 1) pieces)
     ∙ ap (λ l. l ++ ahead) (text_more pieces i piece lt at)
-    ∙ append_assoc (text_of (take i pieces)) piece.text.items ahead
+    ∙ append_assoc (text_of (take i pieces)) (lines_in piece) ahead

@@ -1,4 +1,4 @@
-use Rattle.std.proofs.Common.{◌≡◌, ◌∙◌, ◌+◌, ◌<◌, ◌≤◌, ℕ, ℤ, pos, negsuc, Bool, true, false, List, [], ◌∷◌, ◌++◌, map, length, drop, get_or, arith, eqb, refl, sym, ap, codes, add-one, append_assoc, append-nil, drop-cons, drop_of_length-le}
+use Rattle.std.proofs.Common.{◌≡◌, ◌∙◌, ◌+◌, ◌<◌, ◌≤◌, ℕ, ℤ, pos, negsuc, Bool, true, false, List, [], ◌∷◌, ◌++◌, map, length, drop, take, get_or, arith, eqb, refl, sym, ap, codes, add-one, append_assoc, append-nil, drop-cons, drop_of_length-le}
 use Rattle.std.proofs.lemmas.Bool.{eqb-true}
 use Rattle.std.specs.Prelude.{decimal}
 use Rattle.std.specs.Fmt.{signed_decimal}
@@ -18,6 +18,7 @@ use Rattle.kq_model.specs.Errno.{error_number}
 use Rattle.kq_model.specs.Spelling.{flags_data, integer, line_text, natural}
 use Rattle.kq_model.specs.Report.{events_data, kevent_data, last_line, reply_line, row_data}
 use Rattle.kq_text.specs.Adds.{Adds}
+use Rattle.kq_text.specs.Writes.{Writes}
 use Rattle.kq_merge.specs.EventsText.{before_flags, events_text}
 
 pub number_text-of_integer : (z : ℤ) → number_text (of_integer z) ≡ signed_decimal z
@@ -136,6 +137,6 @@ events_ended later es i first out new past kept end =
     record { is = end.is ∙ ap (λ l. out ++ l) (sym closed) ∙ kept }
 
 -- a record that was only done has no line
-pub done_line : (place : ℕ) (old : List ℕ) → Adds old (reply_line place Done) old
+pub done_line : (place : ℕ) (old : List ℕ) (start : ℕ) → Writes old start (reply_line place Done) old start
 unfolding reply_line
-done_line place old = record { is = sym (append-nil old) }
+done_line place old start = record { ends = omega arith; is = sym (append-nil (take start old)) }

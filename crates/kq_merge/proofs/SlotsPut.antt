@@ -1,11 +1,9 @@
--- The lines of rows in slots, put into a buffer that has room for them, and what is known of the rows before.
-use Rattle.std.proofs.Common.{◌≡◌, ◌∙◌, ◌+◌, ◌<◌, ◌≤◌, ◌++◌, ℕ, zero, suc, List, [], ◌∷◌, length, take, drop, get_or, Bor, Option, None, Some, Vec, Global, sym, ap, arith, vec_capacity}
+-- The lines of rows in slots, written over the bytes of a buffer, and what is known of the rows before.
+use Rattle.std.proofs.Common.{◌≡◌, ◌∙◌, ◌+◌, ◌<◌, ◌≤◌, ◌++◌, ℕ, zero, suc, List, [], ◌∷◌, length, take, drop, get_or, Bor, Option, None, Some, sym, ap, arith}
 use Rattle.std.proofs.lemmas.List.Elements.{All-push, All-weaker}
 use Rattle.kq_model.specs.declared.row.Row.{Row}
 use Rattle.kq_model.specs.Report.{calls_in, events_in, reply_line, row_lines}
-use Rattle.kq_text.specs.Adds.{Adds}
-use Rattle.kq_text.specs.Room.{HasRoom, TakesAtMost}
-use Rattle.kq_text.proofs.Appends.{and_then, as_text}
+use Rattle.kq_text.specs.Writes.{Writes}
 use Rattle.kq_merge.specs.AtPlaces.{present, row_in}
 use Rattle.kq_merge.specs.Bounds.{AreWithin, line_bound, lines_bound}
 use Rattle.kq_merge.specs.Extents.{IsExtentOf}
@@ -14,29 +12,27 @@ use Rattle.kq_merge.proofs.LineBounds.{bound_from, bound_taken, first_within, li
 use Rattle.kq_merge.proofs.SlotRows.{slot_passed, slot_taken}
 use Rattle.kq_merge.proofs.WrittenRows.{calls_more, events_more, lines_more}
 
--- The lines of the slots below an index were put behind what was there, and there is room for those of the others.
-pub record ArePutBelow (i : ℕ) (slots : List (Option (Bor Row))) (old new : Vec ℕ Global) : Type 0 where
-  pub text : Adds old.items (row_lines (present (take i slots))) new.items
-  pub room : HasRoom new (lines_bound (present (drop i slots)))
-  pub capacity : vec_capacity old ≤ vec_capacity new
+-- The lines of the slots below an index were written over the first bytes, and there is room for those of the others.
+pub record AreWrittenBelow (i : ℕ) (slots : List (Option (Bor Row))) (out : List ℕ) (end : ℕ) : Type 0 where
+  pub text : take end out ≡ row_lines (present (take i slots))
+  pub room : end + lines_bound (present (drop i slots)) ≤ length out
 
 -- one slot more, with its row
-pub row_put_below : (slots : List (Option (Bor Row))) (i : ℕ) (slot : Option (Bor Row)) (row : Bor Row) (old out new : Vec ℕ Global) → i < length slots
-    → slot ≡ get_or slots i slot → slot ≡ Some row → ArePutBelow i slots old out
-    → Adds out.items (reply_line row.now.at row.now.reply) new.items → TakesAtMost out new (line_bound row.now.reply) → ArePutBelow (i + 1) slots old new
-row_put_below slots i slot row old out new lt at some put added taken = record {
-  text = as_text (ap row_lines (slot_taken slots i slot row lt at some) ∙ lines_more (present (take i slots)) row.now) (and_then put.text added);
-  room = omega (arith, put.room, taken.len, taken.capacity, bound_from slots i slot lt at, ap (λ s. lines_bound (row_in s)) some, lines_bound-one row.now);
-  capacity = omega (arith, put.capacity, taken.capacity);
+pub row_written_below : (slots : List (Option (Bor Row))) (i : ℕ) (slot : Option (Bor Row)) (row : Bor Row) (out new : List ℕ) (start end : ℕ) → i < length slots
+    → slot ≡ get_or slots i slot → slot ≡ Some row → AreWrittenBelow i slots out start → length new ≡ length out
+    → Writes out start (reply_line row.now.at row.now.reply) new end → end ≤ start + line_bound row.now.reply → AreWrittenBelow (i + 1) slots new end
+row_written_below slots i slot row out new start end lt at some put same written short = record {
+  text = written.is ∙ ap (λ l. l ++ reply_line row.now.at row.now.reply) put.text
+      ∙ sym (ap row_lines (slot_taken slots i slot row lt at some) ∙ lines_more (present (take i slots)) row.now);
+  room = omega (arith, put.room, same, short, bound_from slots i slot lt at, ap (λ s. lines_bound (row_in s)) some, lines_bound-one row.now);
 }
 
 -- and one without a row
-pub none_put_below : (slots : List (Option (Bor Row))) (i : ℕ) (slot : Option (Bor Row)) (old out : Vec ℕ Global) → i < length slots
-    → slot ≡ get_or slots i slot → slot ≡ None → ArePutBelow i slots old out → ArePutBelow (i + 1) slots old out
-none_put_below slots i slot old out lt at none put = record {
-  text = as_text (ap row_lines (slot_passed slots i slot lt at none)) put.text;
+pub none_written_below : (slots : List (Option (Bor Row))) (i : ℕ) (slot : Option (Bor Row)) (out : List ℕ) (end : ℕ) → i < length slots
+    → slot ≡ get_or slots i slot → slot ≡ None → AreWrittenBelow i slots out end → AreWrittenBelow (i + 1) slots out end
+none_written_below slots i slot out end lt at none put = record {
+  text = put.text ∙ sym (ap row_lines (slot_passed slots i slot lt at none));
   room = omega (arith, put.room, bound_from slots i slot lt at);
-  capacity = put.capacity;
 }
 
 -- how many bytes the lines of one slot more have at most

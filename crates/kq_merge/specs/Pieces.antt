@@ -1,5 +1,5 @@
 -- The lines of rows in slots, made in pieces.
-use Rattle.std.specs.Prelude.{◌≡◌, ◌≤◌, ℕ, List, Option, flat_map, length, slice_range, vec_capacity}
+use Rattle.std.specs.Prelude.{◌≡◌, ◌≤◌, ℕ, List, Option, flat_map, length, slice_range, take}
 use Rattle.std.specs.Borrow.{Bor}
 use Rattle.std.specs.List.{All}
 use Rattle.kq_model.specs.declared.row.Row.{Row}
@@ -16,21 +16,25 @@ run_of slots piece = slice_range slots piece.start piece.end
 abbrev pub runs_of : List (Option (Bor Row)) → List Piece → List (Option (Bor Row))
 runs_of slots pieces = flat_map (run_of slots) pieces
 
--- their texts, one behind the other
+-- the lines that a piece was filled with
+abbrev pub lines_in : Piece → List ℕ
+lines_in piece = take piece.used piece.buffer.items
+
+-- those of these pieces, one behind the other
 abbrev pub text_of : List Piece → List ℕ
-text_of pieces = flat_map (λ piece. piece.text.items) pieces
+text_of pieces = flat_map lines_in pieces
 
 -- each buffer is of so many bytes at least
 abbrev pub HaveRoom : ℕ → List Piece → Type 0
-HaveRoom bytes pieces = All (λ piece. bytes ≤ vec_capacity piece.text) pieces
+HaveRoom bytes pieces = All (λ piece. bytes ≤ length piece.buffer.items) pieces
 
 -- it has a run of these slots, the lines of which have room in its buffer
 pub record IsReady (slots : List (Option (Bor Row))) (piece : Piece) : Type 0 where
   pub start : piece.start ≤ piece.end
   pub end : piece.end ≤ length slots
-  pub room : lines_bound (present (run_of slots piece)) ≤ vec_capacity piece.text
+  pub room : lines_bound (present (run_of slots piece)) ≤ length piece.buffer.items
 
 -- the lines of its run were put into its buffer, which is no smaller
 pub record IsFilled (slots : List (Option (Bor Row))) (old new : Piece) : Type 0 where
-  pub text : new.text.items ≡ row_lines (present (run_of slots old))
-  pub room : vec_capacity old.text ≤ vec_capacity new.text
+  pub text : lines_in new ≡ row_lines (present (run_of slots old))
+  pub room : length old.buffer.items ≤ length new.buffer.items

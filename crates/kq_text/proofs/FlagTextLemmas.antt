@@ -1,6 +1,5 @@
 -- The list of the names of flags, name by name.
-use Rattle.std.proofs.Common.{◌≡◌, ◌∙◌, ℕ, Bool, true, false, List, [], ◌∷◌, ◌++◌, map, refl, sym, ap, append_assoc, arith, eqb, ◌+◌, ◌<◌, ◌≤◌, length, drop, get_or, add-one, drop-cons, drop_of_length-le}
-use Rattle.std.proofs.lemmas.Bool.{eqb-true}
+use Rattle.std.proofs.Common.{◌≡◌, ◌∙◌, ℕ, Bool, true, false, List, [], ◌∷◌, ◌++◌, map, refl, sym, ap, subst, codes, append_assoc, arith, ◌+◌, ◌<◌, ◌≤◌, length, drop, get_or, add-one, drop-cons, drop_of_length-le}
 use Rattle.std.specs.Prelude.{filter, if◌then◌else◌}
 use Rattle.json.specs.Print.{escape, escape_byte}
 use Rattle.serde_json.specs.Data.{Data, string}
@@ -8,7 +7,7 @@ use Rattle.serde_json.specs.View.{items_of}
 use Rattle.serde_json.specs.Written.{compact_text, comma_if, items_text}
 use Rattle.bitflags.specs.declared.traits.Flag.{Flag}
 use Rattle.kq_model.specs.declared.event_flags.EvFlags.{EvFlags}
-use Rattle.kq_model.specs.Bits.{asks}
+use Rattle.kq_model.specs.Bits.{asks, clear, dispatch, eof, oneshot}
 use Rattle.kq_model.specs.FlagNames.{flag_table}
 use Rattle.kq_model.specs.Names.{names_of}
 use Rattle.kq_model.specs.Spelling.{flags_data}
@@ -93,10 +92,27 @@ names_bytes-some (row ∷ rows) = omega arith
 pub names_bytes-all : (items : List (Flag EvFlags)) → rows_of items ≡ flag_table → names_bytes (rows_of items) ≡ 88
 names_bytes-all items table = ap names_bytes table
 
--- where no flag is set, there is no name
-unset : (flags : EvFlags) (n : ℕ) → flags.0 ≡ n → n ≡ 0 → names_text flags false flag_table ≡ 93 ∷ []
-unfolding names_text
-unset flags n is zero = rw (is, zero) refl
+-- the list of the names of flags that are known
+flags_text-of : (n : ℕ) (flags : EvFlags) (text : List ℕ) → compact_text (flags_data (record { 0 = n })) ≡ text → flags.0 ≡ n
+    → text ≡ compact_text (flags_data flags)
+flags_text-of n flags text is bits = subst (λ k. text ≡ compact_text (flags_data (record { 0 = k }))) (sym bits) (sym is)
 
-pub no_names : (flags : EvFlags) → eqb flags.0 0 ≡ true → compact_text (flags_data flags) ≡ 91 ∷ 93 ∷ []
-no_names flags none = flags_text flags ∙ ap (λ rest. 91 ∷ rest) (unset flags flags.0 refl (eqb-true flags.0 0 none))
+pub no_names : (flags : EvFlags) → flags.0 ≡ 0 → codes "[]" ≡ compact_text (flags_data flags)
+unfolding flags_data names_of
+no_names flags bits = flags_text-of 0 flags (codes "[]") refl bits
+
+pub clear_name : (flags : EvFlags) → flags.0 ≡ clear → codes "[\"CLEAR\"]" ≡ compact_text (flags_data flags)
+unfolding flags_data names_of escape_byte
+clear_name flags bits = flags_text-of clear flags (codes "[\"CLEAR\"]") refl bits
+
+pub eof_name : (flags : EvFlags) → flags.0 ≡ eof → codes "[\"EOF\"]" ≡ compact_text (flags_data flags)
+unfolding flags_data names_of escape_byte
+eof_name flags bits = flags_text-of eof flags (codes "[\"EOF\"]") refl bits
+
+pub oneshot_name : (flags : EvFlags) → flags.0 ≡ oneshot → codes "[\"ONESHOT\"]" ≡ compact_text (flags_data flags)
+unfolding flags_data names_of escape_byte
+oneshot_name flags bits = flags_text-of oneshot flags (codes "[\"ONESHOT\"]") refl bits
+
+pub dispatch_name : (flags : EvFlags) → flags.0 ≡ dispatch → codes "[\"DISPATCH\"]" ≡ compact_text (flags_data flags)
+unfolding flags_data names_of escape_byte
+dispatch_name flags bits = flags_text-of dispatch flags (codes "[\"DISPATCH\"]") refl bits

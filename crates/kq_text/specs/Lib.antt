@@ -2,3 +2,4 @@ pub mod Adds
 pub mod FlagText
 pub mod Room
 pub mod Output
+pub mod Writes

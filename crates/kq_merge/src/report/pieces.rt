@@ -1,50 +1,59 @@
 //! The lines of rows in pieces, whose memory is there before they are made.
 
-ghost use Rattle.std.specs.Prelude.{◌≡◌, ◌≤◌, ◌<◌, ◌++◌, drop, IfOk, length, take, vec_capacity};
+ghost use Rattle.std.specs.Prelude.{◌≡◌, ◌≤◌, ◌<◌, ◌++◌, drop, IfOk, length, take};
 ghost use Rattle.kq_model.specs.Report.{row_lines};
-ghost use Rattle.kq_text.specs.Adds.{Adds};
-ghost use Rattle.kq_text.specs.Room.{HasRoom};
 ghost use Rattle.kq_merge.specs.AtPlaces.{present};
 ghost use Rattle.kq_merge.specs.Bounds.{AreWithin, lines_bound};
 
 use super::bound::line_bound;
-use super::line::push_reply;
+use super::line::write_reply_at;
 use kq_model::{Memory, Row};
 use std::alloc::Global;
 
 /// How many bytes the lines of a piece have at most, where no line has more.
 pub const PIECE_BYTES: u128 = 1 << 18;
 
-/// A run of slots, from one place to another, and a buffer for the lines of their rows.
+/// A run of slots, from one place to another, and a buffer for the lines of their rows. So many bytes of the buffer,
+/// from the first, are lines.
 #[derive(Drop)]
 pub struct Piece {
     pub start: usize,
     pub end: usize,
-    pub text: Vec<u8>,
+    pub buffer: Vec<u8>,
+    pub used: usize,
+    ghost within: { used ≤ length buffer.items },
 }
 
 impl Piece {
-    ghost use Rattle.kq_merge.specs.Pieces.{IsFilled, IsReady, run_of};
+    ghost use Rattle.kq_merge.specs.Pieces.{IsFilled, IsReady, lines_in, run_of};
 
     /// No slot yet, and room for so many bytes.
     pub fn new(alloc: Global, bytes: usize) -> Result<Self, Memory>
-        ensures { IfOk result (λ piece. bytes ≤ vec_capacity piece.text) }
+        ensures { IfOk result (λ piece. bytes ≤ length piece.buffer.items) }
     {
-        let text = Vec::with_capacity(alloc, bytes)?;
+        let buffer = Vec::from_elem(alloc, 0, bytes)?;
         Ok(Piece {
             start: 0,
             end: 0,
-            text,
+            buffer,
+            used: 0,
         })
+    }
+
+    /// The lines.
+    pub fn lines(&self) -> &[u8]
+        ensures { result.now ≡ lines_in self.now }
+    {
+        &self.buffer[..self.used]
     }
 
     /// Takes a run of these slots that begins at a place, the lines of which have so many bytes at most. Where it ends
     /// is returned.
     pub fn take_run(&mut self, slots: &[Option<&Row>], start: usize, bytes: usize) -> usize
-        requires room { bytes ≤ vec_capacity self.old.text }
+        requires room { bytes ≤ length self.old.buffer.items }
         requires start { start ≤ length slots.now }
         ensures ready { IsReady slots.now self.new }
-        ensures text { self.new.text ≡ self.old.text }
+        ensures buffer { self.new.buffer ≡ self.old.buffer }
         ensures forth { start ≤ result }
         ensures within { result ≤ length slots.now }
         ensures cut { drop start slots.now ≡ run_of slots.now self.new ++ drop result slots.now }
@@ -60,8 +69,7 @@ impl Piece {
         requires { IsReady slots.now self.old }
         ensures { IsFilled slots.now self.old self.new }
     {
-        self.text.clear();
-        push_rows(&mut self.text, &slots[self.start..self.end]);
+        self.used = write_rows(self.buffer.as_mut_slice(), &slots[self.start..self.end]);
     }
 }
 
@@ -83,15 +91,17 @@ fn run_len(slots: &[Option<&Row>], bytes: usize) -> usize
     slots.len()
 }
 
-/// Adds the lines of the rows in these slots, for which there is room.
-fn push_rows(out: &mut Vec<u8>, slots: &[Option<&Row>])
-    requires { HasRoom out.old (lines_bound (present slots.now)) }
-    ensures text { Adds out.old.items (row_lines (present slots.now)) out.new.items }
-    ensures capacity { vec_capacity out.old ≤ vec_capacity out.new }
+/// Writes the lines of the rows in these slots over bytes that are there. Where they end is returned.
+fn write_rows(out: &mut [u8], slots: &[Option<&Row>]) -> usize
+    requires { lines_bound (present slots.now) ≤ length out.old }
+    ensures text { take result out.new ≡ row_lines (present slots.now) }
+    ensures within { result ≤ length out.new }
 {
+    let mut end = 0;
     for slot in slots {
         if let Some(row) = slot {
-            push_reply(out, row.at, &row.reply);
+            end = write_reply_at(out, end, row.at, &row.reply);
         }
     }
+    end
 }

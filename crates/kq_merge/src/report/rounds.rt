@@ -98,7 +98,7 @@ fn write_texts<W: Write>(pieces: &[Piece], out: &mut W) -> Result<(), Unwritten>
     ensures error { IfErr result (λ e. e ≡ Unwritten.Write) }
 {
     for piece in pieces {
-        write_out(piece.text.as_slice(), out)?;
+        write_out(piece.lines(), out)?;
     }
     Ok(())
 }

@@ -1,5 +1,6 @@
 -- One run more.
-use Rattle.std.proofs.Common.{◌∙◌, ◌++◌, ◌<◌, ◌≤◌, ap, drop, length, sym, subst, take, arith, vec_capacity}
+use Rattle.std.proofs.Common.{◌∙◌, ◌++◌, ◌<◌, ◌≤◌, ap, drop, length, sym, subst, take, arith, ℕ}
+use Rattle.std.specs.Global.{Vec}
 use Rattle.std.proofs.lemmas.List.{take_more_set}
 use Rattle.std.proofs.lemmas.List.Elements.{All-get_or, All-push, All-set}
 use Rattle.std.specs.List.{All}
@@ -19,11 +20,11 @@ loop-piece-preserved c =
     let so_far = c.loop-piece.invariant in
     let lt : i < length pieces = omega (arith, c.loop-piece-test.true, c.loop-piece.auto.pieces) in
     let next = sym (take_more_set pieces i piece lt) in
-    let large = All-get_or (λ (p : Piece). bytes ≤ vec_capacity p.text) pieces i c.piece-item.result lt so_far.room in
-    let room : bytes ≤ vec_capacity piece.text = subst (λ t. bytes ≤ vec_capacity t) (sym taken.text) large in
+    let large = All-get_or (λ (p : Piece). bytes ≤ length p.buffer.items) pieces i c.piece-item.result lt so_far.room in
+    let room : bytes ≤ length piece.buffer.items = subst (λ (b : Vec ℕ). bytes ≤ length b.items) (sym taken.buffer) large in
     record {
       ready = subst (All (IsReady slots)) next (All-push (IsReady slots) (take i pieces) piece so_far.ready taken.ready);
-      room = All-set (λ (p : Piece). bytes ≤ vec_capacity p.text) pieces i piece room so_far.room;
+      room = All-set (λ (p : Piece). bytes ≤ length p.buffer.items) pieces i piece room so_far.room;
       forth = omega (arith, so_far.forth, taken.forth);
       within = taken.within;
       cut = cut_more slots c.args.start c.loop-piece.end c.take_run-end.result (take i pieces) piece so_far.cut taken.cut
