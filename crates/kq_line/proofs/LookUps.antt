@@ -1,5 +1,5 @@
 -- A piece that was found, by its type.
-use Rattle.std.proofs.Common.{◌≡◌, ℕ, ℤ, pos, negsuc, ◌^◌, ◌<◌, Bool, true, List, length, bytes_eq, Option, Some, None, IfSome, option_and_then, Result, Ok, Err, Bor, refl, sym, ap, ◌∙◌, subst, lt-ltb}
+use Rattle.std.proofs.Common.{◌≡◌, ℕ, ℤ, pos, negsuc, ◌^◌, ◌<◌, Bool, true, List, length, Option, Some, None, IfSome, option_and_then, Result, Ok, Err, Bor, refl, sym, ap, ◌∙◌, subst, lt-ltb}
 use Rattle.std.specs.Option.{is_some}
 use Rattle.std.specs.Result.{OkIff, result_ok}
 use Rattle.serde_json.specs.Data.{Data, Members, negative, number, object, unsigned}
@@ -18,7 +18,6 @@ use Rattle.kq_line.specs.declared.found.Found.{Found}
 use Rattle.kq_line.specs.declared.piece.Piece.{Piece}
 use Rattle.kq_line.specs.declared.piece.Piece.TheVariants.{Number, Below, Name, Changes}
 use Rattle.kq_line.specs.Shows.{Agree, Holds, Shows, piece_in}
-use Rattle.kq_line.proofs.Letters.{same_name}
 use Rattle.kq_line.specs.Typed.{AreChanges, AreFlags, IsFilter, IsI64OrZero, IsMode, IsNote, IsSide, IsText, IsU32, IsU32OrZero, IsU64, IsU64OrZero}
 
 -- ---- the value of a member that was found
@@ -170,12 +169,12 @@ width_there found ms n shows is = is ∙ (shows found.changes.items (λ has. ref
 
 -- ---- a name that is known
 
-pub known_alike : {A : Type 0} (named : List ℕ → Option A) (name other : List ℕ) (a : A) (b : Bool) → b ≡ true → b ≡ bytes_eq name other
+pub known_alike : {A : Type 0} (named : List ℕ → Option A) (name other : List ℕ) (a : A) (b : Bool) → b ≡ true → (b ≡ true → name ≡ other)
     → named other ≡ Some a → named name ≡ Some a
-known_alike named name other a b holds e known = ap named (same_name b name other holds e) ∙ known
+known_alike named name other a b holds same known = ap named (same holds) ∙ known
 
-pub named_alike : (name other : List ℕ) (filter : Filter) (b : Bool) → b ≡ true → b ≡ bytes_eq name other → filter_named other ≡ Some filter → filter_named name ≡ Some filter
-named_alike name other filter b holds e known = ap filter_named (same_name b name other holds e) ∙ known
+pub named_alike : (name other : List ℕ) (filter : Filter) (b : Bool) → b ≡ true → (b ≡ true → name ≡ other) → filter_named other ≡ Some filter → filter_named name ≡ Some filter
+named_alike name other filter b holds same known = ap filter_named (same holds) ∙ known
 
 -- ---- what a conversion gave
 

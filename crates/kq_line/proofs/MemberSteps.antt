@@ -2,8 +2,8 @@
 use Rattle.std.proofs.Common.{◌≡◌, ℕ, ◌<◌, ◌≤◌, ◌^◌, zero, suc, ℤ, pos, negsuc, true, List, [], ◌∷◌, ◌++◌, ◌-◌, length, take, drop, get_or, Option, Some, None, IfSome, Bor, option_map, decimal, inl, refl, sym, ap, ap₂, ◌∙◌, subst, arith}
 use Rattle.std.proofs.lemmas.Bool.{and_parts, ltb-true}
 use Rattle.std.proofs.lemmas.List.{length-drop, take_all}
-use Rattle.serde_json.specs.Data.{Data, Members, no_members, number, object, put, unsigned}
-use Rattle.kq_model.specs.Members.{i64_in}
+use Rattle.serde_json.specs.Data.{Data, Members, no_members, number, object, put, unsigned, string}
+use Rattle.kq_model.specs.Members.{i64_in, is_whole, moment_in}
 use Rattle.kq_model.specs.Reading.{json_of}
 use Rattle.kq_line.specs.Names.{IsName}
 use Rattle.kq_line.specs.Spells.{AreMembers, IsValue}
@@ -11,7 +11,8 @@ use Rattle.kq_line.specs.Usual.{AreMembersUpTo, IsKey, IsLineUpTo, IsNextKey, ar
 use Rattle.kq_line.proofs.LookUps.{i64_of}
 use Rattle.kq_line.proofs.Owed.{members_begin, members_end, members_more, members_next, members_value}
 use Rattle.kq_line.proofs.Parts.{nests_more, no_tail}
-use Rattle.kq_line.proofs.Scalar.{below_value, number_value}
+use Rattle.kq_line.proofs.Scalar.{below_value, name_value, number_value}
+use Rattle.kq_line.proofs.SignedLookUps.{moment_of}
 use Rattle.kq_line.proofs.Written.{line_read}
 
 -- ---- a text begins with a word
@@ -91,6 +92,14 @@ pub far_fits : (far : ℕ) (z : ℤ) → z ≡ negsuc far → i64_in (whole z) �
 unfolding i64_in
 far_fits far z same = subst (λ z. i64_in (whole z) ≡ Some z) (sym same) refl
 
+pub whole_is : (z : ℤ) → is_whole (whole z) ≡ true
+unfolding is_whole
+whole_is (pos n) = refl
+whole_is (negsuc n) = refl
+
+pub moment_fits : (n : ℕ) (z : ℤ) → n < 2 ^ 63 → z ≡ pos n → moment_in (whole z) ≡ Some z
+moment_fits n z fits same = subst (λ z. moment_in (whole z) ≡ Some z) (sym same) (moment_of n fits)
+
 -- ---- what the code found
 
 abbrev pub Read : Type 0 → Type 0
@@ -101,12 +110,17 @@ pub number_read : (text : List ℕ) (r : Option (Read ℕ)) → IfSome r (λ r. 
 number_read text None cut fits = tt
 number_read text (Some r) cut fits = number_value text r.1.now r.0 fits cut
 
-pub line_number : (text value name : List ℕ) (r : Option (Read ℕ)) → are_letters name ≡ true → IsNextKey text name value
-    → IfSome r (λ r. IsValue 0 value r.1.now (number (unsigned r.0)))
-    → IfSome r (λ r. (line : List ℕ) (ms : Members) → IsLineUpTo line text ms → IsLineUpTo line r.1.now (put name (number (unsigned r.0)) ms))
-line_number text value name None letters key is = tt
-line_number text value name (Some r) letters key is = λ line ms up.
-    line_value line text value r.1.now name ms (number (unsigned r.0)) letters up key (nests_more 0 3 value r.1.now _ (omega arith) is)
+pub name_read : (text : List ℕ) (r : Option (Read (Bor (List ℕ)))) → IfSome r (λ r. text ≡ 34 ∷ (r.0.now ++ 34 ∷ r.1.now)) → IfSome r (λ r. IsName r.0.now)
+    → IfSome r (λ r. IsValue 0 text r.1.now (string r.0.now))
+name_read text None cut letters = tt
+name_read text (Some r) cut letters = name_value text r.0.now r.1.now letters cut
+
+pub line_member : {A : Type 0} (data_of : A → Data) (text value name : List ℕ) (r : Option (Read A)) → are_letters name ≡ true
+    → IsNextKey text name value → IfSome r (λ r. IsValue 0 value r.1.now (data_of r.0))
+    → IfSome r (λ r. (line : List ℕ) (ms : Members) → IsLineUpTo line text ms → IsLineUpTo line r.1.now (put name (data_of r.0) ms))
+line_member data_of text value name None letters key is = tt
+line_member data_of text value name (Some r) letters key is = λ line ms up.
+    line_value line text value r.1.now name ms (data_of r.0) letters up key (nests_more 0 3 value r.1.now (data_of r.0) (omega arith) is)
 
 pub change_number : {A : Type 0} (missing : A) (data_of : A → Data) (text value name : List ℕ) (r : Option (Read A)) → are_letters name ≡ true
     → IsNextKey text name value → IfSome r (λ r. IsValue 0 value r.1.now (data_of r.0))

@@ -28,7 +28,7 @@ i64_far found name n (Some z) same is = λ ms shows.
     let at : get_member name ms ≡ Some (number (negative (negsuc n))) = below_there found ms name n shows is in
     record { whole = ap (required is_whole) at; value = ap (option_and_then i64_in) at ∙ ap Some (sym same) }
 
-moment_of : (n : ℕ) → n < 2 ^ 63 → moment_in (number (unsigned n)) ≡ Some (pos n)
+pub moment_of : (n : ℕ) → n < 2 ^ 63 → moment_in (number (unsigned n)) ≡ Some (pos n)
 unfolding moment_in from_zero
 moment_of n fits =
     ap (option_and_then from_zero) (i64_of n fits) ∙ ap (λ b. cond b None (Some (pos n))) (le-ltb n 0 (omega arith))

@@ -1,5 +1,5 @@
 -- A change whose members stand where programs write them.
-use Rattle.std.proofs.Common.{◌≡◌, ℕ, ℤ, pos, negsuc, ◌+◌, ◌<◌, ◌^◌, List, codes, true, Option, Some, None, option_map, option_and_then, refl, sym, ap, ◌∙◌, subst}
+use Rattle.std.proofs.Common.{◌≡◌, ℕ, ℤ, pos, ◌+◌, ◌<◌, ◌^◌, List, codes, true, Option, Some, None, option_map, option_and_then, refl, sym, ap, ◌∙◌, subst}
 use Rattle.std.specs.Option.{is_some}
 use Rattle.serde_json.specs.Data.{Data, Members, no_members, number, object, put, string, unsigned}
 use Rattle.serde_json.specs.Find.{get_member}
@@ -11,6 +11,7 @@ use Rattle.kq_line.specs.Typed.{IsI64OrZero, IsU32OrZero, IsU64OrZero}
 use Rattle.kq_line.specs.Usual.{put_if, value_or, whole}
 use Rattle.kq_line.proofs.KnownChange.{change_known}
 use Rattle.kq_line.proofs.LookUps.{filter_found, u32_of}
+use Rattle.kq_line.proofs.MemberSteps.{whole_is}
 
 abbrev pub first_three : ℕ → List ℕ → Data → Members
 first_three ident name flags =
@@ -65,11 +66,6 @@ u64_there : (ms : Members) (name : List ℕ) (o : Option ℕ) (n : ℕ) → get_
 unfolding optional is_whole or_else u64_in
 u64_there ms name None n at same = record { whole = ap (optional is_whole) at; value = ap (or_else 0 u64_in) at ∙ ap Some (sym same) }
 u64_there ms name (Some k) n at same = record { whole = ap (optional is_whole) at; value = ap (or_else 0 u64_in) at ∙ ap Some (sym same) }
-
-whole_is : (z : ℤ) → is_whole (whole z) ≡ true
-unfolding is_whole
-whole_is (pos n) = refl
-whole_is (negsuc n) = refl
 
 i64_there : (ms : Members) (name : List ℕ) (o : Option ℤ) (z : ℤ) → get_member name ms ≡ option_map whole o → z ≡ value_or (pos 0) o
     → i64_in (whole z) ≡ Some z → IsI64OrZero ms name z

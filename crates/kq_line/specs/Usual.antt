@@ -1,10 +1,14 @@
 -- Members that stand one behind the other, as far as they were read.
-use Rattle.std.specs.Prelude.{◌≡◌, ◌≤◌, ℕ, ℤ, pos, negsuc, List, [], ◌∷◌, ◌++◌, Bool, true, ◌&&◌, nat_lt, Option, Some, None}
+use Rattle.std.specs.Prelude.{◌≡◌, ◌≤◌, ℕ, ℤ, pos, negsuc, List, [], ◌∷◌, ◌++◌, Bool, true, ◌&&◌, codes, nat_lt, Option, Some, None, Ok}
 use Rattle.json.specs.Json as json
 use Rattle.json.specs.Spaced.{IsGap}
 use Rattle.json.specs.Tree as tree
-use Rattle.serde_json.specs.Data.{Data, Members, negative, number, put, unsigned}
+use Rattle.serde_json.specs.Data.{Data, Members, negative, no_members, number, put, string, unsigned}
 use Rattle.serde_json.specs.Read.{of_members}
+use Rattle.kq_model.specs.declared.event.Event.{Event}
+use Rattle.kq_model.specs.declared.record_kind.RecordKind.{RecordKind}
+use Rattle.kq_model.specs.Kinds.{kind_named}
+use Rattle.kq_model.specs.Reading.{event_of, json_of}
 use Rattle.kq_line.specs.Spells.{AreMembers, Spells}
 
 -- each is a small letter of ASCII
@@ -36,6 +40,18 @@ pub record IsLineUpTo (line rest : List ℕ) (ms : Members) : Type 0 where
   pub start : List ℕ
   pub brace : line ≡ 123 ∷ start
   pub members : AreMembersUpTo 3 start rest ms
+
+-- the name of a kind alone, and behind it the number of a process
+abbrev pub with_op : List ℕ → Members
+with_op op = put (codes "op") (string op) no_members
+
+abbrev pub with_pid : ℕ → List ℕ → Members
+with_pid pid op = put (codes "pid") (number (unsigned pid)) (with_op op)
+
+-- a line that names this kind and has these members up to `rest` is the event
+abbrev pub IsEventFrom : RecordKind → (List ℕ → Members) → List ℕ → Event → Type 0
+IsEventFrom kind members rest e =
+    (line op : List ℕ) → kind_named op ≡ Some kind → IsLineUpTo line rest (members op) → event_of (json_of line) ≡ Ok e
 
 -- the members, and this one, if it is there
 abbrev pub put_if : List ℕ → Option Data → Members → Members

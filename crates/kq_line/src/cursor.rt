@@ -1,6 +1,6 @@
 //! What is left of a line is a slice that gets shorter from the front: no index, and no copy.
 
-ghost use Rattle.std.specs.Prelude.{◌≡◌, ◌<◌, ◌≤◌, ◌∷◌, ◌++◌, List, ℕ, IfSome, bytes_eq, length};
+ghost use Rattle.std.specs.Prelude.{◌≡◌, ◌<◌, ◌≤◌, ◌∷◌, ◌++◌, List, ℕ, IfSome, IsTrue, bytes_eq, length};
 ghost use Rattle.json.specs.Spaced.{IsGap};
 
 /// The text behind this byte, where it begins with the byte.
@@ -27,14 +27,6 @@ pub fn without_blank<'a>(text: &'a [u8]) -> &'a [u8]
     }
 }
 
-/// Whether two names are one.
-#[inline(always)]
-pub fn is(name: &[u8], other: &[u8]) -> bool
-    ensures { result ≡ bytes_eq name.now other.now }
-{
-    name == other
-}
-
 /// The text behind this word, where it begins with it.
 #[inline(always)]
 pub fn behind_word<'a>(text: &'a [u8], word: &[u8]) -> Option<&'a [u8]>
@@ -50,4 +42,23 @@ pub fn behind_word<'a>(text: &'a [u8], word: &[u8]) -> Option<&'a [u8]>
         }
     }
     Some(&text[word.len()..])
+}
+
+/// Whether two names are one.
+#[inline(always)]
+pub fn same(name: &[u8], other: &[u8]) -> bool
+    ensures { result ≡ bytes_eq name.now other.now }
+{
+    name == other
+}
+
+/// Whether a name is this word.
+#[inline(always)]
+pub fn is(name: &[u8], word: &[u8]) -> bool
+    ensures { IsTrue result → name.now ≡ word.now }
+{
+    match behind_word(name, word) {
+        Some(rest) => rest.is_empty(),
+        None => false,
+    }
 }

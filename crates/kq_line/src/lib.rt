@@ -24,6 +24,7 @@ mod scalars;
 mod signal_records;
 mod usual;
 mod usual_change;
-mod usual_numbers;
+mod usual_members;
+mod usual_records;
 
 pub use line_reader::LineReader;

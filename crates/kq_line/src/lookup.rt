@@ -10,7 +10,7 @@ ghost use Rattle.kq_line.specs.Shows.{Shows, piece_in};
 ghost use Rattle.kq_line.specs.Typed.{AreChanges, AreFlags, IsFilter, IsI64, IsI64OrZero, IsMode, IsMoment, IsNote};
 ghost use Rattle.kq_line.specs.Typed.{IsSide, IsText, IsTruth, IsU32, IsU32OrZero, IsU64, IsU64OrZero};
 
-use crate::cursor::is;
+use crate::cursor::{is, same};
 use crate::found::Found;
 use crate::numbers::{below, signed};
 use crate::piece::Piece;
@@ -23,7 +23,7 @@ impl<'a> Found<'a> {
         ensures { result ≡ piece_in self.now.members.items name.now }
     {
         for member in self.members.as_slice() {
-            if is(member.name, name) {
+            if same(member.name, name) {
                 return Some(member.piece);
             }
         }
@@ -250,7 +250,7 @@ fn side_named(name: &[u8]) -> Option<Side>
 }
 
 /// The mode of this name.
-fn mode_named(name: &[u8]) -> Option<Mode>
+pub fn mode_named(name: &[u8]) -> Option<Mode>
     ensures { IfSome result (λ mode. mode_named name.now ≡ Some mode) }
 {
     if is(name, b"r") {
@@ -265,7 +265,7 @@ fn mode_named(name: &[u8]) -> Option<Mode>
 }
 
 /// The note of this name.
-fn note_named(name: &[u8]) -> Option<Note>
+pub fn note_named(name: &[u8]) -> Option<Note>
     ensures { IfSome result (λ note. note_named name.now ≡ Some note) }
 {
     if is(name, b"attrib") {

@@ -7,6 +7,9 @@
 //!   `proofs/kinds/` for the branch there;
 //! - for a member of a type that is new, a look-up in `lookup.rt`, what it says in `specs/Typed.antt`, and a lemma in
 //!   `proofs/LookUps.antt`. A kind of more than `MOST_MEMBERS` members needs that number raised.
+//!
+//! That is enough for any kind. One of which traces have many records is worth a function in `usual_records.rt` too,
+//! which picks the members where programs write them.
 
 ghost use Rattle.std.specs.Prelude.{◌≡◌, IfSome, Some, Ok};
 ghost use Rattle.serde_json.specs.Data.{Members, object};

@@ -1,10 +1,9 @@
 //! A record whose members stand in the order in which programs write them.
 
-ghost use Rattle.std.specs.Prelude.{◌≡◌, ℕ, List, IfSome, Ok, Some, codes};
-ghost use Rattle.serde_json.specs.Data.{Members, member, no_members, number, object, put, string, unsigned};
+ghost use Rattle.std.specs.Prelude.{◌≡◌, ℕ, List, IfSome, Ok, Some};
 ghost use Rattle.kq_model.specs.Kinds.{kind_named};
 ghost use Rattle.kq_model.specs.Reading.{event_of, json_of};
-ghost use Rattle.kq_line.specs.Usual.{IsLineUpTo};
+ghost use Rattle.kq_line.specs.Usual.{IsEventFrom, IsLineUpTo, with_op, with_pid};
 
 use crate::changes::change_list;
 use crate::cursor::behind;
@@ -12,46 +11,17 @@ use crate::found::Found;
 use crate::keys::{behind_key, behind_next_key};
 use crate::kinds::kind_named;
 use crate::names::quoted;
-use crate::usual_numbers::next_u32;
+use crate::usual_members::{ends, next_u32};
+use crate::usual_records::{clock, file, note, of_descriptor, of_process, truncate};
 use kq_model::{Event, RecordKind, Series};
 
 /// The kind of a record whose name comes first, and the text behind that.
 #[inline(always)]
 fn kind_first<'a>(line: &'a [u8]) -> Option<(RecordKind, &'a [u8])>
-    ensures { IfSome result (λ r. (op : List ℕ) × (kind_named op ≡ Some r.0)
-        × IsLineUpTo line.now r.1.now (put (codes "op") (string op) no_members)) }
+    ensures { IfSome result (λ r. (op : List ℕ) × (kind_named op ≡ Some r.0) × IsLineUpTo line.now r.1.now (with_op op)) }
 {
     let (name, rest) = quoted(behind_key(behind(line, b'{')?, b"op")?)?;
     Some((kind_named(name)?, rest))
-}
-
-/// Whether the line ends with the brace that comes next.
-#[inline(always)]
-fn ends(text: &[u8]) -> Option<()>
-    ensures { IfSome result (λ _. (line : List ℕ) (ms : Members) → IsLineUpTo line text.now ms
-        → json_of line ≡ Some (object ms)) }
-{
-    let tail = behind(text, b'}')?;
-    if tail.is_empty() { Some(()) } else { None }
-}
-
-/// The record of bytes that move, from behind its `pid`.
-#[inline(always)]
-fn of_bytes(kind: RecordKind, pid: u32, text: &[u8]) -> Option<Event>
-    ensures { IfSome result (λ e. (line op : List ℕ) → kind_named op ≡ Some kind
-        → IsLineUpTo line text.now (put (codes "pid") (number (unsigned pid)) (put (codes "op") (string op) no_members))
-        → event_of (json_of line) ≡ Ok e) }
-{
-    let (fd, rest) = next_u32(text, b"fd")?;
-    let (n, rest) = next_u32(rest, b"n")?;
-    ends(rest)?;
-    match kind {
-        RecordKind::Rx => Some(Event::Rx { pid, fd, n }),
-        RecordKind::Tx => Some(Event::Tx { pid, fd, n }),
-        RecordKind::Read => Some(Event::Read { pid, fd, n }),
-        RecordKind::Write => Some(Event::Write { pid, fd, n }),
-        _ => None,
-    }
 }
 
 /// The kevent call, from behind its `pid`. `found` and `change` are room for its changes.
@@ -62,9 +32,7 @@ fn kevent<'a>(
     found: &mut Found<'a>,
     change: &mut Found<'a>,
 ) -> Option<Event>
-    ensures { IfSome result (λ e. (line op : List ℕ) → kind_named op ≡ Some RecordKind.Kevent
-        → IsLineUpTo line text.now (put (codes "pid") (number (unsigned pid)) (put (codes "op") (string op) no_members))
-        → event_of (json_of line) ≡ Ok e) }
+    ensures { IfSome result (IsEventFrom RecordKind.Kevent (with_pid pid) text.now) }
 {
     let (fd, rest) = next_u32(text, b"fd")?;
     let items = behind(behind_next_key(rest, b"changes")?, b'[')?;
@@ -83,7 +51,30 @@ fn kevent<'a>(
     }
 }
 
-/// The record that a line is, where its members stand so. `found` and `change` are room for its changes.
+/// A record of a process, from behind its kind.
+#[inline(always)]
+fn by_process<'a>(
+    kind: RecordKind,
+    text: &'a [u8],
+    found: &mut Found<'a>,
+    change: &mut Found<'a>,
+) -> Option<Event>
+    ensures { IfSome result (IsEventFrom kind with_op text.now) }
+{
+    let (pid, rest) = next_u32(text, b"pid")?;
+    match kind {
+        RecordKind::Kevent => kevent(pid, rest, found, change),
+        RecordKind::Proc
+        | RecordKind::Exec
+        | RecordKind::Fork
+        | RecordKind::Exit
+        | RecordKind::Sig => { of_process(kind, pid, rest) }
+        _ => of_descriptor(kind, pid, rest),
+    }
+}
+
+/// The record that a line is, where its members stand so. `found` and `change` are room for its changes. A kind of
+/// which a trace has few records may be left out.
 pub fn usual_event<'a>(
     line: &'a [u8],
     found: &mut Found<'a>,
@@ -92,12 +83,11 @@ pub fn usual_event<'a>(
     ensures { IfSome result (λ e. event_of (json_of line.now) ≡ Ok e) }
 {
     let (kind, rest) = kind_first(line)?;
-    let (pid, rest) = next_u32(rest, b"pid")?;
     match kind {
-        RecordKind::Rx | RecordKind::Tx | RecordKind::Read | RecordKind::Write => {
-            of_bytes(kind, pid, rest)
-        }
-        RecordKind::Kevent => kevent(pid, rest, found, change),
-        _ => None,
+        RecordKind::File => file(rest),
+        RecordKind::Truncate => truncate(rest),
+        RecordKind::Note => note(rest),
+        RecordKind::Clock => clock(rest),
+        _ => by_process(kind, rest, found, change),
     }
 }

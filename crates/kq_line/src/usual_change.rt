@@ -10,7 +10,7 @@ use crate::keys::{behind_key, behind_next_key};
 use crate::lookup::filter_named;
 use crate::names::quoted;
 use crate::numbers::number;
-use crate::usual_numbers::{next_i64_or_zero, next_u32_or_zero, next_u64_or_zero};
+use crate::usual_members::{next_i64_or_zero, next_u32_or_zero, next_u64_or_zero};
 use kq_model::{Change, EvFlags, Filter};
 
 /// The change with these parts.

@@ -8,13 +8,13 @@ pub loop-member-preserved : goal.loop-member-preserved
 loop-member-preserved c =
     c.loop-member.invariant
     ∙ not_here c.as_slice-member-items.result.now c.loop-member.member-index _ c.args.name.now
-    c.loop-member-test.true (sym c.is.ensures ∙ c.if-is.false)
+    c.loop-member-test.true (sym c.same.ensures ∙ c.if-same.false)
 
-pub returns-then-is : goal.returns-then-is
-returns-then-is c =
+pub returns-then-same : goal.returns-then-same
+returns-then-same c =
     let name = c.args.name.now in
     sym (ap (λ ms. piece_in ms name) (sym c.as_slice-member-items.ensures.value) ∙ c.loop-member.invariant
-    ∙ found_here c.as_slice-member-items.result.now c.loop-member.member-index _ name c.loop-member-test.true (sym c.is.ensures ∙ c.if-is.true))
+    ∙ found_here c.as_slice-member-items.result.now c.loop-member.member-index _ name c.loop-member-test.true (sym c.same.ensures ∙ c.if-same.true))
 
 pub returns : goal.returns
 returns c =
