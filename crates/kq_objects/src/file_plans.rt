@@ -100,7 +100,7 @@ impl Objects {
         let Some(size) = file_amount(size) else {
             return Err(PlanError::Why(Why::TooMany));
         };
-        self.reserve_file()?;
+        self.reserve_file(number)?;
         let told = FileRecord::Made { size };
         let doing = Doing::ToFile { file: number, told };
         Ok(Plan::of_one(self.alloc, doing, Target::File(number), None)?)
