@@ -1,6 +1,5 @@
 -- Lists of things noted that can be carried out.
 use Rattle.std.proofs.Common.{◌≡◌, ◌∙◌, ◌==◌, ℕ, ◌+◌, ◌<◌, ◌≤◌, Bool, true, false, List, [], ◌∷◌, Option, None, Some, refl, sym, ap, cond, subst, arith, eqb-true, eq-eqb, if◌then◌else◌}
-use Rattle.std.specs.HashMap.{spare}
 use Rattle.kq_model.specs.declared.mode.Mode.{Mode}
 use Rattle.kq_model.specs.declared.doing.DescriptionRecord.{DescriptionRecord}
 use Rattle.kq_model.specs.declared.doing.DescriptionRecord.TheVariants as description
@@ -101,7 +100,7 @@ ready-new_pipe o place cap none room = record {
   room = record { sockets = omega arith; pipes = omega arith; descriptions = omega arith; files = omega arith; lists = λ number. omega arith };
 }
 
-pub ready-new_file : (o : Objects) (number size : ℕ) → file_at o.files number ≡ None → size ≤ most_file_size → 0 < spare o.files.table
+pub ready-new_file : (o : Objects) (number size : ℕ) → file_at o.files number ≡ None → size ≤ most_file_size → 0 < room_in o.files.table
     → IsReady (ToFile number (file.Made size) ∷ []) o
 ready-new_file o number size none within room = record {
   fits = (subst (FitsFileAt (file.Made size)) (sym none) within, tt);

@@ -1,4 +1,4 @@
--- What descriptors name, as the code keeps it: under keys of a slab, and the keys by place.
+-- Objects as the code keeps them: under keys of a slab, and the keys by place.
 use Rattle.std.specs.Prelude.{◌≡◌, ◌==◌, ℕ, ◌-◌, min, cond, Option, None, Some}
 use Rattle.std.specs.HashMap.{spare}
 use Rattle.slab.specs.Slab as slab

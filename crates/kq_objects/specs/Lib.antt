@@ -4,4 +4,5 @@ pub mod ByPlace
 pub mod Kept
 pub mod Files
 pub mod Objects
+pub mod Plans
 pub mod Holding

@@ -1,6 +1,5 @@
 -- What contracts see of all objects, and what a plan needs to be carried out without memory.
 use Rattle.std.specs.Prelude.{◌≡◌, ℕ, ◌+◌, ◌≤◌, List, [], ◌∷◌, Result, Ok, Err, IsOk}
-use Rattle.std.specs.HashMap.{spare}
 use Rattle.kq_model.specs.declared.doing.Doing.{Doing}
 use Rattle.kq_model.specs.declared.doing.Doing.TheVariants.{ToSocket, ToPipe, ToDescription, ToFile}
 use Rattle.kq_model.specs.ObjectPlan.{ObjectPlan, Planned}
@@ -76,7 +75,7 @@ spare_room o = record {
   sockets = room_in o.sockets;
   pipes = room_in o.pipes;
   descriptions = room_in o.descriptions;
-  files = spare o.files.table;
+  files = room_in o.files.table;
   on_file = λ number. room_on number o.files;
 }
 

@@ -1,4 +1,4 @@
-ghost use Rattle.std.specs.Prelude.{◌≡◌, ℕ, ◌+◌, ◌≤◌, cond, ◌==◌, None, MatchOption, OnOk};
+ghost use Rattle.std.specs.Prelude.{◌≡◌, ℕ, ◌+◌, ◌≤◌, cond, ◌==◌, None, Some, MatchOption, OnOk};
 ghost use Rattle.std.specs.Option.{option_copied};
 ghost use Rattle.kq_model.specs.Objects.{told_at};
 ghost use Rattle.kq_objects.specs.ByPlace.{object_at, room_in, IsKeyOf};
@@ -9,22 +9,22 @@ use kq_model::Memory;
 use slab::Slab;
 use std::alloc::Global;
 
-/// An object, with the place of the record that made it.
+/// An object, with its place.
 #[derive(Drop)]
-struct Placed<T> {
+pub struct Placed<T> {
     place: u64,
-    object: T,
+    pub(crate) object: T,
 }
 
-/// The sockets, the pipes or the descriptions that descriptors name, by the place of the record that made them. Each
-/// has its place beside it, so that `keys` may be wrong about places of which there is none.
+/// Objects by their places: sockets, pipes and descriptions by the place of the record that made them, files by their
+/// numbers. Each has its place beside it, so that `keys` may be wrong about places of which there is none.
 #[derive(Drop)]
 pub struct ByPlace<T> {
     keys: Keys,
-    slab: Slab<Placed<T>>,
+    pub(crate) slab: Slab<Placed<T>>,
 }
 
-impl<T: Object> ByPlace<T> {
+impl<T: Drop> ByPlace<T> {
     pub fn new(alloc: Global) -> Self
         ensures { (q : ℕ) → object_at result q ≡ None }
     {
@@ -45,7 +45,7 @@ impl<T: Object> ByPlace<T> {
     }
 
     /// The key of the object of a place.
-    fn key_of(&self, place: u64) -> Option<usize>
+    pub fn key_of(&self, place: u64) -> Option<usize>
         ensures { MatchOption result (object_at self.now place ≡ None) (IsKeyOf place self.now) }
     {
         let key = self.keys.get(place)?;
@@ -64,6 +64,28 @@ impl<T: Object> ByPlace<T> {
         }
     }
 
+    /// Puts an object at a place.
+    pub fn put(&mut self, place: u64, object: T)
+        requires { 1 ≤ room_in self.old }
+        ensures put { (q : ℕ) → object_at self.new q ≡ cond (place == q) (Some object) (object_at self.old q) }
+        ensures room { room_in self.old ≤ room_in self.new + 1 }
+    {
+        let key = self.slab.insert_reserved(Placed { place, object });
+        self.keys.put(place, key);
+    }
+
+    /// Takes out the object of a place, which stands under this key.
+    fn remove(&mut self, place: u64, key: usize)
+        requires { IsKeyOf place self.old key }
+        ensures removed { (q : ℕ) → object_at self.new q ≡ cond (place == q) None (object_at self.old q) }
+        ensures room { room_in self.old ≤ room_in self.new }
+    {
+        let _ = self.slab.try_remove(key);
+        self.keys.forget(place);
+    }
+}
+
+impl<T: Object> ByPlace<T> {
     /// Notes one more record of the object at a place, which is there from its first record until
     /// no descriptor names it any more.
     pub fn tell(&mut self, place: u64, told: T::Record)
@@ -95,18 +117,6 @@ impl<T: Object> ByPlace<T> {
             ≡ told_at T.book T.stays place told (object_at self.old) q }
         ensures room { room_in self.old ≤ room_in self.new + T.makes told }
     {
-        let object = T::first(told);
-        let key = self.slab.insert_reserved(Placed { place, object });
-        self.keys.put(place, key);
-    }
-
-    /// Takes out the object of a place, which stands under this key.
-    fn remove(&mut self, place: u64, key: usize)
-        requires { IsKeyOf place self.old key }
-        ensures removed { (q : ℕ) → object_at self.new q ≡ cond (place == q) None (object_at self.old q) }
-        ensures room { room_in self.old ≤ room_in self.new }
-    {
-        let _ = self.slab.try_remove(key);
-        self.keys.forget(place);
+        self.put(place, T::first(told));
     }
 }

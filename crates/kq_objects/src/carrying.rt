@@ -3,6 +3,7 @@ ghost use Rattle.std.specs.Prelude.{◌≡◌, List, ◌∷◌, []};
 ghost use Rattle.kq_model.specs.Objects.{Objects as Kept, listed, counted, quantities, done, all_done};
 ghost use Rattle.kq_model.specs.declared.doing.Doing.{Doing};
 ghost use Rattle.kq_objects.specs.Objects.{objects_of, spare_room, Fits, IsReady, IsRoomFor};
+ghost use Rattle.kq_objects.specs.Plans.{in_turn};
 
 use crate::Plan;
 use crate::objects::Objects;
@@ -26,8 +27,23 @@ impl Objects {
         ensures done { objects_of self.new ≡ all_done plan.doings (objects_of self.old) }
         ensures hints { result.items ≡ plan.hints }
     {
-        self.note_all(plan.doings());
-        plan.into_hints()
+        let Plan { first, rest, hints } = plan;
+        self.note_in_turn(first, &rest);
+        hints
+    }
+
+    #[tactic(auto, unfolding(kq_model::specs::Objects::all_done))]
+    fn note_in_turn(&mut self, first: Option<Doing>, rest: &[Doing])
+        requires { IsReady (in_turn first rest.now) self.old }
+        ensures { objects_of self.new ≡ all_done (in_turn first rest.now) (objects_of self.old) }
+    {
+        match first {
+            Some(doing) => {
+                self.note(doing);
+                self.note_all(rest);
+            }
+            None => self.note_all(rest),
+        }
     }
 
     fn note_all(&mut self, doings: &[Doing])

@@ -1,8 +1,6 @@
 // The plans of the records about open file descriptions.
 ghost use Rattle.std.specs.Prelude.{◌≡◌, ◌∷◌, IfOk};
 ghost use Rattle.kq_model.specs.FilePlans.{plan_seek, read_file, write_file, grows, reached};
-ghost use Rattle.kq_model.specs.declared.doing.DescriptionRecord.TheVariants as description;
-ghost use Rattle.kq_model.specs.declared.doing.Doing.TheVariants.{ToDescription};
 ghost use Rattle.kq_objects.specs.ByPlace.{object_at};
 ghost use Rattle.kq_objects.specs.Objects.{objects_of, IsPlanned, IsReady};
 
@@ -73,22 +71,17 @@ impl Objects {
 
     /// What is noted of a file where so many bytes were written up to this end: of none, nothing.
     #[tactic(auto, unfolding(kq_model::specs::FilePlans::reached))]
-    fn written(&self, place: u64, number: u32, bytes: u32, end: u64) -> Result<Vec<Doing>, Memory>
-        ensures { IfOk result (λ doings.
-            doings.items ≡ ToDescription place (description.Moved bytes) ∷ reached number bytes end) }
+    fn reached(&self, number: u32, bytes: u32, end: u64) -> Result<Vec<Doing>, Memory>
+        ensures { IfOk result (λ doings. doings.items ≡ reached number bytes end) }
     {
-        let moved = Doing::ToDescription {
-            place,
-            told: DescriptionRecord::Moved { bytes },
-        };
         if bytes == 0 {
-            return Ok(vec![in self.alloc; moved]?);
+            return Ok(Vec::new(self.alloc));
         }
         let reached = Doing::ToFile {
             file: number,
             told: FileRecord::Reached { end },
         };
-        Ok(vec![in self.alloc; moved, reached]?)
+        Ok(vec![in self.alloc; reached]?)
     }
 
     #[tactic(auto, unfolding(kq_model::specs::FilePlans::write_file, kq_model::specs::FilePlans::written))]
@@ -113,7 +106,11 @@ impl Objects {
         };
         let bits = extending(NOTE_WRITE, grows(file.size(), bytes, end));
         let hints = hints_to(self.alloc, file.descriptions(), noted(number, bits))?;
-        let doings = self.written(place, number, bytes, end)?;
-        Ok(Plan::of(doings, hints))
+        let moved = Doing::ToDescription {
+            place,
+            told: DescriptionRecord::Moved { bytes },
+        };
+        let reached = self.reached(number, bytes, end)?;
+        Ok(Plan::of(Some(moved), reached, hints))
     }
 }

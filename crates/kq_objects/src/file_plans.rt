@@ -10,6 +10,7 @@ ghost use Rattle.kq_objects.specs.ByPlace.{object_at};
 ghost use Rattle.kq_objects.specs.Files.{file_at};
 ghost use Rattle.kq_objects.specs.Kept.{FileKept};
 ghost use Rattle.kq_objects.specs.Objects.{objects_of, IsPlanned, IsReady};
+ghost use Rattle.kq_objects.specs.Plans.{in_turn};
 
 use crate::file::File;
 use crate::note_bits::bit_of;
@@ -63,7 +64,7 @@ pub fn hints_to(
 ) -> Result<Vec<(Target, Hint)>, Memory>
     ensures { IfOk result (λ hints. hints.items ≡ readable_each descriptions.now ++ last ∷ []) }
 {
-    let mut hints = Vec::new(alloc);
+    let mut hints = Vec::with_capacity(alloc, descriptions.len() + 1)?;
     for place in descriptions {
         hints.push((Target::Open(*place), Hint::Readable))?;
     }
@@ -73,15 +74,15 @@ pub fn hints_to(
 
 /// What is noted of a file: a deletion, and of all else nothing.
 #[tactic(auto, unfolding(kq_model::specs::FilePlans::deletion))]
-fn deletion(alloc: Global, number: u32, note: Note) -> Result<Vec<Doing>, Memory>
-    ensures { IfOk result (λ doings. doings.items ≡ deletion number note) }
+fn deletion(number: u32, note: Note) -> Option<Doing>
+    ensures { in_turn result [] ≡ deletion number note }
 {
     match note {
-        Note::Delete => {
-            let told = FileRecord::Deleted;
-            Ok(vec![in alloc; Doing::ToFile { file: number, told }]?)
-        }
-        Note::Attrib | Note::Link | Note::Rename | Note::Revoke => Ok(Vec::new(alloc)),
+        Note::Delete => Some(Doing::ToFile {
+            file: number,
+            told: FileRecord::Deleted,
+        }),
+        Note::Attrib | Note::Link | Note::Rename | Note::Revoke => None,
     }
 }
 
@@ -99,7 +100,7 @@ impl Objects {
         let Some(size) = file_amount(size) else {
             return Err(PlanError::Why(Why::TooMany));
         };
-        self.reserve_file()?;
+        self.reserve_file(number)?;
         let told = FileRecord::Made { size };
         let doing = Doing::ToFile { file: number, told };
         Ok(Plan::of_one(self.alloc, doing, Target::File(number), None)?)
@@ -158,9 +159,11 @@ impl Objects {
         };
         let last = noted(number, extending(NOTE_ATTRIB, file.size() < size));
         let hints = hints_to(self.alloc, file.descriptions(), last)?;
-        let told = FileRecord::Sized { size };
-        let doings = vec![in self.alloc; Doing::ToFile { file: number, told }].map_err(|_| Memory)?;
-        Ok(Plan::of(doings, hints))
+        let sized = Doing::ToFile {
+            file: number,
+            told: FileRecord::Sized { size },
+        };
+        Ok(Plan::of(Some(sized), Vec::new(self.alloc), hints))
     }
 
     #[tactic(auto, unfolding(kq_model::specs::FilePlans::plan_note, kq_model::specs::FilePlans::said))]
@@ -171,8 +174,7 @@ impl Objects {
         let Some(_present) = self.present(number) else {
             return Err(PlanError::Why(Why::Absent));
         };
-        let doings = deletion(self.alloc, number, note)?;
         let hints = vec![in self.alloc; noted(number, bit_of(note))].map_err(|_| Memory)?;
-        Ok(Plan::of(doings, hints))
+        Ok(Plan::of(deletion(number, note), Vec::new(self.alloc), hints))
     }
 }

@@ -88,8 +88,18 @@ impl Keys {
     {
         match self.listed(place) {
             Some(key) => Some(key),
-            None => self.far.get(&place).copied(),
+            None => self.far_key(place),
         }
+    }
+
+    /// The key that the map has.
+    fn far_key(&self, place: u64) -> Option<usize>
+        ensures { result ≡ get nat_eq self.now.far place }
+    {
+        if self.far.is_empty() {
+            return None;
+        }
+        self.far.get(&place).copied()
     }
 
     /// The key that the list tells.

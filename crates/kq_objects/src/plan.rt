@@ -1,5 +1,6 @@
-ghost use Rattle.std.specs.Prelude.{◌≡◌, [], ◌∷◌, IfOk};
+ghost use Rattle.std.specs.Prelude.{◌≡◌, [], ◌∷◌, Some, IfOk};
 ghost use Rattle.kq_model.specs.ObjectPlan.{hints_for};
+ghost use Rattle.kq_objects.specs.Plans.{in_turn};
 
 use kq_model::{Doing, Hint, Memory, Target};
 use std::alloc::Global;
@@ -9,16 +10,19 @@ use std::marker::Model;
 /// the hints, in order.
 #[derive(Debug, Drop)]
 pub struct Plan {
-    doings: Vec<Doing>,
-    hints: Vec<(Target, Hint)>,
+    /// What is noted first: most records note one thing alone.
+    pub(crate) first: Option<Doing>,
+    pub(crate) rest: Vec<Doing>,
+    pub(crate) hints: Vec<(Target, Hint)>,
 }
 
 impl Model for Plan {
     ghost use Rattle.kq_model.specs.ObjectPlan.{ObjectPlan};
+    ghost use Rattle.kq_objects.specs.Plans.{in_turn};
 
     ghost Value = { ObjectPlan };
 
-    ghost view = { λ p. record { doings = p.doings.items; hints = p.hints.items } };
+    ghost view = { λ p. record { doings = in_turn p.first p.rest.items; hints = p.hints.items } };
 }
 
 impl Plan {
@@ -29,25 +33,11 @@ impl Plan {
         self.hints.as_slice()
     }
 
-    /// These alone.
-    pub(crate) fn into_hints(self) -> Vec<(Target, Hint)>
-        ensures { result.items ≡ self.hints }
+    /// These things are noted, if there is a first one it before the rest.
+    pub(crate) fn of(first: Option<Doing>, rest: Vec<Doing>, hints: Vec<(Target, Hint)>) -> Self
+        ensures { result ≡ record { doings = in_turn first rest.items; hints = hints.items } }
     {
-        let Plan { hints, .. } = self;
-        hints
-    }
-
-    /// What is noted of the objects, in order.
-    pub(crate) fn doings(&self) -> &[Doing]
-        ensures { result.now ≡ self.now.doings }
-    {
-        self.doings.as_slice()
-    }
-
-    pub(crate) fn of(doings: Vec<Doing>, hints: Vec<(Target, Hint)>) -> Self
-        ensures { result ≡ record { doings = doings.items; hints = hints.items } }
-    {
-        Plan { doings, hints }
+        Plan { first, rest, hints }
     }
 
     /// One thing is noted, and the target gets at most one hint.
@@ -60,12 +50,15 @@ impl Plan {
     ) -> Result<Self, Memory>
         ensures { IfOk result (λ p. p ≡ record { doings = doing ∷ []; hints = hints_for target hint }) }
     {
-        let doings = vec![in alloc; doing]?;
         let hints = match hint {
             Some(hint) => vec![in alloc; (target, hint)]?,
             None => Vec::new(alloc),
         };
-        Ok(Plan { doings, hints })
+        Ok(Plan {
+            first: Some(doing),
+            rest: Vec::new(alloc),
+            hints,
+        })
     }
 
     /// Two things are noted, and there is one hint.
@@ -77,9 +70,13 @@ impl Plan {
     ) -> Result<Self, Memory>
         ensures { IfOk result (λ p. p ≡ record { doings = first ∷ second ∷ []; hints = hint ∷ [] }) }
     {
-        let doings = vec![in alloc; first, second]?;
+        let rest = vec![in alloc; second]?;
         let hints = vec![in alloc; hint]?;
-        Ok(Plan { doings, hints })
+        Ok(Plan {
+            first: Some(first),
+            rest,
+            hints,
+        })
     }
 
     /// The same plan, with two more things noted before all else.
@@ -92,11 +89,19 @@ impl Plan {
         ensures { IfOk result (λ p. p ≡ record { doings = first ∷ second ∷ self.doings; hints = self.hints }) }
     {
         let Plan {
-            doings: rest,
+            first: third,
+            rest: later,
             hints,
         } = self;
-        let mut doings = vec![in alloc; first, second]?;
-        doings.extend_from_slice(&rest)?;
-        Ok(Plan { doings, hints })
+        let mut rest = vec![in alloc; second]?;
+        if let Some(third) = third {
+            rest.push(third)?;
+        }
+        rest.extend_from_slice(&later)?;
+        Ok(Plan {
+            first: Some(first),
+            rest,
+            hints,
+        })
     }
 }

@@ -26,13 +26,13 @@ impl Objects {
         self.pipes.reserve(place)
     }
 
-    /// Room for a file.
-    pub(crate) fn reserve_file(&mut self) -> Result<(), Memory>
+    /// Room for a file of this number.
+    pub(crate) fn reserve_file(&mut self, number: u32) -> Result<(), Memory>
         ensures same { objects_of self.new ≡ objects_of self.old }
         ensures room { OnOk result (0 < (spare_room self.new).files) }
         ensures stays { (ds : List Doing) → IsReady ds self.old → IsReady ds self.new }
     {
-        self.files.reserve()
+        self.files.reserve(number)
     }
 
     /// Room for a description of this file, at this place.

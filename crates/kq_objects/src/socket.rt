@@ -12,18 +12,18 @@ use std::marker::Model;
 pub struct Socket {
     pub(crate) receive_buffer: u32,
     pub(crate) send_buffer: u32,
-    pub(crate) listening: bool,
     pub(crate) backlog: u32,
     pub(crate) pending: u32,
-    pub(crate) connected: bool,
     pub(crate) readable: u32,
     pub(crate) unsent: u32,
     pub(crate) read_mark: u32,
     pub(crate) write_mark: u32,
-    pub(crate) read_shut: bool,
     pub(crate) read_error: u32,
-    pub(crate) write_shut: bool,
     pub(crate) write_error: u32,
+    pub(crate) listening: bool,
+    pub(crate) connected: bool,
+    pub(crate) read_shut: bool,
+    pub(crate) write_shut: bool,
     pub(crate) holders: u64,
 }
 
