@@ -20,6 +20,7 @@ pub struct Splitting {
     pub(crate) said: Said,
     pub(crate) plain: Vec<Row>,
     touched: Touched,
+    /// What the last record did: its lists serve the next one.
     effect: Effect,
 }
 
@@ -68,7 +69,14 @@ impl Splitting {
         let before_it = Before::of(event, &self.world, &self.said.kqueues);
         let world = &mut self.world;
         let effect = &mut self.effect;
-        track(place, event, world, &mut self.seen, &mut self.touched, effect)?;
+        track(
+            place,
+            event,
+            world,
+            &mut self.seen,
+            &mut self.touched,
+            effect,
+        )?;
         let said = &mut self.said;
         said.hear(place, event, &self.effect, before_it, &self.world)?;
         put_plain(&mut self.plain, place, &self.effect.verdict)

@@ -129,7 +129,8 @@ impl State {
         effect: &mut Effect,
     ) -> Result<(), Memory>
         requires { IsCountedWorld place (state_of self.old) }
-        ensures effect { OnOk result (IsEffectBy (plan_socket place pid fd receive_buffer send_buffer) self.old effect.new) }
+        ensures effect { OnOk result
+            (IsEffectBy (plan_socket place pid fd receive_buffer send_buffer) self.old effect.new) }
         ensures world { OnOk result
             (IsNext place (plan_socket place pid fd receive_buffer send_buffer) self.old self.new) }
         ensures memory { OnErr result (state_of self.new ≡ state_of self.old) }
@@ -167,7 +168,8 @@ impl State {
         effect: &mut Effect,
     ) -> Result<(), Memory>
         requires { IsCountedWorld place (state_of self.old) }
-        ensures effect { OnOk result (IsEffectBy (plan_accept place pid fd to receive_buffer send_buffer) self.old effect.new) }
+        ensures effect { OnOk result
+            (IsEffectBy (plan_accept place pid fd to receive_buffer send_buffer) self.old effect.new) }
         ensures world { OnOk result
             (IsNext place (plan_accept place pid fd to receive_buffer send_buffer) self.old self.new) }
         ensures memory { OnErr result (state_of self.new ≡ state_of self.old) }

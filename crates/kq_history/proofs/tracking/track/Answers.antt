@@ -9,7 +9,9 @@ use Rattle.kq_history.proofs.tracking.track.Goals as goal
 pub returns-clause-tracked : goal.returns-clause-tracked
 returns-clause-tracked c =
     on_ok_weaker c.follow.result
-    (λ followed (t : Traced) (at : length t.events + 1 ≡ c.args.place) (tracked : IsTracked t c.args.world.now c.args.seen.now).
-    tracked-next t c.args.event.now c.args.place c.args.world.now c.apply_into.new.self c.args.seen.now c.follow.new.seen c.apply_into.new.effect at tracked
+    (λ followed (t : Traced) (at : length t.events + 1 ≡ c.args.place)
+    (tracked : IsTracked t c.args.world.now c.args.seen.now).
+    tracked-next t c.args.event.now c.args.place c.args.world.now c.apply_into.new.self c.args.seen.now
+    c.follow.new.seen c.apply_into.new.effect at tracked
     c.in_ok-apply_into.ensures.last c.in_ok-apply_into.ensures.effect c.in_ok-apply_into.ensures.world
     (followed (world_of c.args.world.now) c.in_ok-begin.ensures)) c.follow.ensures

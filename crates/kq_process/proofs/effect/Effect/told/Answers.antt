@@ -7,4 +7,5 @@ pub returns : goal.returns
 returns c =
     let told : Posted = (c.args.target, c.args.hint) in
     let pushed : c.push.new.self.items ≡ c.take_hints-hints.result.items ++ told ∷ [] = search rules in
-    subst (λ hs. Tells hs c.telling.new.self) (pushed ∙ ap (λ (hs : List Posted). hs ++ told ∷ []) c.take_hints-hints.ensures) c.telling.ensures
+    subst (λ hs. Tells hs c.telling.new.self)
+    (pushed ∙ ap (λ (hs : List Posted). hs ++ told ∷ []) c.take_hints-hints.ensures) c.telling.ensures

@@ -1,4 +1,4 @@
-use Rattle.std.proofs.Common.{◌≡◌, ℕ, List, [], ◌∷◌, ◌++◌, map, sym, ap, rules, ◌∙◌}
+use Rattle.std.proofs.Common.{◌≡◌, ℕ, List, [], ◌∷◌, ◌++◌, map, sym, ap, ◌∙◌}
 use Rattle.kq_model.specs.declared.object.Named.{Named}
 use Rattle.kq_model.specs.Bits.{exit_note}
 use Rattle.kq_model.specs.Targets.{Posted}
@@ -54,7 +54,8 @@ returns-clause-effect c =
     (record {
       verdict = c.done.ensures.verdict;
       closed = ap pairs_in (c.done.ensures.closed ∙ c.in_ok-put_pairs.ensures
-          ∙ ap (λ (ps : List (ℕ × ℕ)). ps ++ map (λ (d : ℕ × Named). (c.args.pid, d.0)) (filled c.descriptors-descriptors.result.now)) c.take_closed-closed.ensures)
+          ∙ ap (λ (ps : List (ℕ × ℕ)). ps ++ map (λ (d : ℕ × Named). (c.args.pid, d.0))
+          (filled c.descriptors-descriptors.result.now)) c.take_closed-closed.ensures)
           ∙ pairs-same c.args.pid (filled c.descriptors-descriptors.result.now) ∙ ap pairs_of c.descriptors-descriptors.ensures.all;
       hints = c.done.ensures.hints ∙ c.say.ensures.hints
           ∙ ap (λ (hs : List Posted). hs ++ noted c.args.pid exit_note ∷ []) (c.release_each.ensures.hints
