@@ -9,7 +9,7 @@ use crate::split::Split;
 use crate::touched::Touched;
 use crate::tracking::track;
 use kq_model::{Event, Memory, Row, Trace};
-use kq_process::World;
+use kq_process::{Effect, World};
 use std::alloc::Global;
 
 /// A split of the records that came so far, part by part: so that it can run beside their reading.
@@ -20,6 +20,8 @@ pub struct Splitting {
     pub(crate) said: Said,
     pub(crate) plain: Vec<Row>,
     touched: Touched,
+    /// What the last record did: its lists serve the next one.
+    effect: Effect,
 }
 
 impl Splitting {
@@ -38,6 +40,7 @@ impl Splitting {
             said,
             plain,
             touched,
+            effect: Effect::new(alloc),
         })
     }
 
@@ -65,10 +68,18 @@ impl Splitting {
     {
         let before_it = Before::of(event, &self.world, &self.said.kqueues);
         let world = &mut self.world;
-        let effect = track(place, event, world, &mut self.seen, &mut self.touched)?;
+        let effect = &mut self.effect;
+        track(
+            place,
+            event,
+            world,
+            &mut self.seen,
+            &mut self.touched,
+            effect,
+        )?;
         let said = &mut self.said;
-        said.hear(place, event, &effect, before_it, &self.world)?;
-        put_plain(&mut self.plain, place, &effect.verdict)
+        said.hear(place, event, &self.effect, before_it, &self.world)?;
+        put_plain(&mut self.plain, place, &self.effect.verdict)
     }
 
     /// The split of a trace all of whose records came. Its cost is that of dropping the world.

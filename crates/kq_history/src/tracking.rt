@@ -16,25 +16,25 @@ use crate::touched::{Touched, tells_file};
 use kq_model::{Event, Memory};
 use kq_process::{Effect, World};
 
-/// One record more: the world takes it, and what is seen after it is noted. After Memory nothing is
-/// known.
+/// One record more: the world takes it, and what is seen after it is noted. The effect is written over. After Memory
+/// nothing is known.
 pub fn track(
     place: u64,
     event: &Event,
     world: &mut World,
     seen: &mut Seen,
     touched: &mut Touched,
-) -> Result<Effect, Memory>
+    effect: &mut Effect,
+) -> Result<(), Memory>
     requires places { last_of world.old < place }
     requires before { AreAllBefore place seen.old }
-    ensures effect { IfOk result (IsEffectBy (plan place event.now) world.old) }
+    ensures effect { OnOk result (IsEffectBy (plan place event.now) world.old effect.new) }
     ensures tracked { OnOk result ((t : Traced) → length t.events + 1 ≡ place
         → IsTracked t world.old seen.old → IsTracked (longer t event.now) world.new seen.new) }
 {
     touched.begin(event, world)?;
-    let effect = world.apply(place, event)?;
-    follow(place, event, &effect, world, seen, touched)?;
-    Ok(effect)
+    world.apply_into(place, event, effect)?;
+    follow(place, event, effect, world, seen, touched)
 }
 
 /// Notes the world after a record, where it was possible.

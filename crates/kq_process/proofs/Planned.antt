@@ -1,5 +1,5 @@
 -- The plans of records about processes and signals once their tests are passed, and the worlds after them.
-use Rattle.std.proofs.Common.{◌≡◌, ℕ, ◌==◌, ◌<◌, ◌≤◌, Bool, true, false, ◌&&◌, List, [], ◌∷◌, Option, Some, None, Result, Ok, Err, IfOk, OnErr, refl, sym, ap, arith, ◌∙◌}
+use Rattle.std.proofs.Common.{◌≡◌, ℕ, ◌==◌, ◌<◌, ◌≤◌, Bool, true, false, ◌&&◌, List, [], ◌∷◌, Option, Some, None, Result, Ok, Err, OnOk, OnErr, refl, sym, ap, arith, ◌∙◌}
 use Rattle.kq_model.specs.declared.object.Hint.TheVariants as hint
 use Rattle.kq_model.specs.declared.object.Named.{Named}
 use Rattle.kq_model.specs.declared.object.Target.TheVariants as target
@@ -21,10 +21,10 @@ use Rattle.kq_process.proofs.Places.{less-true, less-false}
 use Rattle.kq_process.proofs.Closing.{nothing-closed}
 
 -- what these hints say, where there was memory for them
-pub told_by : {E : Type 0} (hints : List Posted) (Q : Effect → Type 0) → ((e : Effect) → Tells hints e → Q e)
-    → (r : Result Effect E) → IfOk r (Tells hints) → IfOk r Q
-told_by hints Q tells (Ok e) told = tells e told
-told_by hints Q tells (Err e) told = tt
+pub told_by : {T E : Type 0} (hints : List Posted) (Q : Effect → Type 0) → ((e : Effect) → Tells hints e → Q e)
+    → (e : Effect) (r : Result T E) → OnOk r (Tells hints e) → OnOk r (Q e)
+told_by hints Q tells e (Ok x) told = tells e told
+told_by hints Q tells e (Err x) told = tt
 
 -- what holds anyway holds where memory was refused
 pub held_anyway : {T E : Type 0} (P : Type 0) (r : Result T E) → P → OnErr r P

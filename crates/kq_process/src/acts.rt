@@ -1,6 +1,6 @@
 // The records about sockets, pipes and files. Their condition is that nothing that is named was made at
 // this place or later.
-ghost use Rattle.std.specs.Prelude.{◌≡◌, ◌∷◌, [], ◌==◌, IfOk, OnOk, OnErr, None, true, false};
+ghost use Rattle.std.specs.Prelude.{◌≡◌, ◌∷◌, [], ◌==◌, OnOk, OnErr, None, true, false};
 ghost use Rattle.kq_model.specs.CountedWorld.{IsCountedWorld};
 ghost use Rattle.kq_model.specs.Holding.{made_names};
 ghost use Rattle.kq_model.specs.ObjectRecordPlans.{plan_act, plan_at, plan_socket, plan_accept, plan_pipe, plan_open};
@@ -24,26 +24,36 @@ impl State {
     /// A process uses an object by a descriptor. NoProcess; NoDescriptor: the number is not open; then
     /// the reasons of the object.
     #[tactic(auto, unfolding(kq_model::specs::ObjectRecordPlans::plan_at))]
-    pub fn use_object(&mut self, place: u64, pid: u32, fd: u32, what: Use) -> Result<Effect, Memory>
+    pub fn use_object(
+        &mut self,
+        place: u64,
+        pid: u32,
+        fd: u32,
+        what: Use,
+        effect: &mut Effect,
+    ) -> Result<(), Memory>
         requires { IsCountedWorld place (state_of self.old) }
-        ensures effect { IfOk result (IsEffectBy (plan_at place pid fd (act_on what)) self.old) }
+        ensures effect { OnOk result (IsEffectBy (plan_at place pid fd (act_on what)) self.old effect.new) }
         ensures world { OnOk result (IsNext place (plan_at place pid fd (act_on what)) self.old self.new) }
         ensures memory { OnErr result (state_of self.new ≡ state_of self.old) }
         ensures possible { OnErr result (IsPossible (plan_at place pid fd (act_on what) (state_of self.old))) }
     {
         match self.on(pid, fd) {
-            Ok(on) => self.act(place, &what.on(on)),
-            Err(why) => Ok(Effect::impossible(self.processes.allocator(), why)),
+            Ok(on) => self.act(place, &what.on(on), effect),
+            Err(why) => {
+                effect.impossible(self.processes.allocator(), why);
+                Ok(())
+            }
         }
     }
 
     /// A record about objects that gives no number a name: those of files by their numbers, and those
     /// whose descriptor is resolved. The reasons are those of the object.
     #[tactic(auto, unfolding(kq_model::specs::ObjectRecordPlans::plan_act, kq_model::specs::ObjectRecordPlans::with_objects))]
-    pub fn act(&mut self, place: u64, act: &Act) -> Result<Effect, Memory>
+    pub fn act(&mut self, place: u64, act: &Act, effect: &mut Effect) -> Result<(), Memory>
         requires earlier { IsCountedWorld place (state_of self.old) }
         requires none { made_names place act.now ≡ [] }
-        ensures effect { IfOk result (IsEffectBy (plan_act place [] act.now) self.old) }
+        ensures effect { OnOk result (IsEffectBy (plan_act place [] act.now) self.old effect.new) }
         ensures world { OnOk result (IsNext place (plan_act place [] act.now) self.old self.new) }
         ensures memory { OnErr result (state_of self.new ≡ state_of self.old) }
         ensures possible { OnErr result (IsPossible (plan_act place [] act.now (state_of self.old))) }
@@ -51,10 +61,14 @@ impl State {
         let alloc = self.processes.allocator();
         match self.objects.plan(place, act) {
             Err(PlanError::Memory) => Err(Memory),
-            Err(PlanError::Why(why)) => Ok(Effect::impossible(alloc, why)),
+            Err(PlanError::Why(why)) => {
+                effect.impossible(alloc, why);
+                Ok(())
+            }
             Ok(plan) => {
                 let hints = self.objects.commit_and_tell(plan);
-                Ok(Effect::telling(alloc, hints))
+                effect.telling(alloc, hints);
+                Ok(())
             }
         }
     }
@@ -68,13 +82,14 @@ impl State {
         pid: u32,
         number: u32,
         named: Named,
-    ) -> Result<Effect, Memory>
+        effect: &mut Effect,
+    ) -> Result<(), Memory>
         requires earlier { IsCountedWorld place (state_of self.old) }
         requires live { is_live pid (state_of self.old).processes ≡ true }
         requires absent { named_by pid number (state_of self.old) ≡ None }
         requires made { made_names place act.now ≡ named ∷ [] }
-        ensures effect { IfOk result
-            (IsEffectBy (plan_act place (descriptor_in pid (number, named) ∷ []) act.now) self.old) }
+        ensures effect { OnOk result
+            (IsEffectBy (plan_act place (descriptor_in pid (number, named) ∷ []) act.now) self.old effect.new) }
         ensures world { OnOk result
             (IsNext place (plan_act place (descriptor_in pid (number, named) ∷ []) act.now) self.old self.new) }
         ensures memory { OnErr result (state_of self.new ≡ state_of self.old) }
@@ -84,7 +99,10 @@ impl State {
         let alloc = self.processes.allocator();
         match self.objects.plan(place, act) {
             Err(PlanError::Memory) => Err(Memory),
-            Err(PlanError::Why(why)) => Ok(Effect::impossible(alloc, why)),
+            Err(PlanError::Why(why)) => {
+                effect.impossible(alloc, why);
+                Ok(())
+            }
             Ok(plan) => {
                 let Some(descriptors) = self.descriptors.checked_add(1) else {
                     return Err(Memory);
@@ -92,7 +110,8 @@ impl State {
                 self.processes.name(pid, number, named)?;
                 let hints = self.objects.commit_and_tell(plan);
                 self.descriptors = descriptors;
-                Ok(Effect::telling(alloc, hints))
+                effect.telling(alloc, hints);
+                Ok(())
             }
         }
     }
@@ -107,9 +126,11 @@ impl State {
         fd: u32,
         receive_buffer: u32,
         send_buffer: u32,
-    ) -> Result<Effect, Memory>
+        effect: &mut Effect,
+    ) -> Result<(), Memory>
         requires { IsCountedWorld place (state_of self.old) }
-        ensures effect { IfOk result (IsEffectBy (plan_socket place pid fd receive_buffer send_buffer) self.old) }
+        ensures effect { OnOk result
+            (IsEffectBy (plan_socket place pid fd receive_buffer send_buffer) self.old effect.new) }
         ensures world { OnOk result
             (IsNext place (plan_socket place pid fd receive_buffer send_buffer) self.old self.new) }
         ensures memory { OnErr result (state_of self.new ≡ state_of self.old) }
@@ -118,16 +139,18 @@ impl State {
     {
         let alloc = self.processes.allocator();
         if !self.processes.is_live(pid) {
-            return Ok(Effect::impossible(alloc, Why::NoProcess));
+            effect.impossible(alloc, Why::NoProcess);
+            return Ok(());
         }
         if self.processes.named(pid, fd).is_some() {
-            return Ok(Effect::impossible(alloc, Why::UsedDescriptor));
+            effect.impossible(alloc, Why::UsedDescriptor);
+            return Ok(());
         }
         let act = Act::Socket {
             receive_buffer,
             send_buffer,
         };
-        self.act_naming(place, &act, pid, fd, Named::Socket(place))
+        self.act_naming(place, &act, pid, fd, Named::Socket(place), effect)
     }
 
     /// A connection that waits at a socket becomes a socket of its own, under a number that is not open
@@ -142,9 +165,11 @@ impl State {
         to: u32,
         receive_buffer: u32,
         send_buffer: u32,
-    ) -> Result<Effect, Memory>
+        effect: &mut Effect,
+    ) -> Result<(), Memory>
         requires { IsCountedWorld place (state_of self.old) }
-        ensures effect { IfOk result (IsEffectBy (plan_accept place pid fd to receive_buffer send_buffer) self.old) }
+        ensures effect { OnOk result
+            (IsEffectBy (plan_accept place pid fd to receive_buffer send_buffer) self.old effect.new) }
         ensures world { OnOk result
             (IsNext place (plan_accept place pid fd to receive_buffer send_buffer) self.old self.new) }
         ensures memory { OnErr result (state_of self.new ≡ state_of self.old) }
@@ -154,17 +179,21 @@ impl State {
         let alloc = self.processes.allocator();
         let on = match self.on(pid, fd) {
             Ok(on) => on,
-            Err(why) => return Ok(Effect::impossible(alloc, why)),
+            Err(why) => {
+                effect.impossible(alloc, why);
+                return Ok(());
+            }
         };
         if self.processes.named(pid, to).is_some() {
-            return Ok(Effect::impossible(alloc, Why::UsedDescriptor));
+            effect.impossible(alloc, Why::UsedDescriptor);
+            return Ok(());
         }
         let act = Act::Accept {
             on,
             receive_buffer,
             send_buffer,
         };
-        self.act_naming(place, &act, pid, to, Named::Socket(place))
+        self.act_naming(place, &act, pid, to, Named::Socket(place), effect)
     }
 
     /// A file is opened, under a number that is not open (open(2)). NoProcess; UsedDescriptor: the
@@ -177,25 +206,28 @@ impl State {
         fd: u32,
         file: u32,
         mode: Mode,
-    ) -> Result<Effect, Memory>
+        effect: &mut Effect,
+    ) -> Result<(), Memory>
         requires { IsCountedWorld place (state_of self.old) }
-        ensures effect { IfOk result (IsEffectBy (plan_open place pid fd file mode) self.old) }
+        ensures effect { OnOk result (IsEffectBy (plan_open place pid fd file mode) self.old effect.new) }
         ensures world { OnOk result (IsNext place (plan_open place pid fd file mode) self.old self.new) }
         ensures memory { OnErr result (state_of self.new ≡ state_of self.old) }
         ensures possible { OnErr result (IsPossible (plan_open place pid fd file mode (state_of self.old))) }
     {
         let alloc = self.processes.allocator();
         if !self.processes.is_live(pid) {
-            return Ok(Effect::impossible(alloc, Why::NoProcess));
+            effect.impossible(alloc, Why::NoProcess);
+            return Ok(());
         }
         if self.processes.named(pid, fd).is_some() {
-            return Ok(Effect::impossible(alloc, Why::UsedDescriptor));
+            effect.impossible(alloc, Why::UsedDescriptor);
+            return Ok(());
         }
         let named = Named::Open {
             description: place,
             file,
         };
-        self.act_naming(place, &Act::Open { file, mode }, pid, fd, named)
+        self.act_naming(place, &Act::Open { file, mode }, pid, fd, named, effect)
     }
 
     /// A pipe is made, under two numbers that are not open (pipe(2)). NoProcess; UsedDescriptor: one of
@@ -208,27 +240,32 @@ impl State {
         read_fd: u32,
         write_fd: u32,
         cap: u32,
-    ) -> Result<Effect, Memory>
+        effect: &mut Effect,
+    ) -> Result<(), Memory>
         requires { IsCountedWorld place (state_of self.old) }
-        ensures effect { IfOk result (IsEffectBy (plan_pipe place pid read_fd write_fd cap) self.old) }
+        ensures effect { OnOk result (IsEffectBy (plan_pipe place pid read_fd write_fd cap) self.old effect.new) }
         ensures world { OnOk result (IsNext place (plan_pipe place pid read_fd write_fd cap) self.old self.new) }
         ensures memory { OnErr result (state_of self.new ≡ state_of self.old) }
         ensures possible { OnErr result (IsPossible (plan_pipe place pid read_fd write_fd cap (state_of self.old))) }
     {
         let alloc = self.processes.allocator();
         if !self.processes.is_live(pid) {
-            return Ok(Effect::impossible(alloc, Why::NoProcess));
+            effect.impossible(alloc, Why::NoProcess);
+            return Ok(());
         }
         if read_fd == write_fd {
-            return Ok(Effect::impossible(alloc, Why::UsedDescriptor));
+            effect.impossible(alloc, Why::UsedDescriptor);
+            return Ok(());
         }
         if self.processes.named(pid, read_fd).is_some() {
-            return Ok(Effect::impossible(alloc, Why::UsedDescriptor));
+            effect.impossible(alloc, Why::UsedDescriptor);
+            return Ok(());
         }
         if self.processes.named(pid, write_fd).is_some() {
-            return Ok(Effect::impossible(alloc, Why::UsedDescriptor));
+            effect.impossible(alloc, Why::UsedDescriptor);
+            return Ok(());
         }
-        self.make_pipe(place, pid, read_fd, write_fd, cap)
+        self.make_pipe(place, pid, read_fd, write_fd, cap, effect)
     }
 
     // A pipe, whose ends these two new numbers name.
@@ -240,14 +277,15 @@ impl State {
         read_fd: u32,
         write_fd: u32,
         cap: u32,
-    ) -> Result<Effect, Memory>
+        effect: &mut Effect,
+    ) -> Result<(), Memory>
         requires earlier { IsCountedWorld place (state_of self.old) }
         requires live { is_live pid (state_of self.old).processes ≡ true }
         requires differ { (read_fd == write_fd) ≡ false }
         requires read { named_by pid read_fd (state_of self.old) ≡ None }
         requires write { named_by pid write_fd (state_of self.old) ≡ None }
-        ensures effect { IfOk result
-            (IsEffectBy (plan_act place (pipe_ends place pid read_fd write_fd) (act.Pipe cap)) self.old) }
+        ensures effect { OnOk result
+            (IsEffectBy (plan_act place (pipe_ends place pid read_fd write_fd) (act.Pipe cap)) self.old effect.new) }
         ensures world { OnOk result
             (IsNext place (plan_act place (pipe_ends place pid read_fd write_fd) (act.Pipe cap)) self.old self.new) }
         ensures memory { OnErr result (state_of self.new ≡ state_of self.old) }
@@ -257,7 +295,10 @@ impl State {
         let alloc = self.processes.allocator();
         match self.objects.plan(place, &Act::Pipe { cap }) {
             Err(PlanError::Memory) => Err(Memory),
-            Err(PlanError::Why(why)) => Ok(Effect::impossible(alloc, why)),
+            Err(PlanError::Why(why)) => {
+                effect.impossible(alloc, why);
+                Ok(())
+            }
             Ok(plan) => {
                 let Some(descriptors) = self.descriptors.checked_add(2) else {
                     return Err(Memory);
@@ -267,7 +308,8 @@ impl State {
                     .name_both(pid, read, (write_fd, Named::PipeWrite(place)))?;
                 let hints = self.objects.commit_and_tell(plan);
                 self.descriptors = descriptors;
-                Ok(Effect::telling(alloc, hints))
+                effect.telling(alloc, hints);
+                Ok(())
             }
         }
     }

@@ -1,5 +1,5 @@
 // Descriptors of objects, counted one after the other.
-ghost use Rattle.std.specs.Prelude.{◌≡◌, ℕ, ◌∷◌, [], IfOk, map, ◌+◌, ◌<◌, ◌≤◌, ◌++◌, length, vec_len, vec_capacity};
+ghost use Rattle.std.specs.Prelude.{◌≡◌, ℕ, ◌∷◌, [], OnOk, map, ◌+◌, ◌<◌, ◌≤◌, ◌++◌, length, vec_len, vec_capacity};
 ghost use Rattle.kq_model.specs.Holding.{release, release_hint, release_hints, option_list, all_held, all_released};
 ghost use Rattle.kq_model.specs.declared.object.Named.{Named as Name};
 ghost use Rattle.kq_objects.specs.Holding.{CanRelease};
@@ -9,7 +9,6 @@ ghost use Rattle.kq_process.specs.Slots.{filled};
 
 use kq_model::{Hint, Memory, Named, Target};
 use kq_objects::Objects;
-use std::alloc::Global;
 
 /// How many of these slots are full.
 pub fn count(slots: &[(u32, Option<Named>)]) -> usize
@@ -19,20 +18,21 @@ pub fn count(slots: &[(u32, Option<Named>)]) -> usize
 }
 
 /// The numbers of the full slots, each with the process's pid.
-pub fn pairs(
-    alloc: Global,
+pub fn put_pairs(
+    pairs: &mut Vec<(u32, u32)>,
     pid: u32,
     slots: &[(u32, Option<Named>)],
-) -> Result<Vec<(u32, u32)>, Memory>
-    ensures { IfOk result (λ pairs. pairs.items ≡ map (λ (d : ℕ × Name). (pid, d.0)) (filled slots.now)) }
+) -> Result<(), Memory>
+    ensures { OnOk result (pairs.new.items
+        ≡ pairs.old.items ++ map (λ (d : ℕ × Name). (pid, d.0)) (filled slots.now)) }
 {
-    let mut pairs = Vec::with_capacity(alloc, slots.len())?;
+    pairs.reserve(slots.len())?;
     for slot in slots {
         if slot.1.is_some() {
             pairs.push((pid, slot.0))?;
         }
     }
-    Ok(pairs)
+    Ok(())
 }
 
 /// The descriptor of each full slot names its object too.

@@ -1,9 +1,11 @@
-ghost use Rattle.std.specs.Prelude.{◌≡◌, ◌∷◌, [], IfOk, IsOk};
+ghost use Rattle.std.specs.Prelude.{◌≡◌, ◌∷◌, [], OnOk, IsOk};
 
 use kq_model::{Hint, Memory, Series, Target, Why};
 use std::alloc::Global;
+use std::mem;
 
-/// What a record did to the world, and whom it tells.
+/// What a record did to the world, and whom it tells. One can serve for a record after the other: its lists keep
+/// their room.
 #[derive(Drop)]
 pub struct Effect {
     /// Done, or the first reason why the record is impossible: then it changed nothing.
@@ -17,54 +19,86 @@ pub struct Effect {
 impl Effect {
     ghost use Rattle.kq_process.specs.Effects.{IsRefused, Tells};
 
-    /// Of an impossible record.
-    pub fn impossible(alloc: Global, why: Why) -> Self
-        ensures { IsRefused why result }
+    /// Of a record that closes nothing and tells nobody.
+    pub fn new(alloc: Global) -> Self
+        ensures { Tells [] result }
     {
         Effect {
-            verdict: Err(why),
+            verdict: Ok(()),
             closed: Series::from_vec(Vec::new(alloc)),
             hints: Series::from_vec(Vec::new(alloc)),
         }
     }
 
-    /// Of a record that closes nothing and tells nobody.
-    pub fn quiet(alloc: Global) -> Self
-        ensures { Tells [] result }
+    /// Of an impossible record.
+    pub(crate) fn impossible(&mut self, alloc: Global, why: Why)
+        ensures { IsRefused why self.new }
     {
-        Effect::done(Vec::new(alloc), Vec::new(alloc))
+        let none = self.take_closed(alloc);
+        let nobody = self.take_hints(alloc);
+        self.verdict = Err(why);
+        self.closed = Series::from_vec(none);
+        self.hints = Series::from_vec(nobody);
+    }
+
+    /// Of a record that closes nothing and tells nobody.
+    pub(crate) fn quiet(&mut self, alloc: Global)
+        ensures { Tells [] self.new }
+    {
+        let hints = self.take_hints(alloc);
+        self.telling(alloc, hints);
     }
 
     /// Of a record that closes nothing and gives one hint.
-    pub fn told(alloc: Global, target: Target, hint: Hint) -> Result<Self, Memory>
-        ensures { IfOk result (Tells ((target, hint) ∷ [])) }
+    pub(crate) fn told(&mut self, alloc: Global, target: Target, hint: Hint) -> Result<(), Memory>
+        ensures { OnOk result (Tells ((target, hint) ∷ []) self.new) }
     {
-        let mut hints = Vec::new(alloc);
+        let mut hints = self.take_hints(alloc);
         hints.push((target, hint))?;
-        Ok(Effect {
-            verdict: Ok(()),
-            closed: Series::from_vec(Vec::new(alloc)),
-            hints: Series::from_vec(hints),
-        })
+        self.telling(alloc, hints);
+        Ok(())
     }
 
     /// Of a possible record that closes these descriptors and gives these hints.
-    pub fn done(closed: Vec<(u32, u32)>, hints: Vec<(Target, Hint)>) -> Self
-        ensures verdict { IsOk result.verdict }
-        ensures closed { result.closed ≡ closed.items }
-        ensures hints { result.hints ≡ hints.items }
+    pub(crate) fn done(&mut self, closed: Vec<(u32, u32)>, hints: Vec<(Target, Hint)>)
+        ensures verdict { IsOk self.new.verdict }
+        ensures closed { self.new.closed ≡ closed.items }
+        ensures hints { self.new.hints ≡ hints.items }
     {
-        Effect {
-            verdict: Ok(()),
-            closed: Series::from_vec(closed),
-            hints: Series::from_vec(hints),
-        }
+        self.verdict = Ok(());
+        self.closed = Series::from_vec(closed);
+        self.hints = Series::from_vec(hints);
     }
 
     /// Of a record that closes nothing and gives these hints.
-    pub fn telling(alloc: Global, hints: Vec<(Target, Hint)>) -> Self
-        ensures { Tells hints.items result }
+    pub(crate) fn telling(&mut self, alloc: Global, hints: Vec<(Target, Hint)>)
+        ensures { Tells hints.items self.new }
     {
-        Effect::done(Vec::new(alloc), hints)
+        if !self.closed.is_empty() {
+            let none = self.take_closed(alloc);
+            self.closed = Series::from_vec(none);
+        }
+        self.verdict = Ok(());
+        self.hints = Series::from_vec(hints);
+    }
+
+    /// The list of closes, emptied.
+    pub(crate) fn take_closed(&mut self, alloc: Global) -> Vec<(u32, u32)>
+        ensures { result.items ≡ [] }
+    {
+        let none = Series::from_vec(Vec::new(alloc));
+        let mut closed = mem::replace(&mut self.closed, none).into_vec();
+        closed.clear();
+        closed
+    }
+
+    /// The list of hints, emptied.
+    pub(crate) fn take_hints(&mut self, alloc: Global) -> Vec<(Target, Hint)>
+        ensures { result.items ≡ [] }
+    {
+        let none = Series::from_vec(Vec::new(alloc));
+        let mut hints = mem::replace(&mut self.hints, none).into_vec();
+        hints.clear();
+        hints
     }
 }

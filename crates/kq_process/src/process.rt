@@ -6,7 +6,8 @@ use crate::ignored::Ignored;
 pub struct Process {
     /// The exit status, once it has exited.
     pub exited: Option<u32>,
-    pub ignored: Ignored,
     /// What its open descriptors name.
     pub descriptors: Descriptors,
+    // Large, and seldom asked for.
+    pub ignored: Ignored,
 }

@@ -132,8 +132,8 @@ impl Processes {
     {
         let process = Process {
             exited: None,
-            ignored: Ignored::nothing(),
             descriptors: Descriptors::new(self.alloc),
+            ignored: Ignored::nothing(),
         };
         self.shelf.insert(pid, process)
     }
@@ -157,8 +157,8 @@ impl Processes {
         };
         let process = Process {
             exited: None,
-            ignored: parent.ignored,
             descriptors: parent.descriptors.inheritable(self.alloc)?,
+            ignored: parent.ignored,
         };
         self.shelf.insert(child, process)
     }

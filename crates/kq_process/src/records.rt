@@ -1,5 +1,5 @@
 // The records that are about processes and descriptors alone, whatever the objects and the clock.
-ghost use Rattle.std.specs.Prelude.{◌≡◌, ℕ, IfOk, OnOk, OnErr};
+ghost use Rattle.std.specs.Prelude.{◌≡◌, ℕ, OnOk, OnErr};
 ghost use Rattle.kq_model.specs.DescriptorPlans.{plan_kevent};
 ghost use Rattle.kq_model.specs.ProcessPlans.{plan_proc, plan_exec, plan_sigset, plan_sig};
 
@@ -21,8 +21,8 @@ impl Processes {
 
     /// A process starts. UsedPid: the pid was used before.
     #[tactic(auto, unfolding(kq_model::specs::ProcessPlans::plan_proc))]
-    pub fn proc(&mut self, pid: u32) -> Result<Effect, Memory>
-        ensures effect { IfOk result (IsToldBy (plan_proc pid) self.old) }
+    pub fn proc(&mut self, pid: u32, effect: &mut Effect) -> Result<(), Memory>
+        ensures effect { OnOk result (IsToldBy (plan_proc pid) self.old effect.new) }
         ensures world { (place : ℕ) → OnOk result (IsAfter place (plan_proc pid) self.old self.new) }
         ensures table { table_of self.new ≡ table_of self.old }
         ensures err { OnErr result (IsUnchanged self.old self.new) }
@@ -30,61 +30,69 @@ impl Processes {
     {
         let alloc = self.allocator();
         if self.was_used(pid) {
-            return Ok(Effect::impossible(alloc, Why::UsedPid));
+            effect.impossible(alloc, Why::UsedPid);
+            return Ok(());
         }
         self.start(pid)?;
-        Ok(Effect::quiet(alloc))
+        effect.quiet(alloc);
+        Ok(())
     }
 
     /// A process executes another program. NoProcess: the pid names no live process.
     #[tactic(auto, unfolding(kq_model::specs::ProcessPlans::plan_exec))]
-    pub fn exec(&self, pid: u32) -> Result<Effect, Memory>
-        ensures effect { IfOk result (IsToldBy (plan_exec pid) self.now) }
+    pub fn exec(&self, pid: u32, effect: &mut Effect) -> Result<(), Memory>
+        ensures effect { OnOk result (IsToldBy (plan_exec pid) self.now effect.new) }
         ensures possible { OnErr result (IsPossibleBy (plan_exec pid) self.now) }
     {
         let alloc = self.allocator();
         if !self.is_live(pid) {
-            return Ok(Effect::impossible(alloc, Why::NoProcess));
+            effect.impossible(alloc, Why::NoProcess);
+            return Ok(());
         }
-        Effect::told(alloc, Target::Process(pid), Hint::Note(NOTE_EXEC))
+        effect.told(alloc, Target::Process(pid), Hint::Note(NOTE_EXEC))
     }
 
     /// A process begins to ignore a signal, or ceases to. NoProcess; TooMany: no such signal.
     #[tactic(auto, unfolding(kq_model::specs::ProcessPlans::plan_sigset, kq_model::specs::ProcessPlans::is_signal))]
-    pub fn sigset(&mut self, pid: u32, signal: u32, ignore: bool) -> Effect
-        ensures effect { IsToldBy (plan_sigset pid signal ignore) self.old result }
+    pub fn sigset(&mut self, pid: u32, signal: u32, ignore: bool, effect: &mut Effect)
+        ensures effect { IsToldBy (plan_sigset pid signal ignore) self.old effect.new }
         ensures world { (place : ℕ) → IsAfter place (plan_sigset pid signal ignore) self.old self.new }
         ensures table { table_of self.new ≡ table_of self.old }
     {
         let alloc = self.allocator();
         if !self.is_live(pid) {
-            return Effect::impossible(alloc, Why::NoProcess);
+            effect.impossible(alloc, Why::NoProcess);
+            return;
         }
         if signal < 1 || signal > MOST_SIGNAL {
-            return Effect::impossible(alloc, Why::TooMany);
+            effect.impossible(alloc, Why::TooMany);
+            return;
         }
         self.dispose(pid, signal, ignore);
-        Effect::quiet(alloc)
+        effect.quiet(alloc);
     }
 
     /// A signal is delivered to a process. A knote hears of it also where the process ignores it,
     /// but for SIGCHLD (kqueue(2)). NoProcess; TooMany: no such signal.
     #[tactic(auto, unfolding(kq_model::specs::ProcessPlans::plan_sig, kq_model::specs::ProcessPlans::is_signal))]
-    pub fn signal(&self, pid: u32, signal: u32) -> Result<Effect, Memory>
-        ensures effect { IfOk result (IsToldBy (plan_sig pid signal) self.now) }
+    pub fn signal(&self, pid: u32, signal: u32, effect: &mut Effect) -> Result<(), Memory>
+        ensures effect { OnOk result (IsToldBy (plan_sig pid signal) self.now effect.new) }
         ensures possible { OnErr result (IsPossibleBy (plan_sig pid signal) self.now) }
     {
         let alloc = self.allocator();
         if !self.is_live(pid) {
-            return Ok(Effect::impossible(alloc, Why::NoProcess));
+            effect.impossible(alloc, Why::NoProcess);
+            return Ok(());
         }
         if signal < 1 || signal > MOST_SIGNAL {
-            return Ok(Effect::impossible(alloc, Why::TooMany));
+            effect.impossible(alloc, Why::TooMany);
+            return Ok(());
         }
         if signal == SIGCHLD && self.ignores(pid, signal) {
-            return Ok(Effect::quiet(alloc));
+            effect.quiet(alloc);
+            return Ok(());
         }
-        Effect::told(alloc, Target::Signal { pid, signal }, Hint::Delivered)
+        effect.told(alloc, Target::Signal { pid, signal }, Hint::Delivered)
     }
 
     /// The kqueue of a kevent call, by the place of the record that made it. It takes no memory.

@@ -61,9 +61,34 @@ impl World {
             → OnOk result (world_of self.new
             ≡ seen_world (listed_after place (plan place event.now (seen_world m)) m)) }
     {
-        let effect = self.state.apply(place, event)?;
-        self.last = place;
+        let mut effect = Effect::new(self.state.processes.allocator());
+        self.apply_into(place, event, &mut effect)?;
         Ok(effect)
+    }
+
+    /// The same, where an effect is given that is written over, so that its lists serve again. After Memory nothing is
+    /// known of it.
+    pub fn apply_into(
+        &mut self,
+        place: u64,
+        event: &Event,
+        effect: &mut Effect,
+    ) -> Result<(), Memory>
+        requires { last_of self.old < place }
+        ensures effect { OnOk result (IsEffectBy (plan place event.now) self.old effect.new) }
+        ensures world { OnOk result (IsNext place (plan place event.now) self.old self.new) }
+        ensures last { OnOk result (last_of self.new ≡ place) }
+        ensures memory { OnErr result (world_of self.new ≡ world_of self.old) }
+        ensures same_last { OnErr result (last_of self.new ≡ last_of self.old) }
+        ensures possible { OnErr result (IsPossible (plan place event.now (world_of self.old))) }
+        ensures next { OnOk result (IsCountedWorld (place + 1) (world_of self.new)) }
+        ensures listed { (m : Kept listed) → world_of self.old ≡ seen_world m
+            → OnOk result (world_of self.new
+            ≡ seen_world (listed_after place (plan place event.now (seen_world m)) m)) }
+    {
+        self.state.apply(place, event, effect)?;
+        self.last = place;
+        Ok(())
     }
 
     /// A kevent call: whether it is possible. It changes nothing here, and its kqueue is what
@@ -73,7 +98,9 @@ impl World {
         ensures effect { IsEffectBy (plan_kevent pid fd changes.now room) self.now result }
         ensures world { (place : ℕ) → IsNext place (plan_kevent pid fd changes.now room) self.now self.now }
     {
-        self.state.kevent(pid, fd, changes, room)
+        let mut effect = Effect::new(self.state.processes.allocator());
+        self.state.kevent(pid, fd, changes, room, &mut effect);
+        effect
     }
 
     /// Whether a fork of this child is possible: the process is live, and the child's pid was not used.

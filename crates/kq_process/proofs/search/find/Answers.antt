@@ -1,4 +1,4 @@
-use Rattle.std.proofs.Common.{◌≡◌, ◌∙◌, ◌<◌, length, ap, arith}
+use Rattle.std.proofs.Common.{◌∙◌, ◌<◌, length, ap, arith}
 use Rattle.kq_process.proofs.Places.{placed, read-any}
 use Rattle.kq_process.proofs.search.find.Goals as goal
 

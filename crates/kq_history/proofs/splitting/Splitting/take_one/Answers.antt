@@ -27,9 +27,10 @@ returns c =
       said = c.hear.new.self;
       plain = c.put_plain.new.plain;
       touched = c.track.new.touched;
+      effect = c.track.new.effect;
     } in
     on_ok_weaker c.put_plain.result
     (λ rows (t : Traced) (at : length t.events + 1 ≡ c.args.place) (so_far : IsSplitSoFar t c.args.self.now).
-    split-next t c.args.event.now c.args.place c.args.self.now new c.in_ok-effect.effect c.of-before_it.result.clock c.of-before_it.result.kqueue
-    c.of-before_it.result.silent at so_far (c.in_ok-effect.ensures.tracked t at so_far.tracked) c.in_ok-effect.ensures.effect
+    split-next t c.args.event.now c.args.place c.args.self.now new c.track.new.effect c.of-before_it.result.clock c.of-before_it.result.kqueue
+    c.of-before_it.result.silent at so_far (c.in_ok-track.ensures.tracked t at so_far.tracked) c.in_ok-track.ensures.effect
     c.of-before_it.ensures.clock c.of-before_it.ensures.kqueue c.of-before_it.ensures.silent c.in_ok-hear.ensures rows) c.put_plain.ensures

@@ -1,6 +1,3 @@
-use Rattle.std.proofs.Common.{◌∙◌, ap, sym, subst}
-use Rattle.kq_process.specs.Shelf.{AreRising}
-use Rattle.kq_process.specs.Slots.{filled, is_inherited}
 use Rattle.kq_process.proofs.Filled.{filled-inherited, filled-rises}
 use Rattle.kq_process.proofs.Places.{filter-rises}
 use Rattle.kq_process.proofs.descriptors.Descriptors.inheritable.Goals as goal

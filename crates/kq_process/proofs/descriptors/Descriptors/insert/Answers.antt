@@ -1,4 +1,4 @@
-use Rattle.std.proofs.Common.{◌≡◌, ◌∙◌, Some, Result, Ok, Err, OnOk, OnErr, refl, sym, ap, rules}
+use Rattle.std.proofs.Common.{◌≡◌, ◌∙◌, Some, Result, Ok, Err, OnOk, OnErr, sym, ap, rules}
 use Rattle.std.specs.List.{insert}
 use Rattle.kq_process.specs.Slots.{filled}
 use Rattle.kq_process.proofs.Filled.{absent-filled, filled-rises, insert-filled, set-filled}
@@ -47,9 +47,11 @@ pub returns-in_ok-map_err-in-Err-clause-ok : goal.returns-in_ok-map_err-in-Err-c
 returns-in_ok-map_err-in-Err-clause-ok c =
     let es = c.self.inside.slots.items in
     let gap = rw c.deref.ensures.value at c.in-Err.ensures in
-    let on_answer : OnOk c.map_err.result (c.insert.new.self.items ≡ insert es c.in-Err.index (c.args.number, Some c.args.named)) = search rules in
+    let on_answer : OnOk c.map_err.result
+    (c.insert.new.self.items ≡ insert es c.in-Err.index (c.args.number, Some c.args.named)) = search rules in
     let more = rw c.in_ok-map_err-in-Err.was at on_answer in
-    rw (← c.self.view_is) (ap filled more ∙ insert-filled c.args.number es c.in-Err.index c.self.invariant gap c.args.named)
+    rw (← c.self.view_is)
+    (ap filled more ∙ insert-filled c.args.number es c.in-Err.index c.self.invariant gap c.args.named)
 
 pub returns-in_ok-map_err-in-Err-clause-rising : goal.returns-in_ok-map_err-in-Err-clause-rising
 returns-in_ok-map_err-in-Err-clause-rising c = rw (← c.self.view_is) (filled-rises _ c.self.invariant)

@@ -12,7 +12,7 @@ returns-clause-effect c =
     let live : is_live c.args.pid (processes_of c.args.self.now) ≡ true = grind (arith, c.is_live.ensures) in
     told_by (noted c.args.pid exec_note ∷ []) (IsToldBy (plan_exec c.args.pid) c.args.self.now)
     (λ e tells o now. rw (exec_plan c.args.pid (world_with c.args.self.now o now) live) (tells _ refl refl))
-    c.told.result c.told.ensures
+    c.told.new.self c.told.result c.told.ensures
 
 pub returns-clause-possible : goal.returns-clause-possible
 returns-clause-possible c =

@@ -1,7 +1,4 @@
-use Rattle.std.proofs.Common.{◌≡◌, ◌∙◌, true, false, Option, Some, None, not, sym}
-use Rattle.std.specs.Option.{is_some}
-use Rattle.kq_model.specs.Descriptors.{named_among}
-use Rattle.kq_model.specs.Processes.{is_live}
+use Rattle.std.proofs.Common.{◌∙◌, true, false, Some, None, sym}
 use Rattle.kq_process.specs.Processes.{processes_of, table_of}
 use Rattle.kq_process.specs.Shelf.{AreRising}
 use Rattle.kq_process.proofs.On.{on-closed, on-dead, on-open}

@@ -36,7 +36,7 @@ returns-clause-effect c =
     (IsToldBy (plan_sig c.args.pid c.args.signal) c.args.self.now)
     (λ e tells o now. rw (sig_heard c.args.pid (world_with c.args.self.now o now) c.args.signal live low high heard)
     (tells _ refl refl))
-    c.told.result c.told.ensures
+    c.told.new.self c.told.result c.told.ensures
 
 pub returns-clause-possible : goal.returns-clause-possible
 returns-clause-possible c =

@@ -1,4 +1,4 @@
-use Rattle.std.proofs.Common.{◌≡◌, ◌==◌, true, false, Some, None, IfOk, OnOk, refl, sym, subst, ℕ, arith}
+use Rattle.std.proofs.Common.{◌≡◌, ◌==◌, true, false, Some, None, OnOk, refl, sym, subst, ℕ, arith}
 use Rattle.std.proofs.lemmas.Bool.Decides.{nat_tests}
 use Rattle.kq_model.specs.World.{Planned, Possible, named_by}
 use Rattle.kq_model.specs.DescriptorPlans.{plan_dup}
@@ -50,7 +50,7 @@ returns-in-None c =
     let is : plan_dup c.args.pid c.args.fd c.args.to w ≡ Possible (sharing c.args.pid c.args.to None c.in-Ok.named w) =
     dup_other w c.args.pid c.args.fd c.args.to c.in-Ok.named c.in-Ok.ensures.live c.in-Ok.ensures.named c.in_default.not-Kqueue
     other None (sym c.in-None.ensures.named) in
-    let Given : Planned → Type 0 = λ p. IfOk c.share.result (IsEffectOf p) in
+    let Given : Planned → Type 0 = λ p. OnOk c.share.result (IsEffectOf p c.share.new.effect) in
     let After : ℕ → Planned → Type 0 = λ place p. OnOk c.share.result (state_of c.share.new.self ≡ world_after place p w) in
     record {
       effect = subst Given (sym is) c.share.ensures.effect;
@@ -67,7 +67,7 @@ returns-in-Some c =
     let is : plan_dup c.args.pid c.args.fd c.args.to w ≡ Possible (sharing c.args.pid c.args.to (Some c.in-Some.before) c.in-Ok.named w) =
     dup_other w c.args.pid c.args.fd c.args.to c.in-Ok.named c.in-Ok.ensures.live c.in-Ok.ensures.named c.in_default.not-Kqueue
     other (Some c.in-Some.before) (sym c.in-Some.ensures.named) in
-    let Given : Planned → Type 0 = λ p. IfOk c.replace.result (IsEffectOf p) in
+    let Given : Planned → Type 0 = λ p. OnOk c.replace.result (IsEffectOf p c.replace.new.effect) in
     let After : ℕ → Planned → Type 0 = λ place p. OnOk c.replace.result (state_of c.replace.new.self ≡ world_after place p w) in
     record {
       effect = subst Given (sym is) c.replace.ensures.effect;

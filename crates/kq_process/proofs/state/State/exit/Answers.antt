@@ -1,4 +1,4 @@
-use Rattle.std.proofs.Common.{◌≡◌, List, [], ◌∷◌, ◌++◌, sym, ap, rules, ◌∙◌}
+use Rattle.std.proofs.Common.{◌≡◌, ℕ, List, [], ◌∷◌, ◌++◌, map, sym, ap, ◌∙◌}
 use Rattle.kq_model.specs.declared.object.Named.{Named}
 use Rattle.kq_model.specs.Bits.{exit_note}
 use Rattle.kq_model.specs.Targets.{Posted}
@@ -49,11 +49,13 @@ returns-clause-effect c =
     ap (descriptors_in c.args.pid) c.slots-slots.ensures ∙ c.exit-gone.ensures.closed in
     let ns = exit-names (table_of old.processes) (objects_of old.objects) old.descriptors old.sound c.args.pid
     (filled c.slots-slots.result.now) all c.descriptors-descriptors.ensures.once in
-    let none : c.in_ok-hints.hints.items ≡ [] = search rules in
+    let none : c.reserve.new.self.items ≡ [] = c.reserve.ensures.items ∙ c.take_hints-hints.ensures in
     rw (exit_plan (state_of old) c.args.pid c.args.status (sym c.is_live.ensures ∙ c.if-not-is_live.false))
     (record {
       verdict = c.done.ensures.verdict;
-      closed = ap pairs_in (c.done.ensures.closed ∙ c.in_ok-closed.ensures)
+      closed = ap pairs_in (c.done.ensures.closed ∙ c.in_ok-put_pairs.ensures
+          ∙ ap (λ (ps : List (ℕ × ℕ)). ps ++ map (λ (d : ℕ × Named). (c.args.pid, d.0))
+          (filled c.descriptors-descriptors.result.now)) c.take_closed-closed.ensures)
           ∙ pairs-same c.args.pid (filled c.descriptors-descriptors.result.now) ∙ ap pairs_of c.descriptors-descriptors.ensures.all;
       hints = c.done.ensures.hints ∙ c.say.ensures.hints
           ∙ ap (λ (hs : List Posted). hs ++ noted c.args.pid exit_note ∷ []) (c.release_each.ensures.hints

@@ -1,7 +1,8 @@
-use Rattle.std.proofs.Common.{◌≡◌, ◌<◌, ◌+◌, ◌^◌, List, length, refl, sym, ap, arith, ◌∙◌}
+use Rattle.std.proofs.Common.{◌≡◌, ◌<◌, ◌+◌, ◌^◌, List, ◌++◌, length, refl, sym, ap, arith, ◌∙◌}
 use Rattle.kq_model.specs.Descriptors.{Descriptor}
 use Rattle.kq_model.specs.Holding.{all_held}
-use Rattle.kq_model.specs.ProcessPlans.{inherited, descriptors_of, names_of}
+use Rattle.kq_model.specs.ProcessPlans.{forked, inherited, descriptors_of, names_of}
+use Rattle.kq_model.specs.Targets.{Posted}
 use Rattle.kq_objects.specs.Objects.{objects_of}
 use Rattle.kq_process.specs.Processes.{table_of, descriptors_in}
 use Rattle.kq_process.specs.Slots.{filled}
@@ -60,7 +61,9 @@ pub returns-clause-effect : goal.returns-clause-effect
 returns-clause-effect c =
     rw (fork_plan (state_of c.args.self.now) c.args.pid c.args.child (sym c.is_live.ensures ∙ c.if-not-is_live.false)
     (sym c.was_used.ensures ∙ c.if-was_used.false))
-    (c.telling.ensures _ refl (sym c.in_ok-hints.ensures))
+    (c.telling.ensures _ refl (sym
+    (c.in_ok-put_forked.ensures
+    ∙ ap (λ (hs : List Posted). hs ++ forked c.args.pid c.args.child) c.take_hints-hints.ensures)))
 
 pub returns-clause-world : goal.returns-clause-world
 returns-clause-world c place =

@@ -10,7 +10,7 @@ use Rattle.kq_process.specs.World.{last_of, world_of}
 use Rattle.kq_process.specs.declared.state.State.{State}
 use Rattle.kq_process.specs.declared.world.World.{World}
 use Rattle.kq_process.proofs.Applied.{counted-record, counted-after, counted-later, counted-now, listed-after}
-use Rattle.kq_process.proofs.world.World.apply.Goals as goal
+use Rattle.kq_process.proofs.world.World.apply_into.Goals as goal
 
 -- places rise
 before : (w : World) (place : ℕ) → last_of w < place → IsCountedWorld place (world_of w)
@@ -23,7 +23,7 @@ pub invariant_of-self : goal.invariant_of-self
 invariant_of-self c =
     let old = c.args.self.now in
     let same : IsCountedWorld (last_of old + 1) (state_of c.apply.new.self) =
-    subst (IsCountedWorld (last_of old + 1)) (sym c.in_err-effect.ensures.memory) (counted-now old) in
+    subst (IsCountedWorld (last_of old + 1)) (sym c.in_err-apply.ensures.memory) (counted-now old) in
     record { rising = same.rising; owned = same.owned; below = same.below }
 
 next : (old : World) (new : State) (place : ℕ) (e : Event) → last_of old < place
@@ -35,13 +35,13 @@ next old new place e rises is =
 
 pub invariant_of-self-2 : goal.invariant_of-self-2
 invariant_of-self-2 c =
-    let n = next c.args.self.now c.apply.new.self c.args.place c.args.event.now c.requires c.in_ok-effect.ensures.world in
+    let n = next c.args.self.now c.apply.new.self c.args.place c.args.event.now c.requires c.in_ok-apply.ensures.world in
     record { rising = n.rising; owned = n.owned; below = n.below }
 
 pub returns-clause-next : goal.returns-clause-next
-returns-clause-next c = next c.args.self.now c.apply.new.self c.args.place c.args.event.now c.requires c.in_ok-effect.ensures.world
+returns-clause-next c = next c.args.self.now c.apply.new.self c.args.place c.args.event.now c.requires c.in_ok-apply.ensures.world
 
 pub returns-clause-listed : goal.returns-clause-listed
 returns-clause-listed c = λ m stands.
-    c.in_ok-effect.ensures.world ∙ ap (λ (w : ModelWorld counted). world_after c.args.place (plan c.args.place c.args.event.now w) w) stands
+    c.in_ok-apply.ensures.world ∙ ap (λ (w : ModelWorld counted). world_after c.args.place (plan c.args.place c.args.event.now w) w) stands
     ∙ listed-after c.args.place (plan c.args.place c.args.event.now (seen_world m)) m
