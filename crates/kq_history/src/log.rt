@@ -1,7 +1,8 @@
-ghost use Rattle.std.specs.Prelude.{◌≡◌, ◌<◌, ◌++◌, ◌∷◌, [], true, All, List, if◌then◌else◌, filter, length, map};
+ghost use Rattle.std.specs.Prelude.{◌≡◌, ◌<◌, ◌≤◌, ◌++◌, ◌∷◌, [], true, false, All, List, if◌then◌else◌, filter, length, map};
+ghost use Rattle.std.specs.Prelude.{nat_le, nat_lt};
 ghost use Rattle.std.specs.Prelude.{IfOk, OnOk};
 ghost use Rattle.std.specs.List.{IsDistinct};
-ghost use Rattle.std.specs.List.Sorted.{IsNonDecreasing};
+ghost use Rattle.std.specs.List.Sorted.{IsNonDecreasing, IsPartitionPoint};
 ghost use Rattle.kq_history.specs.BetweenCalls.{between};
 ghost use Rattle.kq_history.specs.Children.{child_told, children_at, children_of, is_of_process, AreReached};
 ghost use Rattle.kq_history.specs.Children.{AreWithChildren};
@@ -251,11 +252,37 @@ pub(crate) fn within(numbers: &[usize], first: usize, last: usize) -> &[usize]
     requires { IsNonDecreasing numbers.now }
     ensures { result.now ≡ filter (is_within first last) numbers.now }
 {
-    let below = numbers.partition_point(|number| *number < first);
-    let (_, rest) = numbers.split_at(below);
-    let count = rest.partition_point(|number| *number <= last);
-    let (inside, _) = rest.split_at(count);
+    let (_, rest) = numbers.split_at(count_below(numbers, first));
+    let (inside, _) = rest.split_at(count_up_to(rest, last));
     inside
+}
+
+/// How many of rising numbers are below this one. It costs a constant where none is, or the first one alone.
+fn count_below(numbers: &[usize], limit: usize) -> usize
+    requires { IsNonDecreasing numbers.now }
+    ensures inside { result ≤ length numbers.now }
+    ensures cut { IsPartitionPoint (λ n. nat_lt n limit ≡ true) (λ n. nat_lt n limit ≡ false) numbers.now result }
+{
+    if numbers.is_empty() || limit <= numbers[0] {
+        return 0;
+    }
+    if numbers.len() == 1 || limit <= numbers[1] {
+        return 1;
+    }
+    numbers.partition_point(|number| *number < limit)
+}
+
+/// How many of rising numbers are not above this one. It costs a constant where all are.
+fn count_up_to(numbers: &[usize], limit: usize) -> usize
+    requires { IsNonDecreasing numbers.now }
+    ensures inside { result ≤ length numbers.now }
+    ensures cut { IsPartitionPoint (λ n. nat_le n limit ≡ true) (λ n. nat_le n limit ≡ false) numbers.now result }
+{
+    let count = numbers.len();
+    if count == 0 || numbers[count - 1] <= limit {
+        return count;
+    }
+    numbers.partition_point(|number| *number <= limit)
 }
 
 /// Whether the items of a source can tell of children.

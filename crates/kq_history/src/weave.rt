@@ -24,7 +24,7 @@ pub(crate) fn woven(
     requires rising { IsNonDecreasing steps.now }
     ensures { IfOk result (λ picked. AreWoven items.now chosen.now steps.now picked.items) }
 {
-    let mut picked = Vec::new(alloc);
+    let mut picked = Vec::with_capacity(alloc, chosen.len())?;
     let mut rest = steps;
     for number in chosen {
         let below = rest.partition_point(|step| *step < *number);

@@ -1,5 +1,5 @@
 // One kqueue that goes on alone.
-ghost use Rattle.std.specs.Prelude.{◌≡◌, ◌≤◌, ◌++◌, ℕ, pos, All, List, IfOk, OnOk};
+ghost use Rattle.std.specs.Prelude.{◌≡◌, ◌≤◌, ◌++◌, ℕ, pos, All, List, length, IfOk, OnOk};
 ghost use Rattle.kq_model.specs.declared.change.Change.{Change};
 ghost use Rattle.kq_model.specs.System.{row_of};
 ghost use Rattle.kq_model.specs.Ticks.{last_moment};
@@ -15,6 +15,9 @@ use std::marker::Model;
 
 /// A kqueue with fewer items searches for what it looks at.
 const FEW_ITEMS: usize = 16;
+
+/// So many items are looked at ahead.
+const AHEAD: usize = 64;
 
 /// The last moment of the clock, in ns.
 const LAST_MOMENT: u64 = i64::MAX as u64;
@@ -63,7 +66,6 @@ impl<'s, 'a> Alone<'s, 'a> {
     {
         let alloc = split.allocator();
         let version = split.version();
-        let rows = Vec::with_capacity(alloc, calls_in(items))?;
         let looking = Looking::new(
             split,
             with_slots(items, targets),
@@ -75,7 +77,7 @@ impl<'s, 'a> Alone<'s, 'a> {
             place: 0,
             kq: Kq::in_version(alloc, owner, version),
             told: Vec::new(alloc),
-            rows,
+            rows: Vec::new(alloc),
             looking,
         })
     }
@@ -85,10 +87,23 @@ impl<'s, 'a> Alone<'s, 'a> {
         requires { All (IsRecorded self.old.trace) items.now }
         ensures { OnOk result (self.new ≡ after_items items.now self.old) }
     {
-        for item in items {
+        for (index, item) in items.iter().enumerate() {
+            self.look_ahead(items, index)?;
             self.go_on(*item)?;
         }
         Ok(())
+    }
+
+    /// From time to time makes room for the rows of the items that come next.
+    fn look_ahead(&mut self, items: &[Item], index: usize) -> Result<(), Memory>
+        requires { index ≤ length items.now }
+        ensures { OnOk result (self.new ≡ self.old) }
+    {
+        if index % AHEAD != 0 {
+            return Ok(());
+        }
+        let (_, next) = items.split_at(index);
+        Ok(self.rows.reserve(calls_ahead(self.split, next))?)
     }
 
     /// Its rows so far.
@@ -242,12 +257,19 @@ fn place_of(item: Option<&Item>) -> u64 {
     item.map_or(0, |item| item.place)
 }
 
-/// How many of these items are calls. Most of them give a row.
-fn calls_in(items: &[Item]) -> usize {
-    let calls = items
-        .iter()
-        .filter(|item| matches!(item.what, What::Called { .. }));
-    calls.count()
+/// How many of the items that come next are calls. Their records are looked at one right after the other, so that they
+/// come from memory together, and each is at hand at its call.
+fn calls_ahead(split: &Split, items: &[Item]) -> usize {
+    let next = items.iter().take(AHEAD);
+    next.filter(|item| is_call(split, item)).count()
+}
+
+/// Whether an item is a call. It looks at its record.
+fn is_call(split: &Split, item: &Item) -> bool {
+    match item.what {
+        What::Called { .. } => matches!(split.event(item.place), Some(Event::Kevent { .. })),
+        _ => false,
+    }
 }
 
 /// Adds the row of the reply to the record at a place, if it has one.
