@@ -5,7 +5,7 @@ ghost use Rattle.kq_model.specs.Kqueue.{is_waiting};
 use crate::Tally;
 use crate::hinted::is_shared;
 use kq_model::{Key, Target};
-use kq_table::Keyed;
+use kq_table::{Keyed, number_of};
 use std::marker::Model;
 
 /// What a kqueue keeps of one registered kevent (kqueue(2)).
@@ -115,6 +115,22 @@ impl Keyed for Knote {
             self.target
         } else {
             None
+        }
+    }
+
+    fn number_of_key(key: Key) -> usize {
+        number_of(key)
+    }
+
+    fn number_of_target(target: Target) -> usize {
+        match target {
+            Target::Socket(place) | Target::Pipe(place) | Target::Open(place) => place as usize,
+            Target::File(number) => number as usize,
+            Target::Process(pid) => pid as usize,
+            Target::Signal { pid, signal } => (pid as usize)
+                .wrapping_mul(32)
+                .wrapping_add(signal as usize),
+            Target::Own => 0,
         }
     }
 }

@@ -126,6 +126,11 @@ impl Knotes {
         let _ = self.places.reserve(knotes);
     }
 
+    /// A guess of where the knote of a key stands.
+    pub fn guess(&self, key: Key) -> Place {
+        self.rows.guess(key)
+    }
+
     /// The knote of a key.
     pub fn get(&self, key: Key) -> Option<Knote>
         ensures knote { result ≡ find_knote key self.now.knotes }
@@ -220,12 +225,12 @@ impl Knotes {
         ensures model { (ms : List (model.Knote listed)) (m : model.Knote listed) → self.old.knotes ≡ tallied_knotes ms
             → knote ≡ tallied_knote m → self.new.knotes ≡ tallied_knotes (with_knote m ms) }
     {
-        let Some(before) = self.rows.find_at(guess, knote.key) else {
+        let Some(before) = self.rows.look_at(guess, knote.key) else {
             return;
         };
         let first = knote.first_after(self.since);
         self.soonest = self.soonest.min(first);
-        self.alarmed = put_changed(&before, self.since, &mut self.alarms, self.alarmed, first);
+        self.alarmed = put_changed(before, self.since, &mut self.alarms, self.alarmed, first);
         self.rows.modify_at(guess, knote);
     }
 
@@ -242,7 +247,7 @@ impl Knotes {
             → (result ≡ option_map tallied_knote (find_knote key ms))
             × (self.new.knotes ≡ tallied_knotes (without_knote key ms)) }
     {
-        self.remove_at(Place::nowhere(), key)
+        self.remove_at(self.guess(key), key)
     }
 
     /// The same as `remove`. Where the knote of the key stands at the guessed place, no search by key is made

@@ -26,8 +26,8 @@ module _ {K T : Type 0} (key_of : T → K) (rows : ℕ → Option T) (links : �
       (slots : List ℕ) → IsThread links ends slots → AreFilled rows slots
       → (done : List ℕ) × (rest : List ℕ) × (slots ≡ done ++ rest) × (next ≡ head_or None rest) × (added ≡ before ++ map key_of (rows_at rows done))
 
-  pub along-start : (e : Ends) → e ≡ ends → (before : List K) → IsAlong before before e.first
-  along-start e e_is before slots is filled = ([], slots, refl, ap (λ (x : Ends). x.first) e_is ∙ is.first, sym (append-nil before))
+  pub along-start : (first : Option ℕ) → first ≡ ends.first → (before : List K) → IsAlong before before first
+  along-start first first_is before slots is filled = ([], slots, refl, first_is ∙ is.first, sym (append-nil before))
 
   pub along-step : (before added more : List K) (slot : ℕ) (row : T) (next : Option ℕ) → rows slot ≡ Some row → next ≡ after_of (links slot) → more ≡ added ++ key_of row ∷ []
       → (now : Option ℕ) → now ≡ Some slot → IsAlong before added now → IsAlong before more next

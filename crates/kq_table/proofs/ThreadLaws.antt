@@ -112,7 +112,7 @@ pub head_or-append : (after : Option ℕ) (xs ys : List ℕ) → head_or after (
 head_or-append after [] ys = refl
 head_or-append after (x ∷ xs) ys = refl
 
-last-named : (x : ℕ) (xs : List ℕ) → is_none (last_or (Some x) xs) ≡ false
+pub last-named : (x : ℕ) (xs : List ℕ) → is_none (last_or (Some x) xs) ≡ false
 last-named x [] = refl
 last-named x (y ∷ xs) = last-named y xs
 

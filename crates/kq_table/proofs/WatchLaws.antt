@@ -1,9 +1,9 @@
 -- Who watches a target, and who watches the same target next behind a key.
-use Rattle.std.proofs.Common.{◌≡◌, ℕ, ◌+◌, ◌≤◌, Bool, true, cond, eqb, List, ◌∷◌, ◌++◌, map, length, Option, Some, None, slice_get, refl, sym, ap, ◌∙◌, subst, arith}
-use Rattle.std.proofs.lemmas.Bool.{or_right}
+use Rattle.std.proofs.Common.{◌≡◌, ℕ, ◌+◌, ◌≤◌, Bool, true, cond, eqb, List, [], ◌∷◌, ◌++◌, map, length, Option, Some, None, slice_get, is_some, refl, sym, ap, ◌∙◌, subst, arith}
+use Rattle.std.proofs.lemmas.Bool.{false≢true, or_right}
 use Rattle.std.proofs.lemmas.Option.{none-some, same_Some, slice_get-map}
 use Rattle.std.specs.HashMap.{HashMap, get as found}
-use Rattle.std.specs.Option.{IfSome, option_map, option_and_then}
+use Rattle.std.specs.Option.{IfSome, is_none, option_map, option_and_then}
 use Rattle.slab.specs.Slab.{Slab}
 use Rattle.kq_table.specs.declared.node.Ends.{Ends}
 use Rattle.kq_table.specs.declared.node.Links.{Links}
@@ -13,18 +13,27 @@ use Rattle.kq_table.specs.declared.placed.Placed.{Placed}
 use Rattle.kq_table.specs.Links.{is_target, keys_watching, first_watching, first_alike, next_watching}
 use Rattle.kq_table.specs.Rows.{Tabled, find_row, rows_behind}
 use Rattle.kq_table.specs.Threads.{is_in, AreDistinct, AreLinked, head_or, last_or, after_of, IsThread, rows_in, links_in, rows_at}
-use Rattle.kq_table.specs.Kept.{ends_of, watches, watching, AreApart, HasNoRow, StandsAt}
+use Rattle.kq_table.specs.Kept.{ends_of, watches, watching, AreApart, AreLed, IsLeading, HasNoRow, StandsAt}
 use Rattle.kq_table.proofs.AlongLaws.{IsAlong, keys-watching, along-more, along-there, along-end}
 use Rattle.kq_table.proofs.EnterLaws.{in_watching}
 use Rattle.kq_table.proofs.KeptLaws.{IsSeen, first-at, filled, apart, there, missed-row, stands-row}
 use Rattle.kq_table.proofs.SeatLaws.{AreFilled, parted, find_row-parted, rows_behind-parted}
-use Rattle.kq_table.proofs.ThreadLaws.{at_split, in_right, AreLinked-between, IsThread-at}
+use Rattle.kq_table.proofs.ThreadLaws.{at_split, last-named, in_right, AreLinked-between, IsThread-at}
 use Rattle.kq_table.proofs.WithoutLaws.{filter-append, in_filter-from}
 
 -- the key of a row with its place is that of the row
 pub placed-key : {K T : Type 0} (key_of : T → K) (o : Option (Placed T)) → option_map (λ (p : Placed T). key_of p.row) o ≡ option_map key_of (option_map (λ (p : Placed T). p.row) o)
 placed-key key_of None = refl
 placed-key key_of (Some p) = refl
+
+-- what has none before it is the first
+led-at : (links : ℕ → Option Links) (ends : Ends) (slot : ℕ) (after : Option ℕ) (xs ys : List ℕ) → IsThread links ends (xs ++ slot ∷ ys)
+    → links slot ≡ Some (record { before = None; after = after }) → Some slot ≡ ends.first
+led-at links ends slot after [] ys thread first = sym thread.first
+led-at links ends slot after (x ∷ xs) ys thread first =
+    let between = sym first ∙ AreLinked-between links (x ∷ xs) slot ys thread.linked in
+    let before = ap (λ (o : Option Links). is_none (option_and_then (λ (l : Links). l.before) o)) between in
+    absurd (false≢true (sym (last-named x xs) ∙ sym before))
 
 module _ {K T G S R : Type 0} {same : K → K → Bool} {alike : G → G → Bool} {key_of : T → K} {target_of : T → Option G}
     {nodes : Slab (Node T)} {index : HashMap K ℕ S} {targets : HashMap G Ends R} {order queue : Ends} {waiting limit births : ℕ} {v : Tabled K T}
@@ -53,11 +62,20 @@ module _ {K T G S R : Type 0} {same : K → K → Bool} {alike : G → G → Boo
     keys-along =
         keys-watching alike key_of target_of target (rows_in nodes) table.kept.slots (filled table) ∙ ap (keys_watching alike key_of target_of target) table.rows
 
-    pub first-watching : (e : Ends) → e ≡ ends_of (found alike targets target) → option_map key_of (option_and_then (rows_in nodes) e.first) ≡ slice_get (keys_watching alike key_of target_of target v.rows) 0
-    first-watching e is =
-        ap (λ o. option_map key_of (option_and_then (rows_in nodes) o)) (ap (λ (x : Ends). x.first) is ∙ (table.kept.entered.watched target).first)
+    pub first-watching : (o : Option ℕ) → o ≡ (ends_of (found alike targets target)).first → option_map key_of (option_and_then (rows_in nodes) o) ≡ slice_get (keys_watching alike key_of target_of target v.rows) 0
+    first-watching o is =
+        ap (λ o. option_map key_of (option_and_then (rows_in nodes) o)) (is ∙ (table.kept.entered.watched target).first)
         ∙ ap (option_map key_of) (sym (first-at (rows_in nodes) slots full))
         ∙ sym (slice_get-map key_of (rows_at (rows_in nodes) slots) 0) ∙ ap (λ keys. slice_get keys 0) keys-along
+
+    leading : (slot : ℕ) → IsLeading alike target_of (rows_in nodes) (links_in Watch nodes) target slot → Some slot ≡ (ends_of (found alike targets target)).first
+    leading slot leads =
+        let passes : watches alike target_of target (rows_in nodes slot) ≡ true = ap (watches alike target_of target) leads.here ∙ leads.is in
+        let within : is_in slot table.kept.slots ≡ true = table.kept.whole slot (ap is_some leads.here) in
+        at_split (λ l. IsThread (links_in Watch nodes) (ends_of (found alike targets target)) l → Some slot ≡ (ends_of (found alike targets target)).first) slot slots
+        (in_filter-from (λ t. watches alike target_of target (rows_in nodes t)) table.kept.slots slot within passes)
+        (λ xs ys thread. led-at (links_in Watch nodes) (ends_of (found alike targets target)) slot leads.after xs ys thread leads.first)
+        (table.kept.entered.watched target)
 
     -- ---- a walk along them
 
@@ -76,6 +94,9 @@ module _ {K T G S R : Type 0} {same : K → K → Bool} {alike : G → G → Boo
       watching-end is =
           along-end key_of (rows_in nodes) (links_in Watch nodes) (ends_of (found alike targets target)) before added slots (table.kept.entered.watched target) full next is along
           ∙ ap (λ keys. before ++ keys) keys-along
+
+  pub are-led : AreLed alike target_of (rows_in nodes) (links_in Watch nodes) targets
+  are-led target slot leads = leading target slot leads
 
   -- ---- next behind a key
 

@@ -50,6 +50,19 @@ module _ {T G : Type 0} (alike : G → G → Bool) (target_of : T → Option G) 
   AreWatched rows links targets slots =
       (target : G) → IsThread links (ends_of (found alike targets target)) (watching target rows slots)
 
+  -- the row at this slot watches this target, and none before it does
+  pub record IsLeading (rows : ℕ → Option T) (links : ℕ → Option Links) (target : G) (slot : ℕ) : Type 0 where
+    pub row : T
+    pub here : rows slot ≡ Some row
+    pub is : is_target alike target (target_of row) ≡ true
+    pub after : Option ℕ
+    pub first : links slot ≡ Some (record { before = None; after = after })
+
+  -- of each target the slot with such a row is the first
+  abbrev pub AreLed : {R : Type 0} → (ℕ → Option T) → (ℕ → Option Links) → HashMap G Ends R → Type 0
+  AreLed rows links targets = (target : G) (slot : ℕ) → IsLeading rows links target slot
+      → Some slot ≡ (ends_of (found alike targets target)).first
+
 module _ {K T : Type 0} (same : K → K → Bool) (key_of : T → K) where
   -- it is the row of this key
   abbrev pub is_key_of : K → Option T → Bool

@@ -1,10 +1,13 @@
-ghost use Rattle.std.specs.Prelude.{◌≡◌, ℕ, Some, MatchOption, option_map};
+ghost use Rattle.std.specs.Prelude.{◌≡◌, ℕ, Some, true, MatchOption, option_map};
 ghost use Rattle.std.specs.Option.{option_and_then};
-ghost use Rattle.kq_table.specs.Kept.{is_key_of, HasNoRow, IsIndexed, StandsAt};
-ghost use Rattle.kq_table.specs.Threads.{rows_in};
+ghost use Rattle.std.specs.HashMap.{get as found};
+ghost use Rattle.kq_table.specs.Kept.{ends_of, is_key_of, AreLed, HasNoRow, IsIndexed, IsLeading, StandsAt};
+ghost use Rattle.kq_table.specs.Threads.{links_in, rows_in};
+ghost use Rattle.kq_table.specs.declared.node.Thread.TheVariants.{Watch};
 
 use crate::Keyed;
-use crate::node::Node;
+use crate::enter::ends_at;
+use crate::node::{Ends, Node};
 use crate::placed::{Place, Placed};
 use slab::Slab;
 use std::collections::HashMap;
@@ -56,6 +59,41 @@ pub(crate) fn near<T: Keyed>(
         return Some(guess.slot);
     }
     indexed(nodes, index, key)
+}
+
+/// Whether the row at a slot is the first that watches a target.
+#[inline(always)]
+fn leads<T: Keyed>(nodes: &Slab<Node<T>>, slot: usize, target: T::Target) -> bool
+    ensures { result ≡ true
+        → IsLeading T.Target.eq T.target_of (rows_in nodes.now) (links_in Watch nodes.now) target slot }
+{
+    let Some(node) = nodes.get(slot) else {
+        return false;
+    };
+    let None = node.watch.before else {
+        return false;
+    };
+    let Some(watched) = node.row.target() else {
+        return false;
+    };
+    target == watched
+}
+
+/// The first slot whose row watches a target. Where it is the guessed one, the map is not asked.
+#[inline(always)]
+pub(crate) fn first_near<T: Keyed>(
+    nodes: &Slab<Node<T>>,
+    targets: &HashMap<T::Target, Ends>,
+    guess: Place,
+    target: T::Target,
+) -> Option<usize>
+    requires { AreLed T.Target.eq T.target_of (rows_in nodes.now) (links_in Watch nodes.now) targets.now }
+    ensures { result ≡ (ends_of (found T.Target.eq targets.now target)).first }
+{
+    if leads(nodes, guess.slot, target) {
+        return Some(guess.slot);
+    }
+    ends_at(targets, target).first
 }
 
 /// The row at a slot with its place, where a slot is named.

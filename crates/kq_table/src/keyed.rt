@@ -20,8 +20,23 @@ pub trait Keyed: Copy {
     fn target(&self) -> Option<Self::Target>
         ensures { result ≡ target_of self.now };
 
+    /// A number by which a guess is kept of where the row of a key stands. Keys may share one.
+    fn number_of_key(key: Self::Key) -> usize;
+
+    /// The same of the first row that watches a target.
+    fn number_of_target(target: Self::Target) -> usize;
+
     // Keys that are equal are one.
     ghost one_key: { (a b : Self.Key) → Self.Key.eq a b ≡ true → a ≡ b };
+}
+
+/// How far apart the numbers of keys of one ident are.
+const FILTERS_APART: usize = 0x9E37_79B9;
+
+/// A number of a key: small where its ident is.
+#[inline(always)]
+pub fn number_of(key: Key) -> usize {
+    (key.ident as usize).wrapping_add((key.filter as usize).wrapping_mul(FILTERS_APART))
 }
 
 /// A key is a row of itself alone, and watches nothing.
@@ -43,6 +58,14 @@ impl Keyed for Key {
 
     fn target(&self) -> Option<Key> {
         None
+    }
+
+    fn number_of_key(key: Key) -> usize {
+        number_of(key)
+    }
+
+    fn number_of_target(target: Key) -> usize {
+        number_of(target)
     }
 
     ghost one_key = { one_key_by _ (λ a b. Prim.search rules) };

@@ -4,6 +4,7 @@
 mod birth;
 mod enter;
 mod find;
+mod guesses;
 mod keyed;
 mod link;
 mod node;
@@ -17,7 +18,7 @@ mod table;
 mod waiting;
 mod watching;
 
-pub use keyed::Keyed;
+pub use keyed::{Keyed, number_of};
 pub use numbered::Birth;
 pub use placed::{Place, Placed};
 pub use table::Table;

@@ -1,5 +1,5 @@
 ghost use Rattle.std.specs.Prelude.{◌≡◌, IsSome, Some, None};
-ghost use Rattle.std.specs.Option.{option_and_then};
+ghost use Rattle.std.specs.Option.{option_and_then, option_copied};
 ghost use Rattle.slab.specs.Slab.{get, slab_len};
 ghost use Rattle.kq_table.specs.Threads.{after_of, births_in, links_in, links_of, rows_in, with_birth, with_links};
 ghost use Rattle.kq_table.specs.Threads.{written, SameBut, SameButBirths};
@@ -42,6 +42,19 @@ pub(crate) fn row_at<T: Copy>(nodes: &Slab<Node<T>>, slot: Option<usize>) -> Opt
         return None;
     };
     Some(node.row)
+}
+
+/// The same, without a copy of the row.
+pub(crate) fn seen_at<T: Copy>(nodes: &Slab<Node<T>>, slot: Option<usize>) -> Option<&T>
+    ensures { option_copied result ≡ option_and_then (rows_in nodes.now) slot }
+{
+    let Some(slot) = slot else {
+        return None;
+    };
+    let Some(node) = nodes.get(slot) else {
+        return None;
+    };
+    Some(&node.row)
 }
 
 /// The links at a slot.

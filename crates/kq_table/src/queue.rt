@@ -45,7 +45,7 @@ impl<T: Keyed> Table<T> {
     pub fn behind(&self, key: T::Key) -> Option<T::Key>
         ensures { result ≡ key_behind T.Key.eq key self.now.queue }
     {
-        let Some(slot) = near(&self.nodes, &self.index, Place::nowhere(), key) else {
+        let Some(slot) = near(&self.nodes, &self.index, self.guess(key), key) else {
             return None;
         };
         key_at(&self.nodes, slot_behind(&self.nodes, Thread::Queue, slot))

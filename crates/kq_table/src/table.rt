@@ -1,15 +1,16 @@
 ghost use Rattle.std.specs.Prelude.{◌≡◌, ◌<◌, ◌≤◌, ◌+◌, ◌++◌, ◌∷◌, ◌↔◌, [], None, IsTrue, OnOk, OnErr, MatchOption};
 ghost use Rattle.std.specs.Prelude.{length, max, is_some, slice_get};
-ghost use Rattle.std.specs.Option.{option_map};
+ghost use Rattle.std.specs.Option.{option_copied, option_map};
 ghost use Rattle.kq_table.specs.Rows.{find_row, row_after, with_row, without_row, without_waiting, HaveOwnKeys};
 
 use crate::Keyed;
 use crate::birth::next_birth;
 use crate::enter::{enter, enter_all, make_room, withdraw};
 use crate::find::{near, placed_at, target_at};
+use crate::guesses::{Guesses, make_room_for_guesses, note_heir, note_row};
 use crate::link::{link_last, unlink};
 use crate::node::{Ends, Node, Thread};
-use crate::nodes::{row_at, set_row, slot_behind};
+use crate::nodes::{row_at, seen_at, set_row, slot_behind};
 use crate::placed::{Place, Placed};
 use crate::room::fit;
 use crate::waiting::dequeue;
@@ -41,6 +42,8 @@ pub struct Table<T: Keyed> {
     pub(crate) limit: usize,
     /// What is born next has this number.
     pub(crate) births: u64,
+    /// Where rows were put.
+    pub(crate) guesses: Guesses,
 }
 
 impl<T: Keyed> Model for Table<T> {
@@ -81,6 +84,7 @@ impl<T: Keyed> Table<T> {
             waiting: 0,
             limit: 0,
             births: 0,
+            guesses: Guesses::new(alloc),
         }
     }
 
@@ -132,21 +136,27 @@ impl<T: Keyed> Table<T> {
             limit,
         )?;
         self.limit = limit;
+        make_room_for_guesses(&self.nodes, self.order.first, limit, &mut self.guesses);
         Ok(())
+    }
+
+    /// A guess of where the row of a key stands.
+    pub fn guess(&self, key: T::Key) -> Place {
+        self.guesses.of_key(T::number_of_key(key))
     }
 
     /// The row of a key.
     pub fn find(&self, key: T::Key) -> Option<T>
         ensures { result ≡ find_row T.Key.eq T.key_of key self.now.rows }
     {
-        self.find_at(Place::nowhere(), key)
+        self.find_at(self.guess(key), key)
     }
 
     /// The row of a key with its place, where the calls that take a guess find it without a search.
     pub fn locate(&self, key: T::Key) -> Option<Placed<T>>
         ensures { option_map (λ p. p.row) result ≡ find_row T.Key.eq T.key_of key self.now.rows }
     {
-        self.locate_at(Place::nowhere(), key)
+        self.locate_at(self.guess(key), key)
     }
 
     /// The same as `find`. Where the row of the key stands at the guessed place, that is all that is
@@ -163,6 +173,13 @@ impl<T: Keyed> Table<T> {
         ensures { option_map (λ p. p.row) result ≡ find_row T.Key.eq T.key_of key self.now.rows }
     {
         placed_at(&self.nodes, near(&self.nodes, &self.index, guess, key))
+    }
+
+    /// The same as `find_at`, without a copy of the row.
+    pub fn look_at(&self, guess: Place, key: T::Key) -> Option<&T>
+        ensures { option_copied result ≡ find_row T.Key.eq T.key_of key self.now.rows }
+    {
+        seen_at(&self.nodes, near(&self.nodes, &self.index, guess, key))
     }
 
     /// Whether there is a row of a key.
@@ -186,7 +203,7 @@ impl<T: Keyed> Table<T> {
     pub fn next_after(&self, key: T::Key) -> Option<T>
         ensures { result ≡ row_after T.Key.eq T.key_of key self.now.rows }
     {
-        self.next_after_at(Place::nowhere(), key)
+        self.next_after_at(self.guess(key), key)
     }
 
     /// The same as `next_after`. Where the row of the key stands at the guessed place, it is not looked up.
@@ -214,6 +231,7 @@ impl<T: Keyed> Table<T> {
         let slot = self.nodes.insert_reserved(Node::new(row, born));
         link_last(&mut self.nodes, Thread::Order, &mut self.order, slot);
         enter(&mut self.nodes, &mut self.index, &mut self.targets, slot);
+        note_row(&self.nodes, slot, &mut self.guesses);
         Place { slot }
     }
 
@@ -225,7 +243,7 @@ impl<T: Keyed> Table<T> {
         ensures queue { self.new.queue ≡ self.old.queue }
         ensures room { self.new.room ≡ self.old.room }
     {
-        self.modify_at(Place::nowhere(), row);
+        self.modify_at(self.guess(row.key()), row);
     }
 
     /// The same as `modify`. Where the row of the key stands at the guessed place, it is not looked up.
@@ -253,7 +271,7 @@ impl<T: Keyed> Table<T> {
         ensures queue { self.new.queue ≡ without_waiting T.Key.eq key self.old.queue }
         ensures room { MatchOption result (self.new.room ≡ self.old.room) (λ _. self.new.room ≡ self.old.room + 1) }
     {
-        self.remove_at(Place::nowhere(), key)
+        self.remove_at(self.guess(key), key)
     }
 
     /// The same as `remove`. Where the row of the key stands at the guessed place, it is not looked up.
@@ -266,6 +284,7 @@ impl<T: Keyed> Table<T> {
         let Some(slot) = near(&self.nodes, &self.index, guess, key) else {
             return None;
         };
+        note_heir(&self.nodes, slot, &mut self.guesses);
         dequeue(&mut self.nodes, &mut self.queue, &mut self.waiting, slot);
         withdraw(&mut self.nodes, &mut self.targets, slot);
         unlink(&mut self.nodes, Thread::Order, &mut self.order, slot);

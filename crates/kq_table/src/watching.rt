@@ -5,14 +5,18 @@ ghost use Rattle.kq_table.specs.Rows.{find_row};
 ghost use Rattle.kq_table.specs.Links.{keys_watching, next_watching};
 
 use crate::Keyed;
-use crate::enter::ends_at;
-use crate::find::{near, placed_at, target_at};
+use crate::find::{first_near, near, placed_at, target_at};
 use crate::node::Thread;
 use crate::nodes::slot_behind;
 use crate::placed::{Place, Placed};
 use crate::table::Table;
 
 impl<T: Keyed> Table<T> {
+    /// A guess of where the first row stands that watches a target.
+    fn guess_first(&self, target: T::Target) -> Place {
+        self.guesses.of_target(T::number_of_target(target))
+    }
+
     /// The first row that watches a target, in the order of attachment.
     pub fn first_watching(&self, target: T::Target) -> Option<Placed<T>>
         ensures key { option_map (λ p. T.key_of p.row) result
@@ -20,7 +24,9 @@ impl<T: Keyed> Table<T> {
         ensures row { IfSome result
             (λ p. find_row T.Key.eq T.key_of (T.key_of p.row) self.now.rows ≡ Some p.row) }
     {
-        placed_at(&self.nodes, ends_at(&self.targets, target).first)
+        let guess = self.guess_first(target);
+        let first = first_near(&self.nodes, &self.targets, guess, target);
+        placed_at(&self.nodes, first)
     }
 
     /// The row that watches the same target next behind that of a key; None where that is the last, or
@@ -49,7 +55,8 @@ impl<T: Keyed> Table<T> {
             ++ keys_watching T.Target.eq T.key_of T.target_of target self.now.rows }
         ensures capacity { vec_capacity found.new ≡ vec_capacity found.old }
     {
-        let mut next = ends_at(&self.targets, target).first;
+        let guess = self.guess_first(target);
+        let mut next = first_near(&self.nodes, &self.targets, guess, target);
         while let Some(slot) = next {
             let Some(node) = self.nodes.get(slot) else {
                 return true;

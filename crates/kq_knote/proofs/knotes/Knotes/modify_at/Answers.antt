@@ -18,11 +18,11 @@ pub invariant_of-self : goal.invariant_of-self
 invariant_of-self c =
     let ks = c.self.inside.rows.rows in
     let knote = c.args.knote in
-    let before = c.in-Some.before in
+    let before = c.in-Some.before.now in
     let put = c.put_changed-self-inside in
     let found : find_knote knote.key ks ≡ Some before =
     ap (λ (k : Knote). find_knote k.key ks) (sym c.knote.view_is)
-    ∙ sym (find_row-knotes c.knote.inside.key ks) ∙ sym c.find_at.ensures ∙ c.in-Some.is in
+    ∙ sym (find_row-knotes c.knote.inside.key ks) ∙ sym c.in-Some.ensures in
     let rows : c.modify_at.new.self.rows ≡ with_knote knote ks = c.modify_at.ensures.rows ∙ with_row-knotes knote ks in
     let held : put.result ≡ true → IsAlarmed c.self.inside.alarms.entries (next_of c.self.inside.since before) before =
     λ whole. all-found (λ k. IsAlarmed c.self.inside.alarms.entries (next_of c.self.inside.since k) k) knote.key before ks
@@ -57,7 +57,7 @@ returns-in_default-clause-knotes c =
     let absent : find_knote c.args.knote.key c.args.self.now.knotes ≡ None =
     ap (λ (v : Reserved). find_knote c.args.knote.key v.knotes) (sym c.self.view_is)
     ∙ ap (λ (k : Knote). find_knote k.key c.self.inside.rows.rows) (sym c.knote.view_is)
-    ∙ sym (find_row-knotes c.knote.inside.key c.self.inside.rows.rows) ∙ sym c.find_at.ensures ∙ c.in_default.is in
+    ∙ sym (find_row-knotes c.knote.inside.key c.self.inside.rows.rows) ∙ sym c.in_default.ensures in
     sym (with_knote-absent c.args.knote c.args.self.now.knotes absent)
 
 pub returns-in_default-clause-model : goal.returns-in_default-clause-model

@@ -5,7 +5,7 @@ use Rattle.kq_table.proofs.AttachLaws.{attached}
 use Rattle.kq_table.proofs.NodeLaws.{get-updated}
 use Rattle.kq_table.proofs.KeptLaws.{fits-one, IsSeen, seen, rows-seen, queue-seen}
 use Rattle.kq_table.proofs.table.Table.attach.Given.{Over}
-use Rattle.kq_table.proofs.table.Table.attach.Goals.{After-enter}
+use Rattle.kq_table.proofs.table.Table.attach.Goals.{After-note_row}
 use Rattle.kq_table.proofs.table.Table.attach.Goals as goal
 
 pub make_room-requires-clause-keys : goal.make_room-requires-clause-keys
@@ -41,7 +41,7 @@ insert_reserved-slot-requires g c =
 pub link_last-requires : goal.link_last-requires
 link_last-requires g c = ap is_some c.insert_reserved-slot.ensures.updates.changed
 
-entered : (g : Over) (c : After-enter g)
+entered : (g : Over) (c : After-note_row g)
     → IsSeen g.T.Key.PartialEq.eq g.T.Target.PartialEq.eq g.T.Keyed.key_of g.T.Keyed.target_of c.enter.new.nodes c.enter.new.index c.enter.new.targets c.link_last.new.ends c.self.inside.queue c.self.inside.waiting
     c.self.inside.limit c.next_birth-born.new.births
     (record { rows = c.args.self.now.rows ++ c.args.row ∷ []; queue = c.args.self.now.queue; room = c.self.inside.limit - slab_len c.enter.new.nodes })

@@ -8,14 +8,18 @@ use Rattle.kq_table.specs.Kept.{ends_of}
 use Rattle.kq_table.specs.Threads.{after_of, row_of, links_of, links_in, rows_in}
 use Rattle.kq_table.proofs.AlongLaws.{along-start, along-step}
 use Rattle.kq_table.proofs.KeptLaws.{seen}
-use Rattle.kq_table.proofs.WatchLaws.{watching-more, watching-there, watching-end}
+use Rattle.kq_table.proofs.WatchLaws.{watching-more, watching-there, watching-end, are-led}
 use Rattle.kq_table.proofs.table.Table.watching.Goals as goal
+
+pub first_near-next-requires : goal.first_near-next-requires
+first_near-next-requires g c =
+    are-led (seen g.met.T.Key.Eq.laws g.met.T.Target.Eq.laws g.met.T.Keyed.one_key c.self.invariant c.self.view_is)
 
 pub loop-next-init : goal.loop-next-init
 loop-next-init g c =
     let nodes = c.self.inside.nodes in
     record {
-      along = along-start g.T.Keyed.key_of (rows_in nodes) (links_in Watch nodes) (ends_of (found g.T.Target.PartialEq.eq c.self.inside.targets c.args.target)) c.ends_at-next.result c.ends_at-next.ensures c.args.found.now.items;
+      along = along-start g.T.Keyed.key_of (rows_in nodes) (links_in Watch nodes) (ends_of (found g.T.Target.PartialEq.eq c.self.inside.targets c.args.target)) c.first_near-next.result c.first_near-next.ensures c.args.found.now.items;
       capacity = refl;
     }
 
