@@ -1,5 +1,6 @@
 -- Members that stand one behind the other, as far as they were read.
-use Rattle.std.specs.Prelude.{◌≡◌, ◌≤◌, ℕ, ℤ, pos, negsuc, List, [], ◌∷◌, ◌++◌, Bool, true, ◌&&◌, codes, nat_lt, Option, Some, None, Ok}
+use Rattle.std.specs.Prelude.{◌≡◌, ◌≤◌, ℕ, ℤ, pos, negsuc, List, [], ◌∷◌, ◌++◌, Bool, true, ◌&&◌, codes, nat_lt}
+use Rattle.std.specs.Prelude.{Option, Some, None, Ok}
 use Rattle.json.specs.Json as json
 use Rattle.json.specs.Spaced.{IsGap}
 use Rattle.json.specs.Tree as tree
@@ -32,8 +33,8 @@ pub record IsNextKey (text name value : List ℕ) : Type 0 where
 
 -- the members from `start` up to `rest` are these: with those that are written behind them they are an object's
 pub record AreMembersUpTo (n : ℕ) (start rest : List ℕ) (ms : Members) : Type 0 where
-  pub more : (written : json.Members) (all : Members) (tail : List ℕ) → Spells true (tree.members_tokens written) rest tail
-      → of_members written ms ≡ Some all → tree.members_depth written ≤ n → AreMembers n start tail all
+  pub more : (written : json.Members) (all : Members) (tail : List ℕ)
+      → Spells true (tree.members_tokens written) rest tail → of_members written ms ≡ Some all → tree.members_depth written ≤ n → AreMembers n start tail all
 
 -- the line is an object that has these members up to `rest`
 pub record IsLineUpTo (line rest : List ℕ) (ms : Members) : Type 0 where

@@ -18,7 +18,8 @@ use kq_model::{Event, RecordKind, Series};
 /// The kind of a record whose name comes first, and the text behind that.
 #[inline(always)]
 fn kind_first<'a>(line: &'a [u8]) -> Option<(RecordKind, &'a [u8])>
-    ensures { IfSome result (λ r. (op : List ℕ) × (kind_named op ≡ Some r.0) × IsLineUpTo line.now r.1.now (with_op op)) }
+    ensures { IfSome result (λ r. (op : List ℕ) × (kind_named op ≡ Some r.0)
+        × IsLineUpTo line.now r.1.now (with_op op)) }
 {
     let (name, rest) = quoted(behind_key(behind(line, b'{')?, b"op")?)?;
     Some((kind_named(name)?, rest))
