@@ -29,7 +29,8 @@ first_of old new text start bytes end in_old within w =
     record {
       ends = ap (λ n. start + n) (sym long);
       is = sym (take-take (start + bytes) end new short) ∙ ap (take (start + bytes)) w.is
-          ∙ ap (λ n. take (n + bytes) (take start old ++ text)) (sym before) ∙ take-append-add (take start old) text bytes;
+          ∙ ap (λ n. take (n + bytes) (take start old ++ text)) (sym before)
+          ∙ take-append-add (take start old) text bytes;
     }
 
 -- a text that was put where it is to stand
@@ -62,7 +63,8 @@ placed_back old new text rest start count first in_old long back before behind =
 pub as_adds : {a b t : List ℕ} {start end : ℕ} → Writes a start t b end → Adds (take start a) t (take end b)
 as_adds w = record { is = w.is }
 
-pub from_adds : (a b t : List ℕ) (start end : ℕ) → start ≤ length a → end ≤ length b → Adds (take start a) t (take end b)
+pub from_adds : (a b t : List ℕ) (start end : ℕ) → start ≤ length a → end ≤ length b
+    → Adds (take start a) t (take end b)
     → Writes a start t b end
 from_adds a b t start end in_a in_b adds = record {
   ends = sym (length-take-le end b in_b) ∙ ap length adds.is ∙ length-append (take start a) t

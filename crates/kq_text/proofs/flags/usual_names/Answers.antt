@@ -6,7 +6,8 @@ use Rattle.kq_text.proofs.FlagTextLemmas.{clear_name, dispatch_name, eof_name, n
 use Rattle.kq_text.proofs.flags.usual_names.Goals as goal
 
 pub returns-then-is_empty-clause-text : goal.returns-then-is_empty-clause-text
-returns-then-is_empty-clause-text c = no_names c.args.flags (eqb-true c.args.flags.0 0 (sym (c.is_empty.ensures tt) ∙ c.if-is_empty.true))
+returns-then-is_empty-clause-text c =
+    no_names c.args.flags (eqb-true c.args.flags.0 0 (sym (c.is_empty.ensures tt) ∙ c.if-is_empty.true))
 
 pub returns-then-eq-clause-text : goal.returns-then-eq-clause-text
 returns-then-eq-clause-text c = let e : c.args.flags.0 ≡ clear = search rules in clear_name c.args.flags e

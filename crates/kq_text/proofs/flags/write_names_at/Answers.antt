@@ -19,7 +19,8 @@ loop-flag-preserved c =
     elim c.if-contains.branch [
       | then-contains w ↦ rw (w.out-is, w.end-is, w.is_later-is) (record {
         text = name_taken c.args.flags c.loop-flag.is_later items i _ done _ c.loop-flag-test.true
-            (sym (c.contains.ensures tt) ∙ w.if-contains.true) (as_adds w.write_name_at-end.ensures.text) ∙ c.loop-flag.invariant.text;
+            (sym (c.contains.ensures tt) ∙ w.if-contains.true) (as_adds w.write_name_at-end.ensures.text)
+            ∙ c.loop-flag.invariant.text;
         room = omega (arith, names_bytes-more items i no_flag c.loop-flag-test.true, w.write_name_at-end.ensures.short);
       })
       | else-contains w ↦ rw (w.out-is, w.end-is, w.is_later-is) (record {
@@ -46,5 +47,7 @@ returns-clause-text c =
       names_bytes-some (rows_of (drop c.loop-flag.flag-index items)),
     ))
     (names_ended c.args.flags c.loop-flag.is_later items c.loop-flag.flag-index
-    (take start c.args.out.now) (take c.write_at-end.result c.write_at-end.new.out) (take c.loop-flag.end c.loop-flag.out) (take c.write_at.result c.write_at.new.out) c.loop-flag-test.false
-    (c.flags-flag-items.ensures tt) (as_adds c.write_at-end.ensures) c.loop-flag.invariant.text (as_adds c.write_at.ensures))
+    (take start c.args.out.now) (take c.write_at-end.result c.write_at-end.new.out)
+    (take c.loop-flag.end c.loop-flag.out) (take c.write_at.result c.write_at.new.out) c.loop-flag-test.false
+    (c.flags-flag-items.ensures tt) (as_adds c.write_at-end.ensures) c.loop-flag.invariant.text
+    (as_adds c.write_at.ensures))

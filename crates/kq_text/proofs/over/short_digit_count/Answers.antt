@@ -11,9 +11,19 @@ returns-else-number-lt10 c = sym (length_two c.args.number c.if-number-lt10.fals
 pub returns-then-number-lt1000 : goal.returns-then-number-lt1000
 returns-then-number-lt1000 c =
     let n = c.args.number in
-    omega (arith, length_pair n c.if-number-lt100.false (omega arith), length_one (n / 100) (omega (arith, c.if-number-lt1000.true)))
+    omega (
+      arith,
+      length_pair n c.if-number-lt100.false (omega arith),
+      length_one (n / 100)
+          (omega (arith, c.if-number-lt1000.true)),
+    )
 
 pub returns-else-number-lt1000 : goal.returns-else-number-lt1000
 returns-else-number-lt1000 c =
     let n = c.args.number in
-    omega (arith, length_pair n c.if-number-lt100.false (omega arith), length_two (n / 100) (omega (arith, c.if-number-lt1000.false)) (omega arith))
+    omega (
+      arith,
+      length_pair n c.if-number-lt100.false (omega arith),
+      length_two (n / 100)
+          (omega (arith, c.if-number-lt1000.false)) (omega arith),
+    )

@@ -21,7 +21,8 @@ returns-clause-text c =
     let i = c.write_number_at-end-2 in
     let j = c.write_at-end-3 in
     let k = c.write_number_at-end-3 in
-    let opening : Writes c.args.out.now c.args.start (comma_if c.args.is_later ++ codes "{\"data\":") a.new.out a.result = search rules in
+    let opening : Writes c.args.out.now c.args.start (comma_if c.args.is_later ++ codes "{\"data\":") a.new.out
+    a.result = search rules in
     let datum : Writes a.new.out a.result (signed_decimal event.datum) b.new.out b.result = search rules in
     let fflags_name : Writes b.new.out b.result (codes ",\"fflags\":") d.new.out d.result = search rules in
     let fflags_from : Writes d.new.out d.result (decimal c.from.result) e.new.out e.result = search rules in
@@ -36,5 +37,6 @@ returns-clause-text c =
     let udata : Writes j.new.out j.result (decimal event.udata) k.new.out k.result = search rules in
     let close : Writes k.new.out k.result (codes "}") c.write_at.new.out c.write_at.result = search rules in
     as_text (listed_text c.args.is_later event) (
-    and_then opening (and_then datum (and_then fflags_name (and_then fflags (and_then filter (and_then flags (and_then ident_name
+    and_then opening (and_then datum (and_then fflags_name (and_then fflags
+    (and_then filter (and_then flags (and_then ident_name
     (and_then ident (and_then udata_name (and_then udata close))))))))))

@@ -8,4 +8,5 @@ pub returns-in-Done-clause-text : goal.returns-in-Done-clause-text
 returns-in-Done-clause-text c =
     let old = c.args.out.now in
     let start = c.args.start in
-    subst (λ reply. Writes old start (reply_line c.args.at reply) old start) (sym c.in-Done.is) (done_line c.args.at old start)
+    subst (λ reply. Writes old start (reply_line c.args.at reply) old start) (sym c.in-Done.is)
+    (done_line c.args.at old start)

@@ -11,4 +11,5 @@ returns-then-is_empty-clause-text c =
 pub returns-clause-text : goal.returns-clause-text
 returns-clause-text c =
     as_text (returned_line c.args.at c.args.events.now)
-    (and_then c.write_place_at-end.ensures.text (and_then c.write_at-end.ensures (and_then c.write_events_at-end.ensures.text c.write_at-2.ensures)))
+    (and_then c.write_place_at-end.ensures.text (and_then c.write_at-end.ensures
+    (and_then c.write_events_at-end.ensures.text c.write_at-2.ensures)))

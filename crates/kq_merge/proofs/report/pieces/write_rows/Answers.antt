@@ -19,7 +19,10 @@ loop-slot-preserved c =
     let slot = c.slot-item.result in
     let put = c.loop-slot.invariant in
     elim c.match-slot.branch [
-      | in-Some w ↦ rw (w.out-is, w.end-is) (row_written_below slots i slot w.in-Some.row c.loop-slot.out w.write_reply_at-end.new.out c.loop-slot.end w.write_reply_at-end.result
-          c.loop-slot-test.true c.slot-item.is (search rules) put w.write_reply_at-end.auto.out w.write_reply_at-end.ensures.text w.write_reply_at-end.ensures.short)
-      | in_default w ↦ rw (w.out-is, w.end-is) (none_written_below slots i slot c.loop-slot.out c.loop-slot.end c.loop-slot-test.true c.slot-item.is (search rules) put)
+      | in-Some w ↦ rw (w.out-is, w.end-is) (row_written_below slots i slot w.in-Some.row c.loop-slot.out
+          w.write_reply_at-end.new.out c.loop-slot.end w.write_reply_at-end.result
+          c.loop-slot-test.true c.slot-item.is (search rules) put w.write_reply_at-end.auto.out
+          w.write_reply_at-end.ensures.text w.write_reply_at-end.ensures.short)
+      | in_default w ↦ rw (w.out-is, w.end-is) (none_written_below slots i slot c.loop-slot.out c.loop-slot.end
+          c.loop-slot-test.true c.slot-item.is (search rules) put)
     ]
