@@ -7,7 +7,7 @@ use std::alloc::Global;
 use std::collections::HashMap;
 
 /// Every place below this one is near.
-const NEAR: u64 = 1 << 22;
+const NEAR: u64 = 1 << 20;
 
 /// So many places more are near for each object that is kept.
 const NEAR_EACH: u64 = 64;
