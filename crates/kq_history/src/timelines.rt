@@ -29,11 +29,14 @@ impl<K: Copy + Eq + Hash, V: Drop> Timelines<K, V> {
     }
 
     /// The last mark of a key at the place or before it, if there is one. It costs a constant where no mark of it is
-    /// later.
+    /// later, and nothing where no key has a mark.
     pub fn mark_at(&self, key: K, place: u64) -> Option<&Mark<V>>
         ensures { (before : Mark V)
             → mark_at place before (marks_at K.eq self.now.table key) ≡ mark_or before (option_copied result) }
     {
+        if self.table.is_empty() {
+            return None;
+        }
         let timeline = self.table.get(&key)?;
         timeline.mark_at(place)
     }
