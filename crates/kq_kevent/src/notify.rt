@@ -44,19 +44,15 @@ fn is_for(knote: &Knote, target: Target, hint: Hint) -> bool
 
 /// Tells a knote the next hint of a record, where it is for it.
 #[tactic(auto, unfolding(crate::specs::Telling::told_one))]
-fn tell(telling: Telling, target: Target, hint: Hint) -> Telling
-    ensures { result ≡ told_one (target, hint) telling }
+fn tell(telling: &mut Telling, target: Target, hint: Hint)
+    ensures { telling.new ≡ told_one (target, hint) telling.old }
 {
     if !is_for(&telling.knote, target, hint) {
-        return telling;
+        return;
     }
-    let mut knote = telling.knote;
-    let heard = hear(&mut knote, hint);
-    Telling {
-        knote,
-        any: true,
-        done: telling.done || heard == Heard::Drop,
-    }
+    let heard = hear(&mut telling.knote, hint);
+    telling.any = true;
+    telling.done = telling.done || heard == Heard::Drop;
 }
 
 /// Tells a knote the hints of a record that are for it, in their order.
@@ -69,7 +65,7 @@ fn tell_all(knote: Knote, hints: &[(Target, Hint)]) -> Telling
         done: false,
     };
     for posted in hints {
-        telling = tell(telling, posted.0, posted.1);
+        tell(&mut telling, posted.0, posted.1);
     }
     telling
 }

@@ -170,7 +170,8 @@ impl Kq {
         ensures room { self.old.room ≤ self.new.room }
         ensures limit { limit self.new ≡ limit self.old }
     {
-        self.unmake_at(Place::nowhere(), key);
+        let guess = self.knotes.guess(key);
+        self.unmake_at(guess, key);
     }
 
     /// The same as `unmake`. Where the knote stands at the guessed place, no search is made for it.

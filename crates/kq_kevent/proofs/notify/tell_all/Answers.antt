@@ -18,7 +18,7 @@ loop-posted-preserved c =
     record {
       so_far = c.loop-posted.invariant.so_far
           ∙ at_drop_more (λ ps. told_all ps c.loop-posted.telling) hints i no_hint (omega arith)
-          ∙ ap (told_all (drop (i + 1) hints)) (sym c.tell-telling.ensures);
+          ∙ ap (told_all (drop (i + 1) hints)) (sym c.tell.ensures);
     }
 
 pub returns : goal.returns
