@@ -9,6 +9,9 @@ mod Weaving
 mod Known
 mod Places
 mod Sourced
+mod SameSource
+mod LineLemmas
+mod Sighted
 mod PickedPrivate
 mod Descending
 mod Worklist

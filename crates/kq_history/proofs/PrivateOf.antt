@@ -39,15 +39,8 @@ use Rattle.kq_history.proofs.KeptCloses.{children-same}
 use Rattle.kq_history.proofs.Descending.{all-of, all-other, no-other}
 use Rattle.kq_history.proofs.NamedKqueues.{named-at}
 use Rattle.kq_history.proofs.PickedPrivate.{picked-private}
+use Rattle.kq_history.proofs.SameSource.{eq_is}
 use Rattle.kq_history.proofs.Sourced.{own-source, same_source}
-
-target-is : (a b : Target) → source_eq (source.Of a) (source.Of b) ≡ target_eq b a
-unfolding target_eq
-target-is a b = search rules
-
-pub eq_is : (a b : Source) → source_eq a b ≡ same_source a b
-eq_is (source.Of a) (source.Of b) = target-is a b
-eq_is a b = search rules
 
 or_true : (b : Bool) → (b || true) ≡ true
 or_true true = refl

@@ -4,6 +4,7 @@ use Rattle.std.specs.Prelude.{◌++◌, filter, slice_index_or, if◌then◌else
 use Rattle.std.specs.List.{flat_map}
 use Rattle.std.specs.List.Sorted.{IsNonDecreasing}
 use Rattle.std.specs.HashMap.{HashMap}
+pub use Rattle.kq_index.specs.Index.{standing}
 use Rattle.kq_history.specs.declared.item.Item.{Item}
 use Rattle.kq_history.specs.declared.item.Source.{Source}
 use Rattle.kq_history.specs.declared.item.Source.TheVariants.{Clock}
@@ -11,13 +12,8 @@ use Rattle.kq_history.specs.declared.item.What.{What}
 use Rattle.kq_history.specs.declared.item.What.TheVariants.{Closed, Clocked}
 use Rattle.kq_history.specs.declared.log.Log.{Log}
 use Rattle.kq_history.specs.Items.{has_source, source_eq, source_of}
-use Rattle.kq_history.specs.Shelves.{shelf_at, shelved}
+use Rattle.kq_history.specs.Shelves.{shelf_at}
 use Rattle.kq_history.specs.Steps.{joined}
-
--- where those of a list stand that pass a test; its first stands at `from`
-abbrev pub standing : {X : Type 0} → (X → Bool) → ℕ → List X → List ℕ
-standing test from [] = []
-standing test from (x ∷ xs) = shelved (test x) from ++ standing test (from + 1) xs
 
 abbrev pub comes_from : Source → Item → Bool
 comes_from s i = source_eq (source_of i.what) s

@@ -4,8 +4,11 @@
 
 mod answering;
 mod at;
+mod filed;
+mod guesses;
 mod item;
 mod kqueues;
+mod lines;
 mod listing;
 mod log;
 mod looking;
@@ -15,6 +18,8 @@ mod private;
 mod said;
 mod seen;
 mod shelves;
+mod shown;
+mod sighting;
 mod sights;
 mod sources;
 mod split;

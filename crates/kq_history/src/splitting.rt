@@ -71,10 +71,11 @@ impl Splitting {
         put_plain(&mut self.plain, place, &effect.verdict)
     }
 
-    /// The split of a trace all of whose records came. Its cost is that of dropping the world.
-    pub fn end<'a>(self, trace: &'a Trace) -> Split<'a>
+    /// The split of a trace all of whose records came. Its cost is that of what was seen, and of dropping the world.
+    /// Memory: a growth was refused.
+    pub fn end<'a>(self, trace: &'a Trace) -> Result<Split<'a>, Memory>
         requires { IsSplitSoFar (traced trace.now) self }
-        ensures { result ≡ traced trace.now }
+        ensures { IfOk result (λ s. s ≡ traced trace.now) }
     {
         let events = trace.events.as_slice();
         let Splitting {
@@ -83,12 +84,13 @@ impl Splitting {
             plain,
             ..
         } = self;
-        Split {
+        let seen = seen.end()?;
+        Ok(Split {
             version: trace.version,
             events,
             seen,
             said,
             plain,
-        }
+        })
     }
 }
