@@ -11,6 +11,7 @@ mod Places
 mod Sourced
 mod SameSource
 mod LineLemmas
+mod Filing
 mod Sighted
 mod PickedPrivate
 mod Descending

@@ -4,9 +4,9 @@ pub mod Items
 pub mod Lines
 pub mod Filed
 pub mod Hashed
-pub mod Shelves
 pub mod Steps
 pub mod Log
+pub mod Saying
 pub mod Sources
 pub mod Kept
 pub mod Kqueues
