@@ -1,11 +1,10 @@
 -- Lines of sources: which line a source has, and where those of a list with lines stand.
-use Rattle.std.proofs.Common.{◌≡◌, ◌∙◌, ◌+◌, ◌<◌, ℕ, zero, suc, Bool, true, false, eqb, length, List, [], ◌∷◌, ◌++◌, ⊎_elim, Option, None, Some, option_map, slice_get, refl, sym, ap, ap₂, subst, arith}
-use Rattle.std.specs.Cmp.{IsEquivalence}
+use Rattle.std.proofs.Common.{◌≡◌, ◌∙◌, ◌+◌, ◌<◌, ℕ, zero, suc, true, false, eqb, length, List, [], ◌∷◌, ◌++◌, ⊎_elim, Option, None, Some, option_map, slice_get, refl, sym, ap, ap₂, subst}
 use Rattle.std.specs.HashMap.{HashMap, get, keys, IsUnique}
 use Rattle.std.specs.HashMap.Eq.{lookup_congr}
 use Rattle.std.specs.List.{All, AllByRecursion, IsDistinct}
 use Rattle.std.specs.Map.{keys_of}
-use Rattle.std.proofs.lemmas.Bool.{cases_eq, eq-eqb, ne_eqb, false≢true, true≢false}
+use Rattle.std.proofs.lemmas.Bool.{cases_eq, eq-eqb, ne_eqb, false≢true}
 use Rattle.std.proofs.lemmas.List.Elements.{All-cons, All-nil}
 use Rattle.std.proofs.lemmas.Map.Entries.{hash_map_get_place}
 use Rattle.std.proofs.lemmas.Map.Keys.{IsDistinct-head, IsDistinct-tail}

@@ -1,5 +1,5 @@
 -- Lines in a log of sights, as one more is noted.
-use Rattle.std.proofs.Common.{◌≡◌, ◌∙◌, ◌+◌, ℕ, Bool, true, false, cond, List, [], ◌∷◌, ◌++◌, map, Option, None, Some, unwrap_or, refl, sym, ap, ap₂, subst, rules, arith}
+use Rattle.std.proofs.Common.{◌≡◌, ◌∙◌, ◌+◌, ℕ, cond, List, [], ◌∷◌, ◌++◌, map, Option, None, Some, unwrap_or, refl, sym, ap, ap₂, subst, rules, arith}
 use Rattle.std.specs.HashMap.{HashMap, get, keys}
 use Rattle.std.specs.Map.{lookup}
 use Rattle.kq_model.specs.declared.object.Target.{Target}

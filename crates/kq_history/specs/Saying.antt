@@ -1,5 +1,5 @@
 -- The lines of the sources of items, one after the other.
-use Rattle.std.specs.Prelude.{List, map}
+use Rattle.std.specs.Prelude.{map}
 use Rattle.std.specs.HashMap.{keys}
 use Rattle.kq_history.specs.declared.item.Item.{Item}
 use Rattle.kq_history.specs.declared.item.Source.{Source}

@@ -1,4 +1,4 @@
-ghost use Rattle.std.specs.Prelude.{◌≡◌, [], None, Some, length, unwrap_or, MatchOption, IfOk, IfSome, if◌then◌else◌};
+ghost use Rattle.std.specs.Prelude.{◌≡◌, [], None, Some, length, unwrap_or, MatchOption, IfOk, if◌then◌else◌};
 ghost use Rattle.std.specs.HashMap.{get, keys, IsUnique};
 ghost use Rattle.kq_history.specs.Items.{source_eq};
 ghost use Rattle.kq_history.specs.Lines.{Extends, HasLine};

@@ -1,4 +1,4 @@
-use Rattle.std.proofs.Common.{◌≡◌, ◌∙◌, false, eqb, sym}
+use Rattle.std.proofs.Common.{◌∙◌, false, eqb, sym}
 use Rattle.std.specs.HashMap.{keys}
 use Rattle.kq_history.specs.Lines.{is_line}
 use Rattle.kq_history.proofs.LineLemmas.{its-line, no-line}

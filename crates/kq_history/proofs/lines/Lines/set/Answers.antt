@@ -1,5 +1,5 @@
-use Rattle.std.proofs.Common.{◌≡◌, ◌∙◌, ◌<◌, ℕ, None, Some, option_map, slice_get, sym, ap, rules}
-use Rattle.std.specs.HashMap.{keys, values}
+use Rattle.std.proofs.Common.{◌≡◌, ◌∙◌, None, Some, option_map, slice_get, ap, rules}
+use Rattle.std.specs.HashMap.{values}
 use Rattle.std.proofs.lemmas.Option.{none-some, slice_get-map}
 use Rattle.indexmap.proofs.CallerLemmas.{keys-with_value_at, updates-with_value_at}
 use Rattle.kq_history.specs.contracts.item.SourceEq.TheImpl.Laws.{laws-law}

@@ -1,4 +1,4 @@
-use Rattle.std.proofs.Common.{◌≡◌, ◌∙◌, List, map, sym, ap, rules}
+use Rattle.std.proofs.Common.{◌∙◌, map}
 use Rattle.kq_history.specs.declared.item.Source.{Source}
 use Rattle.kq_history.specs.Items.{source_eq}
 use Rattle.kq_history.specs.Saying.{item_source}

@@ -1,4 +1,4 @@
-use Rattle.std.proofs.Common.{◌≡◌, ◌∙◌, List, map, sym, ap, subst, rules}
+use Rattle.std.proofs.Common.{◌∙◌, map}
 use Rattle.kq_model.specs.declared.object.Target.{Target}
 use Rattle.kq_history.specs.declared.item.Source.TheVariants.{Of}
 use Rattle.kq_history.specs.Sighting.{seen_source}

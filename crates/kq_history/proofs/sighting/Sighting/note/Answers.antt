@@ -1,7 +1,6 @@
-use Rattle.std.proofs.Common.{◌≡◌, ◌∙◌, ◌++◌, ◌∷◌, [], ℕ, List, Option, None, Some, unwrap_or, length, true, cond, leb, sym, ap, subst, rules}
+use Rattle.std.proofs.Common.{◌≡◌, ◌∙◌, ◌++◌, ◌∷◌, [], ℕ, List, None, unwrap_or, true, sym, ap, subst, rules}
 use Rattle.std.proofs.lemmas.List.Sorted.{IsNonDecreasingBy-push}
 use Rattle.kq_model.specs.declared.object.Target.{Target}
-use Rattle.kq_model.specs.declared.object.View.{View}
 use Rattle.kq_history.specs.declared.item.Source.TheVariants.{Of}
 use Rattle.kq_history.specs.declared.sights.Sight.{Sight}
 use Rattle.kq_history.specs.Sights.{last_view, sight, view_at, AreInOrder, AreUpTo}
