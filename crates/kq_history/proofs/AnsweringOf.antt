@@ -25,7 +25,8 @@ use Rattle.kq_history.specs.Said.{IsSaid}
 use Rattle.kq_history.specs.Sources.{reference_sources}
 use Rattle.kq_history.specs.Steps.{joined}
 use Rattle.kq_history.specs.Traced.{Traced, births_of, moments_of}
-use Rattle.kq_history.proofs.PrivateOf.{eq_is, named-there, no_birth, owned-there, picked-met}
+use Rattle.kq_history.proofs.PrivateOf.{named-there, no_birth, owned-there, picked-met}
+use Rattle.kq_history.proofs.SameSource.{eq_is}
 
 -- ---- two tests that agree on a list
 

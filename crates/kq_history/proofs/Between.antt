@@ -1,7 +1,6 @@
 -- What stands between the first number of a source and its last one is what comes between its first item and its last.
 use Rattle.std.proofs.Common.{◌≡◌, ◌+◌, ◌-◌, ◌<◌, ◌≤◌, ◌==◌, ◌&&◌, ◌||◌, ℕ, zero, suc, Bool, true, false, cond, leb, ltb, List, [], ◌∷◌, ◌++◌, map, filter, length, get_or, take, drop, refl, sym, ap, ap₂, subst, ◌∙◌, arith}
 use Rattle.std.specs.Cmp.{IsEquivalence}
-use Rattle.std.specs.HashMap.{HashMap}
 use Rattle.std.specs.List.{AllWithin, IsDistinct, flat_map, list_any, sum_by}
 use Rattle.std.specs.List.Sorted.{IsNonDecreasing}
 use Rattle.std.proofs.lemmas.Bool.{and_from, and_left, and_right, both_ways, eqb-true, false≢true, le-leb, lt-leb, ltb-false, ltb-true, or_parts}
@@ -15,7 +14,9 @@ use Rattle.kq_history.specs.declared.item.Source.{Source}
 use Rattle.kq_history.specs.BetweenCalls.{between, from_first, to_last}
 use Rattle.kq_history.specs.Items.{has_source, is_from, source_eq, source_of}
 use Rattle.kq_history.specs.Log.{all_standing, comes_from, is_within, item_at, standing, within_of, AreShelved}
-use Rattle.kq_history.specs.Shelves.{shelf_at, shelved}
+use Rattle.kq_index.specs.Index.{shelved}
+use Rattle.kq_history.specs.declared.filed.Filed.{Filed}
+use Rattle.kq_history.specs.Filed.{filed_at}
 use Rattle.kq_history.proofs.Picked.{standing-from, standing-rises}
 use Rattle.kq_history.proofs.Rising.{AreFrom, DoNotFall}
 
@@ -245,9 +246,9 @@ rises-along (n ∷ ns) rises zero (suc j) d le within = from-low n ns j d rises.
 rises-along (n ∷ ns) rises (suc i) zero d le within = absurd (omega (arith, le))
 rises-along (n ∷ ns) rises (suc i) (suc j) d le within = rises-along ns rises.1 i j d (omega (arith, le)) (omega (arith, within))
 
-pub shelf-rises : {S : Type 0} (items : List Item) (table : HashMap Source (List ℕ) S) → AreShelved items table → (s : Source) (ns : List ℕ)
-    → ns ≡ shelf_at source_eq table s → IsNonDecreasing ns
-shelf-rises items table shelved s ns is =
+pub shelf-rises : {V : Type 0} (items : List Item) (shelves : Filed V) → AreShelved items shelves → (s : Source) (ns : List ℕ)
+    → ns ≡ filed_at shelves s → IsNonDecreasing ns
+shelf-rises items shelves shelved s ns is =
     subst (λ (xs : List ℕ). IsNonDecreasing xs) (sym (is ∙ shelved s))
     (rises-along (standing (comes_from s) 0 items) (standing-rises (comes_from s) 0 items))
 

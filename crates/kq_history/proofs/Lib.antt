@@ -10,6 +10,10 @@ mod Weaving
 mod Known
 mod Places
 mod Sourced
+mod SameSource
+mod LineLemmas
+mod Filing
+mod Sighted
 mod PickedPrivate
 mod Descending
 mod Worklist

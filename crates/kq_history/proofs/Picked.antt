@@ -11,9 +11,8 @@ use Rattle.kq_model.proofs.KnoteLaws.{by_test}
 use Rattle.kq_history.specs.declared.item.Item.{Item}
 use Rattle.kq_history.specs.declared.item.Source.{Source}
 use Rattle.kq_history.specs.Items.{source_eq, source_of, is_from}
-use Rattle.std.specs.HashMap.{HashMap}
-use Rattle.kq_history.specs.Log.{standing, comes_from, all_standing, item_at, AreShelved}
-use Rattle.kq_history.specs.Shelves.{shelf_at, shelved}
+use Rattle.kq_history.specs.Log.{standing, comes_from, all_standing, item_at}
+use Rattle.kq_index.specs.Index.{shelved}
 use Rattle.kq_history.proofs.Rising.{AreFrom, DoNotFall, one_order}
 
 module _ {X : Type 0} where
@@ -115,14 +114,3 @@ read_from test all from (i ∷ items) reads =
 
 pub read_all : (test : Item → Bool) (items : List Item) → map (item_at items) (standing test 0 items) ≡ filter test items
 read_all test items = read_from test items 0 items (λ k within. let same : 0 + k ≡ k = omega arith in ap (λ n. item_at items n) same)
-
--- ---- a log with one item more
-
-pub shelved-push : {S : Type 0} (items : List Item) (item : Item) (old new : HashMap Source (List ℕ) S) → AreShelved items old
-    → ((s : Source) → shelf_at source_eq new s ≡ shelf_at source_eq old s ++ shelved (source_eq (source_of item.what) s) (length items))
-    → AreShelved (items ++ item ∷ []) new
-shelved-push items item old new before added = λ s.
-    let end : length items ≡ 0 + length items = omega arith in
-    added s ∙ ap (λ ns. ns ++ shelved (comes_from s item) (length items)) (before s)
-    ∙ ap (λ n. standing (comes_from s) 0 items ++ shelved (comes_from s item) n) end
-    ∙ sym (standing-push (comes_from s) 0 items item)

@@ -1,5 +1,5 @@
 -- What is picked by the sources of a kqueue is its private list.
-use Rattle.std.proofs.Common.{◌≡◌, ◌∙◌, ◌<◌, ◌==◌, ◌&&◌, ◌||◌, not, ℕ, zero, suc, ◌+◌, eqb, Bool, true, false, cond, List, [], ◌∷◌, ◌++◌, map, filter, length, get_or, refl, sym, ap, ap₂, subst, arith, rules}
+use Rattle.std.proofs.Common.{◌≡◌, ◌∙◌, ◌<◌, ◌==◌, ◌&&◌, ◌||◌, not, ℕ, zero, suc, ◌+◌, eqb, Bool, true, false, cond, List, [], ◌∷◌, ◌++◌, map, filter, length, get_or, refl, sym, ap, ap₂, subst, arith}
 use Rattle.std.specs.List.{All, Contains, flat_map, list_any}
 use Rattle.std.proofs.lemmas.Bool.{and_from, and_parts, and_right, eq-eqb, eqb-true, false≢true}
 use Rattle.std.proofs.lemmas.List.{length-map}
@@ -17,7 +17,7 @@ use Rattle.kq_model.specs.References.{Names, Reference, descended, forks_at, nam
 use Rattle.kq_model.specs.declared.object.Hint.TheVariants.{Readable}
 use Rattle.kq_model.specs.Following.{Fork, all_forks}
 use Rattle.kq_model.specs.Items as model
-use Rattle.kq_model.specs.Targets.{is_target, target_eq}
+use Rattle.kq_model.specs.Targets.{is_target}
 use Rattle.kq_model.proofs.BornFirst.{born-first}
 use Rattle.kq_model.proofs.Descended.{AreBornFirst}
 use Rattle.kq_history.specs.declared.item.Item.{Item}
@@ -28,7 +28,7 @@ use Rattle.kq_history.specs.declared.said.Said.{Said}
 use Rattle.kq_model.proofs.KnoteLaws.{by_test}
 use Rattle.kq_history.specs.Children.{AreReached, AreWithChildren}
 use Rattle.kq_history.specs.Concerned.{IsConcerned, items_met}
-use Rattle.kq_history.specs.Items.{bare_items, bare_what, has_source, is_from, source_eq, source_of}
+use Rattle.kq_history.specs.Items.{bare_items, bare_what, has_source, is_from, source_of}
 use Rattle.kq_history.specs.Kept.{has_owner, is_gone}
 use Rattle.kq_history.specs.Kqueues.{IsAtPlace}
 use Rattle.kq_history.specs.Private.{IsPrivate, is_owned}
@@ -39,15 +39,8 @@ use Rattle.kq_history.proofs.KeptCloses.{children-same}
 use Rattle.kq_history.proofs.Descending.{all-of, all-other, no-other}
 use Rattle.kq_history.proofs.NamedKqueues.{named-at}
 use Rattle.kq_history.proofs.PickedPrivate.{picked-private}
-use Rattle.kq_history.proofs.Sourced.{own-source, same_source}
-
-target-is : (a b : Target) → source_eq (source.Of a) (source.Of b) ≡ target_eq b a
-unfolding target_eq
-target-is a b = search rules
-
-pub eq_is : (a b : Source) → source_eq a b ≡ same_source a b
-eq_is (source.Of a) (source.Of b) = target-is a b
-eq_is a b = search rules
+use Rattle.kq_history.proofs.SameSource.{eq_is}
+use Rattle.kq_history.proofs.Sourced.{own-source}
 
 or_true : (b : Bool) → (b || true) ≡ true
 or_true true = refl

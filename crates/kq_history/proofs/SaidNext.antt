@@ -33,11 +33,11 @@ use Rattle.kq_process.specs.Effects.{IsDone, IsEffectOf, pairs_in}
 use Rattle.kq_history.specs.declared.item.Item.{Item}
 use Rattle.kq_history.specs.declared.item.What.TheVariants as bare
 use Rattle.kq_history.specs.declared.kqueues.Kqueues.{Kqueues}
-use Rattle.kq_history.specs.declared.said.Said.{Said}
+use Rattle.kq_history.specs.declared.hearing.Hearing.{Hearing}
 use Rattle.kq_history.specs.Heard.{IsHeard, IsHeardBy, IsSaidOnce}
 use Rattle.kq_history.specs.Items.{bare_items}
 use Rattle.kq_history.specs.Kept.{has_owner, heard_closes, is_gone, is_kept, is_silent, KeepsTo, SaysAll}
-use Rattle.kq_history.specs.Said.{called_items, kept_by, said_items, said_whats, AreAllSaid, AreHeard, AreNamedBy, AreTheKqueues, CallsBelow, IsSaid}
+use Rattle.kq_history.specs.Said.{called_items, kept_by, said_items, said_whats, AreAllSaid, AreHeard, AreNamedBy, AreTheKqueues, CallsBelow, IsHearing}
 use Rattle.kq_history.specs.Sayings.{born_of, call_by, call_of, call_on, clock_of, kqueue_named, kqueue_of, Says, SaysBy}
 use Rattle.kq_history.specs.Sources.{Grows, call_sources}
 use Rattle.kq_history.specs.Spoken.{opened_numbers, spoken_numbers, spoken_targets}
@@ -385,12 +385,12 @@ module _ (t : Traced) (e : Event) (counts : IsCountedWorld (end t e) (now t e)) 
   -- ---- any
 
   pub said-next : (q : Planned) → plan (end t e) e (now t e) ≡ q → (effect : Effect) → IsEffectOf q effect → (next : World counted)
-      → ((p : Plan) → q ≡ Possible p → next ≡ carried_out (end t e) p (now t e)) → (silent : Bool) → (s s' : Said) → IsSaid t s
-      → silent ≡ is_silent e (contains nat_eq s.kqueues.owners) → IsHeard silent (end t e) e effect (now t e) next s s' → IsSaid (longer t e) s'
+      → ((p : Plan) → q ≡ Possible p → next ≡ carried_out (end t e) p (now t e)) → (silent : Bool) → (s s' : Hearing) → IsHearing t s
+      → silent ≡ is_silent e (contains nat_eq s.kqueues.owners) → IsHeard silent (end t e) e effect (now t e) next s s' → IsHearing (longer t e) s'
   said-next (Impossible why) is effect refused next leads silent s s' said silent_is heard =
       let none : s' ≡ s = subst (λ v. IsHeardBy v silent (end t e) e effect (now t e) next s s') refused.verdict heard in
-      subst (IsSaid (longer t e)) (sym none) (record {
-        logged = record { items = refused-said why is s.log.items.items said.logged.items; shelved = said.logged.shelved };
+      subst (IsHearing (longer t e)) (sym none) (record {
+        logged = record { items = refused-said why is s.log.items.items said.logged.items; lined = said.logged.lined };
         kqueues = refused-kqueues why is s.kqueues said.kqueues;
       })
   said-next (Possible p) is effect done next leads silent s s' said silent_is heard =
@@ -399,7 +399,7 @@ module _ (t : Traced) (e : Event) (counts : IsCountedWorld (end t e) (now t e)) 
         logged = record {
           items = done-said p is effect done silent (contains nat_eq s.kqueues.owners) said.kqueues.owners silent_is s.log.items.items s'.log.items.items
               said.logged.items once.items;
-          shelved = once.shelved said.logged.shelved;
+          lined = once.lined said.logged.lined;
         };
         kqueues = done-kqueues p is effect done s.kqueues s'.kqueues said.kqueues
             (subst (λ w. AreHeard (end t e) (born_of e) (call_by e (kqueue_of e (now t e))) (views_of w) s.kqueues s'.kqueues) (leads p refl) once.kqueues);

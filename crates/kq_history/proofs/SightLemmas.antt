@@ -14,7 +14,7 @@ use Rattle.kq_model.proofs.SameTarget.{same_target}
 use Rattle.kq_history.specs.declared.sights.Sight.{Sight}
 use Rattle.kq_history.specs.Keys.{target_key}
 use Rattle.kq_history.specs.Log.{is_within, standing}
-use Rattle.kq_history.specs.Shelves.{shelved}
+use Rattle.kq_index.specs.Index.{shelved}
 use Rattle.kq_history.specs.Sights.{is_of, last_from, last_view, view_at, view_from, AreLater, AreUpTo}
 use Rattle.kq_history.proofs.NotedKeys.{as_target}
 

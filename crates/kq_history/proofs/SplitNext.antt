@@ -22,11 +22,11 @@ use Rattle.kq_process.specs.declared.world.World.{World}
 use Rattle.kq_process.specs.Effects.{IsEffectOf}
 use Rattle.kq_process.specs.World.{world_of, IsEffectBy}
 use Rattle.kq_history.specs.declared.kqueues.Kqueues.{Kqueues}
-use Rattle.kq_history.specs.declared.said.Said.{Said}
+use Rattle.kq_history.specs.declared.hearing.Hearing.{Hearing}
 use Rattle.kq_history.specs.Heard.{IsHeard}
 use Rattle.kq_history.specs.Kept.{is_silent}
-use Rattle.kq_history.specs.Log.{AreShelved}
-use Rattle.kq_history.specs.Said.{AreNamedBy, AreTheKqueues, IsSaid}
+use Rattle.kq_history.specs.Said.{AreNamedBy, AreTheKqueues, IsHearing}
+use Rattle.kq_history.specs.Saying.{AreLinedUp}
 use Rattle.kq_history.specs.Sayings.{kqueue_of}
 use Rattle.kq_history.specs.Traced.{Traced, births_of, longer, places_of}
 use Rattle.kq_history.specs.Tracked.{IsWorldAfter}
@@ -94,13 +94,13 @@ few-kqueues t =
 
 -- ---- no record
 
-pub first-said : (version : ℕ) (s : Said) → s.log.items.items ≡ [] → AreShelved [] s.log.shelves.table → s.kqueues.places.items ≡ []
-    → s.kqueues.concerned.items ≡ [] → ((pid : ℕ) → contains nat_eq s.kqueues.owners pid ≡ false) → IsSaid (record { version = version; events = [] }) s
+pub first-said : (version : ℕ) (s : Hearing) → s.log.items.items ≡ [] → AreLinedUp s.log → s.kqueues.places.items ≡ []
+    → s.kqueues.concerned.items ≡ [] → ((pid : ℕ) → contains nat_eq s.kqueues.owners pid ≡ false) → IsHearing (record { version = version; events = [] }) s
 unfolding plans_from moments_from births_from
-first-said version s items shelved places concerned none = record {
+first-said version s items lined places concerned none = record {
   logged = record {
     items = λ test keeps. ap (filter test) items;
-    shelved = subst (λ xs. AreShelved xs s.log.shelves.table) (sym items) shelved;
+    lined = lined;
   };
   kqueues = record {
     births = places;
@@ -112,11 +112,11 @@ first-said version s items shelved places concerned none = record {
 
 -- ---- one record more
 
-pub heard-next : (t : Traced) (e : Event) (place : ℕ) (old new : World) (effect : Effect) (clock : ℕ) (kqueue : Option ℕ) (silent : Bool) (s s' : Said)
+pub heard-next : (t : Traced) (e : Event) (place : ℕ) (old new : World) (effect : Effect) (clock : ℕ) (kqueue : Option ℕ) (silent : Bool) (s s' : Hearing)
     → length t.events + 1 ≡ place → IsWorldAfter t old → IsWorldAfter (longer t e) new → IsEffectBy (plan place e) old effect
     → clock ≡ (world_of old).now → kqueue ≡ kqueue_of e (world_of old) → silent ≡ is_silent e (contains nat_eq s.kqueues.owners)
     → ((w : model.World counted) → clock ≡ w.now → kqueue ≡ kqueue_of e w → IsHeard silent place e effect w (world_of new) s s')
-    → IsSaid t s → IsSaid (longer t e) s'
+    → IsHearing t s → IsHearing (longer t e) s'
 heard-next t e place old new effect clock kqueue silent s s' at before after of clock_is kqueue_is silent_is heard said =
     said-next t e counts lists (plan (end t e) e (now t e)) refl effect
     (subst (λ n. IsEffectOf (plan n e (now t e)) effect) (sym at) (subst (λ (w : model.World counted). IsEffectOf (plan place e w) effect) before.world of))

@@ -14,7 +14,7 @@ use Rattle.kq_history.specs.declared.sights.Sight.{Sight}
 use Rattle.kq_history.specs.Keys.{target_key}
 use Rattle.kq_history.specs.Log.{standing}
 use Rattle.kq_history.specs.Looking.{has_slot, AreShownLater, Follow, Show}
-use Rattle.kq_history.specs.Shelves.{shelved}
+use Rattle.kq_index.specs.Index.{shelved}
 use Rattle.kq_history.specs.Sights.{is_of, last_view, AreInOrder, AreUpTo}
 use Rattle.kq_history.proofs.NotedKeys.{as_target}
 use Rattle.kq_history.proofs.SightLemmas.{last-append, last-other, standing-same, within-take}

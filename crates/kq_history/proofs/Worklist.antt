@@ -21,7 +21,7 @@ use Rattle.kq_history.specs.Items.{has_source, source_eq, source_of}
 use Rattle.kq_history.specs.Log.{comes_from, item_at, standing}
 use Rattle.kq_history.specs.Sources.{Begins}
 use Rattle.kq_history.proofs.Picked.{read_all}
-use Rattle.kq_history.proofs.PrivateOf.{eq_is}
+use Rattle.kq_history.proofs.SameSource.{eq_is}
 use Rattle.kq_history.proofs.Sourced.{same_source}
 
 pub begins-then : (a b c : List Source) → Begins a b → Begins b c → Begins a c

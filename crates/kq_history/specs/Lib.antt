@@ -1,10 +1,12 @@
 pub mod Timeline
 pub mod Timelines
 pub mod Items
+pub mod Lines
+pub mod Filed
 pub mod Hashed
-pub mod Shelves
 pub mod Steps
 pub mod Log
+pub mod Saying
 pub mod Sources
 pub mod Kept
 pub mod Kqueues
@@ -16,6 +18,7 @@ pub mod Accounts
 pub mod Within
 pub mod Keys
 pub mod Sights
+pub mod Sighting
 pub mod Numbers
 pub mod Slots
 pub mod Seen

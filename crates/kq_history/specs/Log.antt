@@ -1,34 +1,25 @@
 -- Where the items of each source stand in a log.
-use Rattle.std.specs.Prelude.{◌≡◌, ℕ, ◌+◌, ◌<◌, Bool, true, false, not, ◌&&◌, All, length, map, nat_le, List, [], ◌∷◌}
-use Rattle.std.specs.Prelude.{◌++◌, filter, slice_index_or, if◌then◌else◌}
+use Rattle.std.specs.Prelude.{◌≡◌, ℕ, ◌<◌, Bool, true, false, not, ◌&&◌, All, length, map, nat_le, List, []}
+use Rattle.std.specs.Prelude.{filter, slice_index_or, if◌then◌else◌}
 use Rattle.std.specs.List.{flat_map}
 use Rattle.std.specs.List.Sorted.{IsNonDecreasing}
-use Rattle.std.specs.HashMap.{HashMap}
+pub use Rattle.kq_index.specs.Index.{standing}
+use Rattle.kq_history.specs.declared.filed.Filed.{Filed}
 use Rattle.kq_history.specs.declared.item.Item.{Item}
 use Rattle.kq_history.specs.declared.item.Source.{Source}
 use Rattle.kq_history.specs.declared.item.Source.TheVariants.{Clock}
 use Rattle.kq_history.specs.declared.item.What.{What}
 use Rattle.kq_history.specs.declared.item.What.TheVariants.{Closed, Clocked}
-use Rattle.kq_history.specs.declared.log.Log.{Log}
 use Rattle.kq_history.specs.Items.{has_source, source_eq, source_of}
-use Rattle.kq_history.specs.Shelves.{shelf_at, shelved}
+use Rattle.kq_history.specs.Filed.{filed_at}
 use Rattle.kq_history.specs.Steps.{joined}
-
--- where those of a list stand that pass a test; its first stands at `from`
-abbrev pub standing : {X : Type 0} → (X → Bool) → ℕ → List X → List ℕ
-standing test from [] = []
-standing test from (x ∷ xs) = shelved (test x) from ++ standing test (from + 1) xs
 
 abbrev pub comes_from : Source → Item → Bool
 comes_from s i = source_eq (source_of i.what) s
 
 -- the shelf of each source has where its items stand
-abbrev pub AreShelved : {S : Type 0} → List Item → HashMap Source (List ℕ) S → Type 0
-AreShelved items table = (s : Source) → shelf_at source_eq table s ≡ standing (comes_from s) 0 items
-
--- it still has, if it had
-abbrev pub StaysShelved : Log → Log → Type 0
-StaysShelved old new = AreShelved old.items.items old.shelves.table → AreShelved new.items.items new.shelves.table
+abbrev pub AreShelved : {V : Type 0} → List Item → Filed V → Type 0
+AreShelved items shelves = (s : Source) → filed_at shelves s ≡ standing (comes_from s) 0 items
 
 -- where those of these sources stand, source by source
 abbrev pub all_standing : List Item → List Source → List ℕ

@@ -5,6 +5,7 @@ use Rattle.kq_model.specs.Ticks.{last_moment}
 use Rattle.kq_model.specs.Views.{Views}
 use Rattle.kq_history.specs.declared.numbers.Numbers.{Numbers}
 use Rattle.kq_history.specs.declared.seen.Seen.{Seen}
+use Rattle.kq_history.specs.declared.shown.Shown.{Shown}
 use Rattle.kq_history.specs.Numbers.{IsBlankOf, named_at}
 use Rattle.kq_history.specs.Sights.{view_at}
 use Rattle.kq_history.specs.Timeline.{value_at}
@@ -13,6 +14,14 @@ use Rattle.kq_history.specs.Touched.{targets_left}
 -- what the marks give at a place; before all marks the world was empty
 abbrev pub seen_by : Seen → ℕ → Views
 seen_by s place = record {
+  view = λ t. view_at s.views place t;
+  descriptor = λ pid number. named_at s.numbers place pid number;
+  now = value_at place 0 s.clock;
+}
+
+-- the same once all records came
+abbrev pub shown_by : Shown → ℕ → Views
+shown_by s place = record {
   view = λ t. view_at s.views place t;
   descriptor = λ pid number. named_at s.numbers place pid number;
   now = value_at place 0 s.clock;

@@ -1,13 +1,14 @@
 -- What was seen of targets from place to place: sights in the order in which they came.
 use Rattle.std.specs.Prelude.{◌≡◌, ◌≤◌, ◌<◌, ◌&&◌, ℕ, Bool, All, nat_le, List, [], ◌∷◌, Option, None, if◌then◌else◌}
-use Rattle.std.specs.HashMap.{HashMap}
 use Rattle.std.specs.List.Sorted.{IsNonDecreasingBy}
 use Rattle.kq_model.specs.declared.object.Target.{Target}
 use Rattle.kq_model.specs.declared.object.View.{View}
 use Rattle.kq_history.specs.declared.sights.Sight.{Sight}
 use Rattle.kq_history.specs.Keys.{target_key}
-use Rattle.kq_history.specs.Log.{standing}
-use Rattle.kq_history.specs.Shelves.{shelf_at}
+use Rattle.kq_index.specs.Index.{standing}
+use Rattle.kq_history.specs.declared.filed.Filed.{Filed}
+use Rattle.kq_history.specs.declared.item.Source.TheVariants.{Of}
+use Rattle.kq_history.specs.Filed.{filed_at}
 
 abbrev pub sight : Target → ℕ → Option View → Sight
 sight target place view = record { target = target; place = place; view = view }
@@ -44,6 +45,6 @@ AreLater place ss = All (λ (s : Sight). place < s.place) ss
 abbrev pub AreInOrder : List Sight → Type 0
 AreInOrder ss = IsNonDecreasingBy (λ (s : Sight). s.place) ss
 
--- the shelf of each target has where its sights stand
-abbrev pub AreFiled : {S : Type 0} → List Sight → HashMap Target (List ℕ) S → Type 0
-AreFiled ss table = (t : Target) → shelf_at target_key table t ≡ standing (is_of t) 0 ss
+-- the sights of each target are found where they stand
+abbrev pub AreFoundIn : {V : Type 0} → Filed V → List Sight → Type 0
+AreFoundIn filed ss = (t : Target) → filed_at filed (Of t) ≡ standing (is_of t) 0 ss

@@ -1,14 +1,14 @@
 -- A split of the records that came so far.
 use Rattle.std.specs.Prelude.{◌≡◌, ℕ, length}
 use Rattle.kq_history.specs.declared.splitting.Splitting.{Splitting}
-use Rattle.kq_history.specs.Said.{IsSaid}
+use Rattle.kq_history.specs.Said.{IsHearing}
 use Rattle.kq_history.specs.Traced.{Traced, plain_rows_of}
 use Rattle.kq_history.specs.Tracked.{IsTracked}
 
 -- these are all records that came so far: the world is that after them, and what was seen and said is theirs
 pub record IsSplitSoFar (t : Traced) (s : Splitting) : Type 0 where
   pub tracked : IsTracked t s.world s.seen
-  pub said : IsSaid t s.said
+  pub said : IsHearing t s.said
   pub plain_is : s.plain.items ≡ plain_rows_of t
 
 -- so many records came so far

@@ -4,8 +4,12 @@
 
 mod answering;
 mod at;
+mod filed;
+mod guesses;
+mod hearing;
 mod item;
 mod kqueues;
+mod lines;
 mod listing;
 mod log;
 mod looking;
@@ -14,8 +18,10 @@ mod ordering;
 mod plain;
 mod private;
 mod said;
+mod saying;
 mod seen;
-mod shelves;
+mod shown;
+mod sighting;
 mod sights;
 mod slots;
 mod sources;

@@ -1,6 +1,5 @@
-ghost use Rattle.std.specs.Prelude.{◌≡◌, ◌<◌, ◌≤◌, ◌++◌, ◌∷◌, [], true, false, All, List, if◌then◌else◌, filter, length, map};
-ghost use Rattle.std.specs.Prelude.{nat_le, nat_lt};
-ghost use Rattle.std.specs.Prelude.{IfOk, OnOk};
+ghost use Rattle.std.specs.Prelude.{◌≡◌, ◌<◌, ◌≤◌, [], true, false, All, List, if◌then◌else◌, filter, length, map};
+ghost use Rattle.std.specs.Prelude.{nat_le, nat_lt, IfOk, OnOk};
 ghost use Rattle.std.specs.List.{IsDistinct};
 ghost use Rattle.std.specs.List.Sorted.{IsNonDecreasing, IsPartitionPoint};
 ghost use Rattle.kq_history.specs.BetweenCalls.{between};
@@ -8,67 +7,33 @@ ghost use Rattle.kq_history.specs.Children.{child_told, children_at, children_of
 ghost use Rattle.kq_history.specs.Children.{AreWithChildren};
 ghost use Rattle.kq_history.specs.Items.{has_source, is_from, source_eq};
 ghost use Rattle.kq_history.specs.Log.{all_standing, comes_from, is_within, item_at, AreShelved};
-ghost use Rattle.kq_history.specs.Log.{others_within, steps_within, within_of, StaysShelved};
+ghost use Rattle.kq_history.specs.Log.{others_within, steps_within, within_of};
 ghost use Rattle.kq_history.specs.Sources.{AreKnown, Begins, Grows};
 ghost use Rattle.kq_history.specs.Steps.{joined};
 ghost use Rattle.kq_history.specs.declared.item.Source.{Source};
 ghost use Rattle.kq_history.specs.declared.item.Source.TheVariants.{Clock};
 
+use crate::filed::Filed;
 use crate::item::{Item, Source, What};
 use crate::ordering::in_order;
-use crate::shelves::Shelves;
 use crate::sources::Sources;
 use crate::weave::woven;
 use kq_model::{Hint, Memory, Target};
 use std::alloc::Global;
 
-/// There is room for no more sources than so many before they come.
-const MANY_SOURCES: usize = 8_192;
-
-/// All that the records of a trace say to kqueues, in order. The shelves say where the items of
-/// each source stand (`AreShelved`), but after Memory.
+/// All that the records of a trace say to kqueues, in order. The shelves say where the items of each source stand
+/// (`AreShelved`).
 #[derive(Drop)]
 pub struct Log {
     pub(crate) items: Vec<Item>,
-    pub(crate) shelves: Shelves<Source>,
-    alloc: Global,
+    pub(crate) shelves: Filed<()>,
+    pub(crate) alloc: Global,
 }
 
 impl Log {
-    /// No item.
-    pub fn new(alloc: Global) -> Self
-        ensures items { result.items.items ≡ [] }
-        ensures shelved { AreShelved [] result.shelves.table }
-    {
-        Log {
-            items: Vec::new(alloc),
-            shelves: Shelves::new(alloc),
-            alloc,
-        }
-    }
-
-    /// Room for so many items more, and for their sources, if these are not very many.
-    pub fn reserve(&mut self, count: usize) -> Result<(), Memory>
-        ensures items { self.new.items.items ≡ self.old.items.items }
-        ensures shelved { StaysShelved self.old self.new }
-    {
-        self.items.reserve(count)?;
-        self.shelves.reserve(count.min(MANY_SOURCES))
-    }
-
-    /// One item more.
-    pub fn push(&mut self, item: Item) -> Result<(), Memory>
-        ensures items { OnOk result (self.new.items.items ≡ self.old.items.items ++ item ∷ []) }
-        ensures shelved { OnOk result (StaysShelved self.old self.new) }
-    {
-        let number = self.items.len();
-        self.items.push(item)?;
-        self.shelves.add(item.what.source(), number)
-    }
-
     /// Where the items of these sources stand, source by source.
     fn numbers_of(&self, sources: &[Source]) -> Result<Vec<usize>, Memory>
-        requires { AreShelved self.now.items.items self.now.shelves.table }
+        requires { AreShelved self.now.items.items self.now.shelves }
         ensures { IfOk result (λ numbers. numbers.items ≡ all_standing self.now.items.items sources.now) }
     {
         let mut numbers = Vec::new(self.alloc);
@@ -95,7 +60,7 @@ impl Log {
     /// each 64 of the log; where they are few, a sort of them.
     pub fn pick(&self, sources: &[Source]) -> Result<Vec<Item>, Memory>
         requires distinct { IsDistinct source_eq sources.now }
-        requires shelved { AreShelved self.now.items.items self.now.shelves.table }
+        requires shelved { AreShelved self.now.items.items self.now.shelves }
         ensures { IfOk result (λ picked. picked.items ≡ filter (is_from sources.now) self.now.items.items) }
     {
         let gathered = self.numbers_of(sources)?;
@@ -106,7 +71,7 @@ impl Log {
     /// The sources with those of the processes that descend from theirs, by what the items say of
     /// forks. It costs the items of these processes, which are among those that are picked.
     pub fn with_children(&self, named: &[Source]) -> Result<Sources, Memory>
-        requires { AreShelved self.now.items.items self.now.shelves.table }
+        requires { AreShelved self.now.items.items self.now.shelves }
         ensures known { IfOk result AreKnown }
         ensures sources { IfOk result (λ all. AreWithChildren self.now.items.items named.now all.list.items) }
     {
@@ -124,7 +89,7 @@ impl Log {
     /// descend from theirs. Else nothing tells of these, and no fork is read.
     pub fn pick_reached(&self, children: bool, named: &[Source]) -> Result<Vec<Item>, Memory>
         requires distinct { IsDistinct source_eq named.now }
-        requires shelved { AreShelved self.now.items.items self.now.shelves.table }
+        requires shelved { AreShelved self.now.items.items self.now.shelves }
         ensures { IfOk result (λ picked. (all : List Source) × AreReached children self.now.items.items named.now all
             × (picked.items ≡ filter (is_from all) self.now.items.items)) }
     {
@@ -144,7 +109,7 @@ impl Log {
     ) -> Result<Vec<Item>, Memory>
         requires distinct { IsDistinct source_eq named.now }
         requires there { has_source named.now source ≡ true }
-        requires shelved { AreShelved self.now.items.items self.now.shelves.table }
+        requires shelved { AreShelved self.now.items.items self.now.shelves }
         ensures { IfOk result (λ picked. (all : List Source) × AreReached children self.now.items.items named.now all
             × (picked.items ≡ joined (between (comes_from source) (filter (is_from all) self.now.items.items)))) }
     {
@@ -157,7 +122,7 @@ impl Log {
 
     /// The children of which the items of a source tell.
     fn add_children(&self, all: &mut Sources, source: Source) -> Result<(), Memory>
-        requires { AreShelved self.now.items.items self.now.shelves.table }
+        requires { AreShelved self.now.items.items self.now.shelves }
         ensures grows { OnOk result (Grows (children_of self.now.items.items source) all.old all.new) }
         ensures begins { OnOk result (Begins all.old.list.items all.new.list.items) }
     {
@@ -182,7 +147,7 @@ impl Log {
 
     /// Where the items of a source but the clock stand from one number to another.
     fn others_of(&self, source: Source, first: usize, last: usize) -> &[usize]
-        requires { AreShelved self.now.items.items self.now.shelves.table }
+        requires { AreShelved self.now.items.items self.now.shelves }
         ensures { result.now
             ≡ (if source_eq source Clock then [] else within_of first last self.now.items.items source) }
     {
@@ -200,7 +165,7 @@ impl Log {
         first: usize,
         last: usize,
     ) -> Result<Vec<usize>, Memory>
-        requires { AreShelved self.now.items.items self.now.shelves.table }
+        requires { AreShelved self.now.items.items self.now.shelves }
         ensures { IfOk result (λ numbers. numbers.items ≡ others_within first last self.now.items.items sources.now) }
     {
         let mut numbers = Vec::new(self.alloc);
@@ -212,7 +177,7 @@ impl Log {
 
     /// Where the steps of the clock stand from one number to another, if it is one of these sources.
     fn steps_within(&self, sources: &[Source], first: usize, last: usize) -> &[usize]
-        requires { AreShelved self.now.items.items self.now.shelves.table }
+        requires { AreShelved self.now.items.items self.now.shelves }
         ensures { result.now ≡ steps_within first last self.now.items.items sources.now }
     {
         if sources.contains(&Source::Clock) {
@@ -229,7 +194,7 @@ impl Log {
     pub fn pick_between(&self, sources: &[Source], source: Source) -> Result<Vec<Item>, Memory>
         requires distinct { IsDistinct source_eq sources.now }
         requires there { has_source sources.now source ≡ true }
-        requires shelved { AreShelved self.now.items.items self.now.shelves.table }
+        requires shelved { AreShelved self.now.items.items self.now.shelves }
         ensures { IfOk result (λ picked. picked.items
             ≡ joined (between (comes_from source) (filter (is_from sources.now) self.now.items.items))) }
     {

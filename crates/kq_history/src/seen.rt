@@ -1,4 +1,4 @@
-ghost use Rattle.std.specs.Prelude.{◌≡◌, ◌≤◌, ◌++◌, ℕ, ◌&&◌, nat_le, OnOk, if◌then◌else◌};
+ghost use Rattle.std.specs.Prelude.{◌≡◌, ◌≤◌, ◌++◌, ℕ, ◌&&◌, nat_le, IfOk, OnOk, if◌then◌else◌};
 ghost use Rattle.std.specs.List.{flat_map};
 ghost use Rattle.kq_model.specs.Ticks.{last_moment};
 ghost use Rattle.kq_model.specs.Views as model;
@@ -11,18 +11,19 @@ ghost use Rattle.kq_history.specs.Sights.{view_at, AreUpTo};
 ghost use Rattle.kq_history.specs.Touched.{has_number, has_target, is_of, left_of, to_note, AreAmong, AreApart};
 
 use crate::numbers::Numbers;
-use crate::sights::Sights;
+use crate::shown::Shown;
+use crate::sighting::Sighting;
 use crate::timeline::Timeline;
 use crate::touched::{Touched, add_left};
 use kq_model::{Memory, Target};
 use kq_process::World;
 use std::alloc::Global;
 
-/// What was seen of the world after each record: what numbers named, the views of targets, and the clock.
+/// What was seen of the world after each record that came: what numbers named, the views of targets, and the clock.
 #[derive(Drop)]
 pub struct Seen {
     pub(crate) numbers: Numbers,
-    pub(crate) views: Sights,
+    pub(crate) views: Sighting,
     pub(crate) clock: Timeline<u64>,
 }
 
@@ -33,7 +34,7 @@ impl Seen {
     {
         Seen {
             numbers: Numbers::new(alloc),
-            views: Sights::new(alloc),
+            views: Sighting::new(alloc),
             clock: Timeline::new(alloc),
         }
     }
@@ -71,6 +72,26 @@ impl Seen {
         note_targets(&mut self.views, place, touched.targets.as_slice(), world)?;
         self.clock.note(place, 0, moment_of(world))?;
         Ok(())
+    }
+
+    /// What was seen, of which that of each target can be found. Its cost is that of what was seen. Memory: a growth
+    /// was refused.
+    pub fn end(self) -> Result<Shown, Memory>
+        ensures numbers { IfOk result (λ shown. shown.numbers ≡ self.numbers) }
+        ensures views { IfOk result (λ shown. shown.views ≡ self.views) }
+        ensures clock { IfOk result (λ shown. shown.clock ≡ self.clock) }
+    {
+        let Seen {
+            numbers,
+            views,
+            clock,
+        } = self;
+        let views = views.end()?;
+        Ok(Shown {
+            numbers,
+            views,
+            clock,
+        })
     }
 }
 
@@ -130,7 +151,7 @@ fn note_numbers(
 
 /// What is seen of these targets.
 fn note_targets(
-    sights: &mut Sights,
+    sights: &mut Sighting,
     place: u64,
     targets: &[Target],
     world: &World,

@@ -1,13 +1,11 @@
-ghost use Rattle.std.specs.Prelude.{◌≡◌, ◌≤◌, ◌++◌, ◌∷◌, ◌&&◌, [], ℕ, nat_le, length, take, drop};
-ghost use Rattle.std.specs.Prelude.{OnOk, if◌then◌else◌};
-ghost use Rattle.kq_history.specs.Keys.{target_key};
+ghost use Rattle.std.specs.Prelude.{◌≡◌, ◌≤◌, ℕ, length, take, drop};
 ghost use Rattle.kq_history.specs.Log.{standing};
 ghost use Rattle.kq_history.specs.Sights.{is_of, last_view, view_at, AreInOrder, AreLater, AreUpTo};
 
+use crate::filed::Filed;
+use crate::item::Source;
 use crate::log::within;
-use crate::shelves::Shelves;
-use kq_model::{Memory, Target, View};
-use std::alloc::Global;
+use kq_model::{Target, View};
 use std::marker::Model;
 
 /// From this place on this is seen of a target.
@@ -18,38 +16,27 @@ pub struct Sight {
     pub view: Option<View>,
 }
 
-/// What was seen of targets from place to place: one log, which is written at its end. Contracts see the list of its
-/// sights.
+/// What was seen of targets from place to place. Contracts see the list of its sights.
 #[derive(Drop)]
 pub struct Sights {
-    log: Vec<Sight>,
+    pub(crate) log: Vec<Sight>,
     /// Where the sights of each target stand in the log.
-    numbers: Shelves<Target>,
+    pub(crate) filed: Filed<Option<View>>,
 }
 
 impl Model for Sights {
     ghost use Rattle.std.specs.Prelude.{List};
     ghost use Rattle.kq_history.specs.declared.sights.Sight.{Sight as Declared};
-    ghost use Rattle.kq_history.specs.Sights.{AreFiled, AreInOrder};
+    ghost use Rattle.kq_history.specs.Sights.{AreFoundIn, AreInOrder};
 
     ghost Value = { List Declared };
 
     ghost view = { λ s. s.log.items };
 
-    ghost invariant = { λ s. AreInOrder s.log.items × AreFiled s.log.items s.numbers.table };
+    ghost invariant = { λ s. AreInOrder s.log.items × AreFoundIn s.filed s.log.items };
 }
 
 impl Sights {
-    /// Nothing was seen.
-    pub fn new(alloc: Global) -> Self
-        ensures { result ≡ [] }
-    {
-        Sights {
-            log: Vec::new(alloc),
-            numbers: Shelves::new(alloc),
-        }
-    }
-
     /// All sights, by places that do not fall.
     pub fn as_slice(&self) -> &[Sight]
         ensures all { result.now ≡ self.now }
@@ -75,7 +62,7 @@ impl Sights {
         if end <= first {
             return &[];
         }
-        within(self.numbers.at(target), first, end - 1)
+        within(self.filed.at(Source::Of(target)), first, end - 1)
     }
 
     /// What is seen of a target at a place. It costs two searches.
@@ -101,34 +88,5 @@ impl Sights {
         let number = numbers.last()?;
         let sight = self.log.get(*number)?;
         sight.view
-    }
-
-    /// From this place on this is seen of a target. Where it is seen already, nothing is written. After Memory nothing
-    /// is known.
-    pub fn note(&mut self, target: Target, place: u64, view: Option<View>) -> Result<(), Memory>
-        requires { AreUpTo place self.old }
-        ensures up_to { OnOk result (AreUpTo place self.new) }
-        ensures noted { OnOk result ((at : ℕ) (t : Target) → view_at self.new at t
-            ≡ (if target_key target t && nat_le place at then view else view_at self.old at t)) }
-    {
-        if self.last_among(self.numbers.at(target)) == view {
-            return Ok(());
-        }
-        self.push(Sight {
-            target,
-            place,
-            view,
-        })
-    }
-
-    /// One sight more.
-    fn push(&mut self, sight: Sight) -> Result<(), Memory>
-        requires { AreUpTo sight.place self.old }
-        ensures { OnOk result (self.new ≡ self.old ++ sight ∷ []) }
-    {
-        self.log.reserve(1)?;
-        self.numbers.add(sight.target, self.log.len())?;
-        let _ = self.log.push(sight);
-        Ok(())
     }
 }

@@ -6,7 +6,7 @@ use crate::at::HistoryAt;
 use crate::item::Source;
 use crate::private::Private;
 use crate::said::Said;
-use crate::seen::Seen;
+use crate::shown::Shown;
 use crate::sights::Sights;
 use crate::splitting::Splitting;
 use kq_model::{Event, Memory, Named, Row, Target, Trace, View};
@@ -17,7 +17,7 @@ use std::marker::Model;
 /// wherever that is.
 #[derive(Drop)]
 pub struct Spent {
-    seen: Seen,
+    seen: Shown,
     said: Said,
     plain: Vec<Row>,
 }
@@ -28,7 +28,7 @@ pub struct Spent {
 pub struct Split<'a> {
     pub(crate) version: u32,
     pub(crate) events: &'a [Event],
-    pub(crate) seen: Seen,
+    pub(crate) seen: Shown,
     pub(crate) said: Said,
     pub(crate) plain: Vec<Row>,
 }
@@ -55,7 +55,7 @@ impl<'a> Split<'a> {
         let events = trace.events.as_slice();
         let mut splitting = Splitting::new(alloc)?;
         splitting.take(0, events)?;
-        Ok(splitting.end(trace))
+        splitting.end(trace)
     }
 
     /// What it kept, to be let go of. It costs nothing.

@@ -2,8 +2,8 @@ ghost use Rattle.std.specs.Prelude.{◌≡◌, ◌+◌, ◌<◌, ◌^◌, ◌++�
 ghost use Rattle.kq_history.specs.Splitting.{AreSoMany, IsSplitSoFar};
 ghost use Rattle.kq_history.specs.Traced.{longer, traced, Traced};
 
+use crate::hearing::{Before, Hearing};
 use crate::plain::put_plain;
-use crate::said::{Before, Said};
 use crate::seen::Seen;
 use crate::split::Split;
 use crate::touched::Touched;
@@ -17,7 +17,7 @@ use std::alloc::Global;
 pub struct Splitting {
     pub(crate) world: World,
     pub(crate) seen: Seen,
-    pub(crate) said: Said,
+    pub(crate) said: Hearing,
     pub(crate) plain: Vec<Row>,
     touched: Touched,
     /// What the last record did: its lists serve the next one.
@@ -31,7 +31,7 @@ impl Splitting {
     {
         let world = World::new(alloc)?;
         let seen = Seen::new(alloc);
-        let said = Said::new(alloc);
+        let said = Hearing::new(alloc);
         let plain = Vec::new(alloc);
         let touched = Touched::new(alloc);
         Ok(Splitting {
@@ -82,10 +82,11 @@ impl Splitting {
         put_plain(&mut self.plain, place, &self.effect.verdict)
     }
 
-    /// The split of a trace all of whose records came. Its cost is that of dropping the world.
-    pub fn end<'a>(self, trace: &'a Trace) -> Split<'a>
+    /// The split of a trace all of whose records came. Its cost is that of what was seen and said, and of dropping
+    /// the world. Memory: a growth was refused.
+    pub fn end<'a>(self, trace: &'a Trace) -> Result<Split<'a>, Memory>
         requires { IsSplitSoFar (traced trace.now) self }
-        ensures { result ≡ traced trace.now }
+        ensures { IfOk result (λ s. s ≡ traced trace.now) }
     {
         let events = trace.events.as_slice();
         let Splitting {
@@ -94,12 +95,14 @@ impl Splitting {
             plain,
             ..
         } = self;
-        Split {
+        let seen = seen.end()?;
+        let said = said.end()?;
+        Ok(Split {
             version: trace.version,
             events,
             seen,
             said,
             plain,
-        }
+        })
     }
 }

@@ -102,7 +102,7 @@ fn replay_split<R: AllocGlobal + Threads + Wait + Sync, G: Gate + Sync, S: Start
     ensures rows { IfOk result (λ r. AreRowsOf trace.now.version trace.now.events r.0) }
     ensures fault { IfErr result (IsReplayFault trace.now.version trace.now.events workers) }
 {
-    let split = splitting.end(trace);
+    let split = splitting.end(trace)?;
     let rows = rows_of(rt, &split, workers, gate, starts)?;
     Ok((rows, split.spend()))
 }

@@ -9,7 +9,7 @@ use Rattle.kq_history.specs.declared.item.Source.{Source}
 use Rattle.kq_history.specs.declared.item.Source.TheVariants.{Clock}
 use Rattle.kq_history.specs.Children.{of_process, children_of}
 use Rattle.kq_history.specs.Items.{has_source, source_eq}
-use Rattle.kq_history.proofs.PrivateOf.{eq_is}
+use Rattle.kq_history.proofs.SameSource.{eq_is}
 use Rattle.kq_history.proofs.Worklist.{fork-told, from-children, is-process, no_more, past, there-itself}
 use Rattle.kq_history.proofs.log.Log.with_children.Goals as goal
 

@@ -1,7 +1,8 @@
 use Rattle.std.proofs.Common.{◌≡◌, ◌∙◌, ◌-◌, ◌<◌, [], List, drop, filter, take, sym, ap, subst, rules}
 use Rattle.std.specs.List.Sorted.{IsNonDecreasing}
 use Rattle.kq_history.specs.declared.sights.Sight.{Sight}
-use Rattle.kq_history.specs.Log.{is_within, standing}
+use Rattle.kq_index.specs.Index.{standing}
+use Rattle.kq_history.specs.Log.{is_within}
 use Rattle.kq_history.specs.Sights.{is_of}
 use Rattle.kq_history.proofs.Between.{rises-along}
 use Rattle.kq_history.proofs.Picked.{standing-rises}

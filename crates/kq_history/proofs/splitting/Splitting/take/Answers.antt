@@ -18,7 +18,7 @@ loop-taken-init c =
       said = record {
         logged = record {
           items = subst (AreAllSaid t) (sym c.reserve.ensures.items) so_far.said.logged.items;
-          shelved = c.reserve.ensures.shelved so_far.said.logged.shelved;
+          lined = c.reserve.ensures.lined so_far.said.logged.lined;
         };
         kqueues = so_far.said.kqueues;
       };

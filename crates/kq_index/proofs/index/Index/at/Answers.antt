@@ -1,4 +1,4 @@
-use Rattle.std.proofs.Common.{◌≡◌, ◌∙◌, ◌+◌, ◌-◌, ◌<◌, ◌≤◌, ℕ, List, drop, eqb, get_or, length, take, sym, ap, ap₂, subst, rules, arith}
+use Rattle.std.proofs.Common.{◌≡◌, ◌∙◌, ◌+◌, ◌-◌, ◌<◌, ℕ, List, drop, eqb, get_or, length, take, sym, ap, ap₂, subst, rules, arith}
 use Rattle.kq_index.specs.Index.{below, standing}
 use Rattle.kq_index.proofs.Counts.{below-none, end-is, end-within, own-part, past-all, below-rises}
 use Rattle.kq_index.proofs.index.Index.at.Goals as goal

@@ -5,7 +5,7 @@ use Rattle.kq_model.specs.World.{views_of}
 use Rattle.kq_process.specs.World.{world_of}
 use Rattle.kq_history.specs.Said.{AreHeard}
 use Rattle.kq_history.specs.Sayings.{born_of, call_by}
-use Rattle.kq_history.proofs.said.hear_kqueue.Goals as goal
+use Rattle.kq_history.proofs.hearing.hear_kqueue.Goals as goal
 
 on_ok_all : {T E : Type 0} (P Q R : Type 0) (r : Result T E) → OnOk r P → OnOk r Q → OnOk r R → OnOk r (P × Q × R)
 on_ok_all P Q R (Ok x) p q s = (p, q, s)

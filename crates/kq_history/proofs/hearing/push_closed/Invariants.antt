@@ -1,13 +1,13 @@
 use Rattle.std.proofs.Common.{◌≡◌, ◌++◌, map, take}
 use Rattle.kq_model.specs.Items.{Closed}
 use Rattle.kq_process.specs.Effects.{pairs_in}
-use Rattle.kq_history.specs.Log.{StaysShelved}
+use Rattle.kq_history.specs.Saying.{StaysLined}
 use Rattle.kq_history.specs.Said.{said_whats}
-use Rattle.kq_history.proofs.said.push_closed.Given as goal
+use Rattle.kq_history.proofs.hearing.push_closed.Given as goal
 
 abbrev pub invariant-loop-pair : goal.invariant-loop-pair
 invariant-loop-pair l = record {
   items : l.log.items.items
       ≡ l.initial.log.items.items ++ said_whats l.place (map Closed (pairs_in (take l.pair-index l.closed)));
-  shelved : StaysShelved l.initial.log l.log;
+  lined : StaysLined l.initial.log l.log;
 }
