@@ -19,8 +19,8 @@ pub record IsSaidOnce (silent : Bool) (place : ℕ) (e : Event) (effect : Effect
   pub lined : StaysLined old.log new.log
   pub kqueues : AreHeard place (born_of e) (call_by e (kqueue_of e before)) (views_of after) old.kqueues new.kqueues
 
-abbrev pub IsHeardBy : Result (Unit {0}) Why → Bool → ℕ → Event → Effect → World counted → World counted → Hearing → Hearing
-    → Type 0
+abbrev pub IsHeardBy : Result (Unit {0}) Why → Bool → ℕ → Event → Effect → World counted → World counted
+    → Hearing → Hearing → Type 0
 IsHeardBy (Err why) silent place e effect before after old new = new ≡ old
 IsHeardBy (Ok done) silent place e effect before after old new = IsSaidOnce silent place e effect before after old new
 

@@ -14,6 +14,7 @@ abbrev pub seen_source : Sight → Source
 seen_source s = Of s.target
 
 -- these are the lines of the sights' targets, and beside the line of each target stands what is seen of it
-pub record IsNumbered {S : Type 0} (ss : List Sight) (table : HashMap Source (Option View) S) (line_of : List ℕ) : Type 0 where
+pub record IsNumbered {S : Type 0} (ss : List Sight) (table : HashMap Source (Option View) S)
+    (line_of : List ℕ) : Type 0 where
   pub lined : AreLined (keys table) line_of (map seen_source ss)
   pub shown : (t : Target) → unwrap_or (get source_eq table (Of t)) None ≡ last_view t ss

@@ -34,7 +34,8 @@ pub record IsNextKey (text name value : List ℕ) : Type 0 where
 -- the members from `start` up to `rest` are these: with those that are written behind them they are an object's
 pub record AreMembersUpTo (n : ℕ) (start rest : List ℕ) (ms : Members) : Type 0 where
   pub more : (written : json.Members) (all : Members) (tail : List ℕ)
-      → Spells true (tree.members_tokens written) rest tail → of_members written ms ≡ Some all → tree.members_depth written ≤ n → AreMembers n start tail all
+      → Spells true (tree.members_tokens written) rest tail → of_members written ms ≡ Some all
+      → tree.members_depth written ≤ n → AreMembers n start tail all
 
 -- the line is an object that has these members up to `rest`
 pub record IsLineUpTo (line rest : List ℕ) (ms : Members) : Type 0 where
