@@ -1,6 +1,6 @@
 -- The rows of kqueues that were replayed alone, and the plain ones, stand by place, as a merge wants them; and what it
 -- gives are the rows of the trace.
-use Rattle.std.proofs.Common.{◌≡◌, List, Result, Ok, Err, IfErr}
+use Rattle.std.proofs.Common.{◌≡◌, ◌<◌, ◌⊎◌, ℕ, List, Result, Ok, Err, IfErr, subst}
 use Rattle.std.proofs.lemmas.List.Elements.{All-weaker}
 use Rattle.std.specs.List.{All}
 use Rattle.std.specs.Result.{IsErrAnd}
@@ -11,6 +11,7 @@ use Rattle.kq_model.specs.System.{rows}
 use Rattle.kq_history.specs.Traced.{Traced, plain_rows_of}
 use Rattle.kq_merge.specs.ByPlace.{IsOnlyOrder, NeverFall, rows_in}
 use Rattle.kq_merge.proofs.Places.{never_fall}
+use Rattle.kq_jobs.specs.Outcomes.{IsRunFault}
 use Rattle.kq_replay.specs.Replayed.{AreReplayed}
 use Rattle.kq_replay.specs.declared.RunFault.{RunFault}
 
@@ -31,3 +32,8 @@ rows_again t kqueues merged are only = only (rows t.version t.events) are.whole 
 pub memory_is_no_count : {A : Type 0} (r : Result A RunFault) (P : Type 0) → IsErrAnd r (λ f. f ≡ RunFault.Memory) → IfErr r (λ f. f ≡ RunFault.Workers → P)
 memory_is_no_count (Ok x) P is = tt
 memory_is_no_count (Err f) P is = λ workers. absurd (cc)
+
+-- a fault that tells of the number of workers is told where that is out of range
+pub workers_are_told : (count workers : ℕ) (f : RunFault) → IsRunFault count workers f
+    → f ≡ RunFault.Workers → (workers ≡ 0) ⊎ (256 < workers)
+workers_are_told count workers f told is = subst (λ (one : RunFault). IsRunFault count workers one) is told

@@ -1,10 +1,13 @@
 -- Each kqueue's rows and the plain ones stand by place, and in one order only they are the rows of the trace.
-use Rattle.std.proofs.Common.{◌≡◌, ◌∙◌, List, ap, ap₂, rules, sym, subst}
+use Rattle.std.proofs.Common.{◌≡◌, ◌∙◌, ◌<◌, ◌⊎◌, List, length, ap, ap₂, rules, sym, subst}
 use Rattle.kq_model.specs.declared.row.Row.{Row}
 use Rattle.kq_model.specs.System.{rows}
-use Rattle.kq_history.specs.Traced.{Traced, plain_rows_of}
+use Rattle.kq_model.proofs.Results.{error_passed}
+use Rattle.kq_history.specs.Traced.{Traced, places_of, plain_rows_of}
 use Rattle.kq_merge.specs.ByPlace.{IsOnlyOrder, NeverFall, rows_in}
+use Rattle.kq_replay.specs.declared.RunFault.{RunFault}
 use Rattle.replayed_book.proofs.Replayed.{kqueues_never_fall, memory_is_no_count, plain_never_falls, rows_again}
+use Rattle.replayed_book.proofs.Replayed.{workers_are_told}
 use Rattle.replayed_book.proofs.replayed_rows.Goals as goal
 
 pub merge-requires-clause-kqueues : goal.merge-requires-clause-kqueues
@@ -32,3 +35,11 @@ returns-clause-rows g c =
 pub returns-in_err-merged-clause-fault : goal.returns-in_err-merged-clause-fault
 returns-in_err-merged-clause-fault g c =
     memory_is_no_count c.from_residual-in_err-merged.result _ c.from_residual-in_err-merged.ensures.1
+
+pub returns-in_err-kqueues-clause-fault : goal.returns-in_err-kqueues-clause-fault
+returns-in_err-kqueues-clause-fault g c =
+    let workers = c.args.workers in
+    let fault = c.in_err-kqueues.field-0.0 in
+    error_passed c.from_residual-in_err-kqueues.result fault
+    (λ (f : RunFault). f ≡ RunFault.Workers → (workers ≡ 0) ⊎ (256 < workers)) c.from_residual-in_err-kqueues.ensures.1
+    (workers_are_told (length (places_of c.in_ok-split.split)) workers fault c.in_err-kqueues.ensures.err)
