@@ -237,6 +237,6 @@ impl Kq {
     {
         let mut rung = found.row;
         rung.ring(from, to);
-        self.put_back(found, rung);
+        self.put_back(found.place, &rung);
     }
 }

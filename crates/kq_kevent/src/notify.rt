@@ -70,15 +70,6 @@ fn tell_all(knote: Knote, hints: &[(Target, Hint)]) -> Telling
     telling
 }
 
-/// Looks at a knote, enabled or not; it is active where the look sees something.
-#[tactic(auto, unfolding(kq_model::specs::ChangedKnote::activated))]
-fn looked_at<V: Views>(views: &V, knote: Knote) -> Knote
-    ensures { result ≡ activated (look (V.sees views.now) knote) knote }
-{
-    let active = knote.active || look_in(views, &knote).is_some();
-    Knote { active, ..knote }
-}
-
 impl Kq {
     /// The knotes of the hinted targets hear the hints of a record, in order of registration; each
     /// is looked at in the world after the record, becomes active where its condition holds, and
@@ -174,43 +165,37 @@ impl Kq {
         ensures room { self.old.room ≤ self.new.room }
         ensures limit { limit self.new ≡ limit self.old }
     {
-        let Some(found) = self.knotes.locate_at(guess, key) else {
+        let Some(found) = self.knotes.look_at(guess, key) else {
             return;
         };
-        let told = tell_all(found.row, hints);
+        let mut told = tell_all(*found, hints);
         if told.any {
-            self.leave(&found, told.knote, told.done, views);
+            self.leave(guess, &mut told, views);
         }
     }
 
-    /// What becomes of a knote that was told hints: it is gone, or is looked at and goes where it
-    /// belongs.
-    fn leave<V: Views>(&mut self, found: &Placed<Knote>, told: Knote, done: bool, views: &V)
-        requires { StandsFor found.now.row told self.old.kq.knotes }
-        ensures kq { self.new.kq ≡ with_noticed told (left_by (V.sees views.now) done told) self.old.kq }
-        ensures owner { self.new.owner ≡ self.old.owner }
-        ensures version { self.new.version ≡ self.old.version }
-        ensures room { self.old.room ≤ self.new.room }
-        ensures limit { limit self.new ≡ limit self.old }
+    /// What becomes of a knote that was told hints: it is gone, or is looked at and goes where it belongs. One that was
+    /// active stands where it belongs already.
+    fn leave<V: Views>(&mut self, at: Place, told: &mut Telling, views: &V)
+        ensures kq { self.new.kq
+            ≡ with_noticed told.old.knote (left_by (V.sees views.now) told.old.done told.old.knote) self.old.kq }
     {
-        if done && told.has_nothing() {
-            self.unmake_at(found.place, told.key);
+        if told.done && told.knote.has_nothing() {
+            self.unmake_at(at, told.knote.key);
+        } else if told.knote.active {
+            self.knotes.modify_at(at, &told.knote);
         } else {
-            self.put_back(found, looked_at(views, told));
+            told.knote.active = look_in(views, &told.knote).is_some();
+            self.put_back(at, &told.knote);
         }
     }
 
     /// Puts a knote in the place of the one of its key, and its key where it belongs.
-    pub(crate) fn put_back(&mut self, found: &Placed<Knote>, knote: Knote)
-        requires { StandsFor found.now.row knote self.old.kq.knotes }
+    pub(crate) fn put_back(&mut self, at: Place, knote: &Knote)
         ensures kq { self.new.kq
-            ≡ record { knotes = with_knote knote self.old.kq.knotes; queue = queue_for knote self.old.kq.queue } }
-        ensures owner { self.new.owner ≡ self.old.owner }
-        ensures version { self.new.version ≡ self.old.version }
-        ensures room { self.new.room ≡ self.old.room }
-        ensures limit { limit self.new ≡ limit self.old }
+            ≡ record { knotes = with_knote knote.now self.old.kq.knotes; queue = queue_for knote.now self.old.kq.queue } }
     {
-        self.knotes.modify_at(found.place, knote);
-        place(&mut self.knotes, found.place, &knote);
+        self.knotes.modify_at(at, knote);
+        place(&mut self.knotes, at, knote);
     }
 }

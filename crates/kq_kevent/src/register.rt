@@ -201,7 +201,7 @@ impl Kq {
         knote.control(change);
         knote.switch(change);
         attend(views, &mut knote);
-        self.knotes.modify_at(present.place, knote);
+        self.knotes.modify_at(present.place, &knote);
         renew(&mut self.knotes, change, present.place, &knote);
     }
 }

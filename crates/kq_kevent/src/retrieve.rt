@@ -41,7 +41,7 @@ fn settle(knotes: &mut Knotes, delivered: &Placed<Knote>)
     } else if knote.clear || knote.dispatch {
         let mut rested = knote;
         rested.rest();
-        knotes.modify_at(delivered.place, rested);
+        knotes.modify_at(delivered.place, &rested);
     } else {
         put_last(knotes, delivered.place, knote.key);
     }
@@ -60,11 +60,11 @@ fn take_back<V: Views>(knotes: &mut Knotes, told: &Placed<Knote>, views: &V)
     let mut rest = told.row;
     rest.notice = None;
     if look_in(views, &rest).is_some() {
-        knotes.modify_at(told.place, rest);
+        knotes.modify_at(told.place, &rest);
         put_last(knotes, told.place, rest.key);
     } else {
         rest.active = false;
-        knotes.modify_at(told.place, rest);
+        knotes.modify_at(told.place, &rest);
     }
 }
 
@@ -105,7 +105,7 @@ impl Kq {
             None => {
                 let mut idle = found.row;
                 idle.active = false;
-                self.knotes.modify_at(found.place, idle);
+                self.knotes.modify_at(found.place, &idle);
                 None
             }
             Some(seen) => {

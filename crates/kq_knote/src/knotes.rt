@@ -1,6 +1,6 @@
 ghost use Rattle.std.specs.Prelude.{List, ◌≡◌, ◌<◌, ◌≤◌, ◌+◌, ◌++◌, ◌↔◌, ◌∷◌, IsTrue, true, [], None, OnOk, OnErr};
 ghost use Rattle.std.specs.Prelude.{MatchOption, slice_get, length, filter, not, max};
-ghost use Rattle.std.specs.Option.{option_map};
+ghost use Rattle.std.specs.Option.{option_copied, option_map};
 ghost use Rattle.kq_model.specs.Close.{is_of_number};
 ghost use Rattle.kq_model.specs.Hearing.{listed};
 ghost use Rattle.kq_model.specs.Knote as model;
@@ -165,6 +165,13 @@ impl Knotes {
         self.rows.locate_at(guess, key)
     }
 
+    /// The same as `locate_at`, without the place and without a copy.
+    pub fn look_at(&self, guess: Place, key: Key) -> Option<&Knote>
+        ensures { option_copied result ≡ find_knote key self.now.knotes }
+    {
+        self.rows.look_at(guess, key)
+    }
+
     /// The knote that was registered first.
     pub fn first(&self) -> Option<Knote>
         ensures { result ≡ slice_get self.now.knotes 0 }
@@ -210,20 +217,20 @@ impl Knotes {
             → knote ≡ tallied_knote m → self.new.knotes ≡ tallied_knotes (with_knote m ms) }
     {
         if let Some(found) = self.locate(knote.key) {
-            self.modify_at(found.place, knote);
+            self.modify_at(found.place, &knote);
         }
     }
 
     /// The same as `modify`. Where the knote of the key stands at the guessed place, that is all that is
     /// looked at.
-    pub fn modify_at(&mut self, guess: Place, knote: Knote)
-        ensures knotes { self.new.knotes ≡ with_knote knote self.old.knotes }
+    pub fn modify_at(&mut self, guess: Place, knote: &Knote)
+        ensures knotes { self.new.knotes ≡ with_knote knote.now self.old.knotes }
         ensures queue { self.new.queue ≡ self.old.queue }
         ensures room { self.new.room ≡ self.old.room }
 
         // The same of knotes that keep all that they heard.
         ensures model { (ms : List (model.Knote listed)) (m : model.Knote listed) → self.old.knotes ≡ tallied_knotes ms
-            → knote ≡ tallied_knote m → self.new.knotes ≡ tallied_knotes (with_knote m ms) }
+            → knote.now ≡ tallied_knote m → self.new.knotes ≡ tallied_knotes (with_knote m ms) }
     {
         let Some(before) = self.rows.look_at(guess, knote.key) else {
             return;

@@ -105,15 +105,15 @@ pub(crate) fn leave_queue<T: Copy>(nodes: &mut Slab<Node<T>>, slot: usize)
 }
 
 /// Puts a row in the place of that at a slot.
-pub(crate) fn set_row<T: Copy>(nodes: &mut Slab<Node<T>>, slot: usize, row: T)
+pub(crate) fn set_row<T: Copy>(nodes: &mut Slab<Node<T>>, slot: usize, row: &T)
     requires { IsSome (get nodes.old slot) }
-    ensures rows { rows_in nodes.new ≡ written slot (Some row) (rows_in nodes.old) }
+    ensures rows { rows_in nodes.new ≡ written slot (Some row.now) (rows_in nodes.old) }
     ensures births { births_in nodes.new ≡ births_in nodes.old }
     ensures links { (thread : Threads) → links_in thread nodes.new ≡ links_in thread nodes.old }
     ensures len { slab_len nodes.new ≡ slab_len nodes.old }
     ensures capacity { nodes.new.capacity ≡ nodes.old.capacity }
 {
-    nodes[slot].row = row;
+    nodes[slot].row = *row;
 }
 
 /// Gives the row at a slot, where there is one, this number in the order of attachment.

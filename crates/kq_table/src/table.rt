@@ -243,12 +243,12 @@ impl<T: Keyed> Table<T> {
         ensures queue { self.new.queue ≡ self.old.queue }
         ensures room { self.new.room ≡ self.old.room }
     {
-        self.modify_at(self.guess(row.key()), row);
+        self.modify_at(self.guess(row.key()), &row);
     }
 
     /// The same as `modify`. Where the row of the key stands at the guessed place, it is not looked up.
-    pub fn modify_at(&mut self, guess: Place, row: T)
-        ensures rows { self.new.rows ≡ with_row T.Key.eq T.key_of row self.old.rows }
+    pub fn modify_at(&mut self, guess: Place, row: &T)
+        ensures rows { self.new.rows ≡ with_row T.Key.eq T.key_of row.now self.old.rows }
         ensures queue { self.new.queue ≡ self.old.queue }
         ensures room { self.new.room ≡ self.old.room }
     {
