@@ -16,6 +16,9 @@ use std::thread::Threads;
 /// So few bytes are decoded together at least, and the line that they end in.
 const LEAST_PIECE_BYTES: usize = 65_536;
 
+/// However much there is, so many are enough: the room for their records, which is given back, serves for later ones.
+const ENOUGH_PIECE_BYTES: usize = 262_144;
+
 /// Cuts a text into pieces of so many bytes or more, up to the end of a line.
 fn pieces_of<'a>(alloc: Global, text: &'a [u8], bytes: usize) -> Result<Vec<&'a [u8]>, Memory>
     ensures { IfOk result (λ pieces. lines_in pieces.items ≡ lines_behind text.now) }
@@ -45,7 +48,7 @@ fn batch_in(alloc: Global, piece: &[u8]) -> Batch
 fn piece_bytes(bytes: usize, threads: u32) -> usize {
     bytes
         .div_ceil(threads.max(1) as usize)
-        .max(LEAST_PIECE_BYTES)
+        .clamp(LEAST_PIECE_BYTES, ENOUGH_PIECE_BYTES)
 }
 
 /// What the lines of each piece are, each decoded on a thread of its own, but by no more than suit the processors.
