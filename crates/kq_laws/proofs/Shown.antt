@@ -81,13 +81,13 @@ socket_shown Write mark s =
 pub socket-shown : (side : Side) (mark : ℤ → ℤ) (s : SocketState) → shown side mark (Some (socket_view s)) ≡ socket_shown side mark s
 unfolding socket_view read_seen write_seen
 socket-shown Read mark s =
-    by_test (λ b. is_some (read_seen mark (Some (cond b (view.Listen s.pending) (view.Sock s.readable (pos s.read_mark) s.read_shut s.read_error s.connected
+    by_test (λ b. is_some (read_seen mark (Some (cond b (view.Listen s.pending) (view.Sock s.readable (pos s.read_mark) s.read_shut s.connected s.read_error
     (socket_space s) (pos s.write_mark) s.write_shut s.write_error))))
     ≡ cond b (int_lt (pos 0) s.pending) (int_le (mark (pos s.read_mark)) s.readable || s.read_shut)) s.listening
     (λ _. amount-shown (int_lt (pos 0) s.pending) s.pending)
     (λ _. side-shown (int_le (mark (pos s.read_mark)) s.readable) s.read_shut s.read_error s.readable)
 socket-shown Write mark s =
-    by_test (λ b. is_some (write_seen mark (Some (cond b (view.Listen s.pending) (view.Sock s.readable (pos s.read_mark) s.read_shut s.read_error s.connected
+    by_test (λ b. is_some (write_seen mark (Some (cond b (view.Listen s.pending) (view.Sock s.readable (pos s.read_mark) s.read_shut s.connected s.read_error
     (socket_space s) (pos s.write_mark) s.write_shut s.write_error))))
     ≡ cond b false ((s.connected && int_le (mark (pos s.write_mark)) (socket_space s)) || s.write_shut)) s.listening
     (λ _. refl)

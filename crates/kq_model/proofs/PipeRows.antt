@@ -72,6 +72,6 @@ unfolding objects_opened
 socket_gone = refl
 
 pub socket_held_twice : seen (target.Socket 1) (all_released (on.Socket 1 ∷ []) (all_held (on.Socket 1 ∷ []) (after (Socket 9 9 ∷ []))))
-    ≡ Some (view.Sock (pos 0) (pos 1) false 0 false (pos 9) (pos 9) false 0)
+    ≡ Some (view.Sock (pos 0) (pos 1) false false 0 (pos 9) (pos 9) false 0)
 unfolding objects_opened
 socket_held_twice = refl

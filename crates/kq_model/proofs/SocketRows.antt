@@ -11,11 +11,11 @@ use Rattle.kq_model.specs.declared.why.Why.TheVariants.{WrongKind, Absent, TooMa
 use Rattle.kq_model.proofs.ObjectBuilders.{objects_opened, answers, after, seen, quiet, says, cannot}
 
 -- a new socket: its low-water marks are 1 and the lesser of 2,048 and its send buffer
-pub new_sockets : seen (target.Socket 1) (after (Socket 100 200 ∷ [])) ≡ Some (view.Sock (pos 0) (pos 1) false 0 false (pos 200) (pos 200) false 0)
+pub new_sockets : seen (target.Socket 1) (after (Socket 100 200 ∷ [])) ≡ Some (view.Sock (pos 0) (pos 1) false false 0 (pos 200) (pos 200) false 0)
 unfolding objects_opened
 new_sockets = refl
 
-pub large_send_buffer : seen (target.Socket 1) (after (Socket 100 5000 ∷ [])) ≡ Some (view.Sock (pos 0) (pos 1) false 0 false (pos 5000) (pos 2048) false 0)
+pub large_send_buffer : seen (target.Socket 1) (after (Socket 100 5000 ∷ [])) ≡ Some (view.Sock (pos 0) (pos 1) false false 0 (pos 5000) (pos 2048) false 0)
 unfolding objects_opened
 large_send_buffer = refl
 
@@ -57,7 +57,7 @@ accepting = refl
 
 -- the new socket is connected and has the marks of a new one; one fewer waits
 pub accepted : seen (target.Socket 4) (after (Socket 9 9 ∷ Listen (on.Socket 1) 2 ∷ Arrive (on.Socket 1) ∷ Accept (on.Socket 1) 10 3000 ∷ []))
-    ≡ Some (view.Sock (pos 0) (pos 1) false 0 true (pos 3000) (pos 2048) false 0)
+    ≡ Some (view.Sock (pos 0) (pos 1) false true 0 (pos 3000) (pos 2048) false 0)
 unfolding objects_opened
 accepted = refl
 
@@ -87,7 +87,7 @@ unfolding objects_opened
 bytes_in = refl
 
 pub bytes_in_seen : seen (target.Socket 1) (after (Socket 10 9 ∷ Connect (on.Socket 1) ∷ Receive (on.Socket 1) 10 ∷ Read (on.Socket 1) 4 ∷ Receive (on.Socket 1) 2 ∷ []))
-    ≡ Some (view.Sock (pos 8) (pos 1) false 0 true (pos 9) (pos 9) false 0)
+    ≡ Some (view.Sock (pos 8) (pos 1) false true 0 (pos 9) (pos 9) false 0)
 unfolding objects_opened
 bytes_in_seen = refl
 
@@ -98,7 +98,7 @@ unfolding objects_opened
 bytes_out = refl
 
 pub bytes_out_seen : seen (target.Socket 1) (after (Socket 9 10 ∷ Connect (on.Socket 1) ∷ Write (on.Socket 1) 10 ∷ Transmit (on.Socket 1) 3 ∷ []))
-    ≡ Some (view.Sock (pos 0) (pos 1) false 0 true (pos 3) (pos 10) false 0)
+    ≡ Some (view.Sock (pos 0) (pos 1) false true 0 (pos 3) (pos 10) false 0)
 unfolding objects_opened
 bytes_out_seen = refl
 
@@ -127,7 +127,7 @@ shut_write = refl
 
 -- the last error given counts; an unconnected socket can be shut, and can listen afterwards
 pub shut_seen : seen (target.Socket 1) (after (Socket 9 9 ∷ Shut (on.Socket 1) side.Read 54 ∷ Shut (on.Socket 1) side.Write 32 ∷ Shut (on.Socket 1) side.Read 0 ∷ []))
-    ≡ Some (view.Sock (pos 0) (pos 1) true 0 false (pos 9) (pos 9) true 32)
+    ≡ Some (view.Sock (pos 0) (pos 1) true false 0 (pos 9) (pos 9) true 32)
 unfolding objects_opened
 shut_seen = refl
 
@@ -143,7 +143,7 @@ unfolding objects_opened
 marks = refl
 
 pub marks_seen : seen (target.Socket 1) (after (Socket 5 7 ∷ LowWater (on.Socket 1) side.Read 5 ∷ LowWater (on.Socket 1) side.Write 6 ∷ []))
-    ≡ Some (view.Sock (pos 0) (pos 5) false 0 false (pos 7) (pos 6) false 0)
+    ≡ Some (view.Sock (pos 0) (pos 5) false false 0 (pos 7) (pos 6) false 0)
 unfolding objects_opened
 marks_seen = refl
 

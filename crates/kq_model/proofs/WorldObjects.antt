@@ -102,7 +102,7 @@ unfolding world_opened
 shut_socket_outcomes = refl
 
 pub shut_socket_view : view_in (world_after shut_socket) (target.Socket 2)
-    ≡ Some (view.Sock (pos 7) (pos 1) false 0 true (pos 40) (pos 40) true 32)
+    ≡ Some (view.Sock (pos 7) (pos 1) false true 0 (pos 40) (pos 40) true 32)
 unfolding world_opened
 shut_socket_view = refl
 

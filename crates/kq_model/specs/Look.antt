@@ -55,7 +55,7 @@ amount_seen ready amount = side_seen ready false 0 amount
 -- the mark is the socket's, or the one that the knote brings
 unfoldable pub read_seen : (ℤ → ℤ) → Option View → Option Seen
 read_seen mark (Some (view.Listen pending)) = amount_seen (int_lt (pos 0) pending) pending
-read_seen mark (Some (view.Sock readable read_mark read_shut read_error connected
+read_seen mark (Some (view.Sock readable read_mark read_shut connected read_error
     space write_mark write_shut write_error)) =
     side_seen (int_le (mark read_mark) readable) read_shut read_error readable
 read_seen mark (Some (view.Pipe bytes cap writer reader)) = side_seen (int_lt (pos 0) bytes) (not writer) 0 bytes
@@ -66,7 +66,7 @@ read_seen mark _ = None
 
 -- a listening socket is never ready for WRITE
 unfoldable pub write_seen : (ℤ → ℤ) → Option View → Option Seen
-write_seen mark (Some (view.Sock readable read_mark read_shut read_error connected
+write_seen mark (Some (view.Sock readable read_mark read_shut connected read_error
     space write_mark write_shut write_error)) =
     side_seen (connected && int_le (mark write_mark) space) write_shut write_error space
 write_seen mark (Some (view.Pipe bytes cap writer reader)) =

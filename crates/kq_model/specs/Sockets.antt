@@ -192,5 +192,5 @@ unfoldable pub socket_view : SocketState → View
 socket_view s =
     if s.listening then view.Listen s.pending
     else view.Sock
-    s.readable (pos s.read_mark) s.read_shut s.read_error s.connected
+    s.readable (pos s.read_mark) s.read_shut s.connected s.read_error
     (socket_space s) (pos s.write_mark) s.write_shut s.write_error
