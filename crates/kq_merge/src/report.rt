@@ -9,6 +9,7 @@ mod bound;
 mod event;
 mod extent;
 mod line;
+mod lines;
 mod pieces;
 mod rounds;
 mod text;

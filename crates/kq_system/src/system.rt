@@ -6,7 +6,7 @@ use crate::all_live::{bear, call_on, happen_to_all, reserve_one, tick_all};
 use crate::following::fork_all;
 use crate::kqueues::Kqueues;
 use kq_model::{Change, Event, Memory, Named, Reply};
-use kq_process::World;
+use kq_process::{Effect, World};
 use std::alloc::Global;
 use std::marker::Model;
 
@@ -18,6 +18,8 @@ pub struct System {
     pub(crate) world: World,
     pub(crate) live: Kqueues,
     pub(crate) applied: u64,
+    /// What the last record did: its lists serve the next one.
+    effect: Effect,
 }
 
 impl Model for System {
@@ -63,6 +65,7 @@ impl System {
             world: World::new(alloc)?,
             live: Kqueues::new(alloc),
             applied: 0,
+            effect: Effect::new(alloc),
         })
     }
 
@@ -177,9 +180,9 @@ impl System {
     {
         let place = self.applied + 1;
         let from = clock_of(&self.world);
-        let effect = self.world.apply(place, event)?;
+        self.world.apply_into(place, event, &mut self.effect)?;
         self.applied = place;
-        if let Err(why) = effect.verdict {
+        if let Err(why) = self.effect.verdict {
             return Ok(Reply::Impossible(why));
         }
         let to = clock_of(&self.world);
@@ -199,15 +202,15 @@ impl System {
         ensures possible { OnErr result (IsPossible (plan (self.old.applied + 1) event.now (world_of self.old.world))) }
     {
         let place = self.applied + 1;
-        let effect = self.world.apply(place, event)?;
+        self.world.apply_into(place, event, &mut self.effect)?;
         self.applied = place;
-        if let Err(why) = effect.verdict {
+        if let Err(why) = self.effect.verdict {
             return Ok(Reply::Impossible(why));
         }
         happen_to_all(
             &mut self.live,
-            effect.closed.as_slice(),
-            effect.hints.as_slice(),
+            self.effect.closed.as_slice(),
+            self.effect.hints.as_slice(),
             &self.world,
         );
         Ok(Reply::Done)

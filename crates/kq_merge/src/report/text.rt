@@ -2,7 +2,8 @@ ghost use Rattle.std.specs.Prelude.{◌≡◌, ◌≤◌, ◌++◌, IfOk};
 ghost use Rattle.kq_model.specs.Report.{calls_in, events_in, last_line};
 ghost use Rattle.kq_merge.specs.Written.{nothing_written, with_reply};
 
-use super::line::{put_counts, put_reply};
+use super::line::put_counts;
+use super::lines::Lines;
 use kq_model::{Memory, Reply};
 use std::alloc::Global;
 use std::marker::Model;
@@ -10,7 +11,7 @@ use std::marker::Model;
 /// The text of a report as it grows, for who has one row after the other and keeps none.
 #[derive(Drop)]
 pub struct ReportText {
-    lines: Vec<u8>,
+    lines: Lines,
     calls: u64,
     events: u128,
 }
@@ -21,9 +22,9 @@ impl Model for ReportText {
 
     ghost Value = { Written };
 
-    ghost view = { λ t. record { lines = t.lines.items; calls = t.calls; events = t.events } };
+    ghost view = { λ t. record { lines = t.lines; calls = t.calls; events = t.events } };
 
-    ghost invariant = { λ t. (t.calls ≤ length t.lines.items) × (t.events ≤ t.calls * 2 ^ 64) };
+    ghost invariant = { λ t. (t.calls ≤ length t.lines) × (t.events ≤ t.calls * 2 ^ 64) };
 }
 
 impl ReportText {
@@ -32,7 +33,7 @@ impl ReportText {
         ensures { result ≡ nothing_written }
     {
         ReportText {
-            lines: Vec::new(alloc),
+            lines: Lines::new(alloc),
             calls: 0,
             events: 0,
         }
@@ -43,7 +44,7 @@ impl ReportText {
     pub fn with_row(mut self, at: u64, reply: &Reply) -> Result<Self, Memory>
         ensures { IfOk result (λ text. text ≡ with_reply at reply.now self) }
     {
-        put_reply(&mut self.lines, at, reply)?;
+        self.lines.put(at, reply)?;
         self.calls += calls_in(reply);
         self.events += u128::from(events_in(reply));
         Ok(self)
@@ -51,12 +52,17 @@ impl ReportText {
 
     /// The whole text, with the last line, which counts the calls and events of the rows, and the
     /// records of which they are the rows.
-    pub fn end(mut self, records: u64) -> Result<Vec<u8>, Memory>
+    pub fn end(self, records: u64) -> Result<Vec<u8>, Memory>
         ensures { IfOk result (λ text. text.items ≡ self.lines ++ last_line self.calls self.events records) }
     {
-        put_counts(&mut self.lines, self.calls, self.events, records)?;
-        let ReportText { lines, .. } = self;
-        Ok(lines)
+        let ReportText {
+            lines,
+            calls,
+            events,
+        } = self;
+        let mut text = lines.into_text();
+        put_counts(&mut text, calls, events, records)?;
+        Ok(text)
     }
 }
 

@@ -16,8 +16,8 @@ use Rattle.kq_system.proofs.system.System.happen.Goals as goal
 pub invariant_of-self : goal.invariant_of-self
 invariant_of-self c =
     let old = c.self.inside in
-    lawful_unchanged old.version old.applied old.world c.apply.new.self old.live.entries old.live.entries
-    c.self.invariant c.in_err-effect.ensures.memory c.in_err-effect.ensures.same_last refl
+    lawful_unchanged old.version old.applied old.world c.apply_into.new.self old.live.entries old.live.entries
+    c.self.invariant c.in_err-apply_into.ensures.memory c.in_err-apply_into.ensures.same_last refl
 
 pub invariant_of-self-in-Err : goal.invariant_of-self-in-Err
 invariant_of-self-in-Err c =
@@ -25,15 +25,15 @@ invariant_of-self-in-Err c =
     let s : SystemState = state_of old.version old.world old.live.entries old.applied in
     let place = old.applied + 1 in
     let e = c.args.event.now in
-    let steps = refused_step place e (system_of s) (world_of c.apply.new.self) c.in-Err.why
-    (refused (plan place e (world_of old.world)) c.in_ok-effect.effect c.in-Err.why c.in_ok-effect.ensures.effect
-    c.in-Err.is) c.in_ok-effect.ensures.world in
-    lawful_after old.version old.applied old.world c.apply.new.self old.live.entries old.live.entries c.self.invariant
+    let steps = refused_step place e (system_of s) (world_of c.apply_into.new.self) c.in-Err.why
+    (refused (plan place e (world_of old.world)) c.apply_into.new.effect c.in-Err.why c.in_ok-apply_into.ensures.effect
+    c.in-Err.is) c.in_ok-apply_into.ensures.world in
+    lawful_after old.version old.applied old.world c.apply_into.new.self old.live.entries old.live.entries c.self.invariant
     (stayed_same old.live.entries)
     (stays_live place e (system_of s) _ (reply.Impossible c.in-Err.why) steps c.self.invariant.all_live)
-    (stays_watched place (place + 1) e (system_of s) _ (reply.Impossible c.in-Err.why) steps c.in_ok-effect.ensures.next
+    (stays_watched place (place + 1) e (system_of s) _ (reply.Impossible c.in-Err.why) steps c.in_ok-apply_into.ensures.next
     c.self.invariant.watched)
-    (omega (arith, c.in_ok-effect.ensures.last))
+    (omega (arith, c.in_ok-apply_into.ensures.last))
 
 pub returns-in-Err-clause-reply : goal.returns-in-Err-clause-reply
 returns-in-Err-clause-reply c =
@@ -42,10 +42,10 @@ returns-in-Err-clause-reply c =
     let place = old.applied + 1 in
     let e = c.args.event.now in
     subst (λ (now : SystemState). IsStep (now.applied + 1) e (system_of now)
-    (record (system_of s) { world = world_of c.apply.new.self }) (reply.Impossible c.in-Err.why)) c.self.view_is
-    (refused_step place e (system_of s) (world_of c.apply.new.self) c.in-Err.why
-    (refused (plan place e (world_of old.world)) c.in_ok-effect.effect c.in-Err.why c.in_ok-effect.ensures.effect
-    c.in-Err.is) c.in_ok-effect.ensures.world)
+    (record (system_of s) { world = world_of c.apply_into.new.self }) (reply.Impossible c.in-Err.why)) c.self.view_is
+    (refused_step place e (system_of s) (world_of c.apply_into.new.self) c.in-Err.why
+    (refused (plan place e (world_of old.world)) c.apply_into.new.effect c.in-Err.why c.in_ok-apply_into.ensures.effect
+    c.in-Err.is) c.in_ok-apply_into.ensures.world)
 
 pub invariant_of-self-2 : goal.invariant_of-self-2
 invariant_of-self-2 c =
@@ -53,19 +53,19 @@ invariant_of-self-2 c =
     let s : SystemState = state_of old.version old.world old.live.entries old.applied in
     let place = old.applied + 1 in
     let e = c.args.event.now in
-    let effect = c.in_ok-effect.effect in
+    let effect = c.apply_into.new.effect in
     let ok : IsOk effect.verdict = subst IsOk (sym c.in_default.is) refl in
-    let steps = happened_step place e (system_of s) effect (world_of c.apply.new.self)
-    (map live_of c.happen_to_all.new.live.entries) c.requires.plain c.requires.no_fork c.in_ok-effect.ensures.effect ok
-    c.in_ok-effect.ensures.world (c.happen_to_all.ensures.happened
+    let steps = happened_step place e (system_of s) effect (world_of c.apply_into.new.self)
+    (map live_of c.happen_to_all.new.live.entries) c.requires.plain c.requires.no_fork c.in_ok-apply_into.ensures.effect ok
+    c.in_ok-apply_into.ensures.world (c.happen_to_all.ensures.happened
     ∙ ap₂ (λ (ps : List (ℕ × ℕ)) (hs : List Posted). happened_to_all (pairs_in ps) hs
-    (views_of (world_of c.apply.new.self)) (map live_of old.live.entries)) c.as_slice.ensures c.as_slice-2.ensures) in
-    lawful_after old.version old.applied old.world c.apply.new.self old.live.entries
+    (views_of (world_of c.apply_into.new.self)) (map live_of old.live.entries)) c.as_slice.ensures c.as_slice-2.ensures) in
+    lawful_after old.version old.applied old.world c.apply_into.new.self old.live.entries
     c.happen_to_all.new.live.entries c.self.invariant c.happen_to_all.ensures.stayed
     (stays_live place e (system_of s) _ reply.Done steps c.self.invariant.all_live)
-    (stays_watched place (place + 1) e (system_of s) _ reply.Done steps c.in_ok-effect.ensures.next
+    (stays_watched place (place + 1) e (system_of s) _ reply.Done steps c.in_ok-apply_into.ensures.next
     c.self.invariant.watched)
-    (omega (arith, c.in_ok-effect.ensures.last))
+    (omega (arith, c.in_ok-apply_into.ensures.last))
 
 pub returns-clause-reply : goal.returns-clause-reply
 returns-clause-reply c =
@@ -73,24 +73,24 @@ returns-clause-reply c =
     let s : SystemState = state_of old.version old.world old.live.entries old.applied in
     let place = old.applied + 1 in
     let e = c.args.event.now in
-    let effect = c.in_ok-effect.effect in
+    let effect = c.apply_into.new.effect in
     let ok : IsOk effect.verdict = subst IsOk (sym c.in_default.is) refl in
     subst (λ (now : SystemState). IsStep (now.applied + 1) e (system_of now) (record (system_of s) {
-      world = world_of c.apply.new.self;
+      world = world_of c.apply_into.new.self;
       live = map live_of c.happen_to_all.new.live.entries;
     }) reply.Done) c.self.view_is
-    (happened_step place e (system_of s) effect (world_of c.apply.new.self)
-    (map live_of c.happen_to_all.new.live.entries) c.requires.plain c.requires.no_fork c.in_ok-effect.ensures.effect ok
-    c.in_ok-effect.ensures.world (c.happen_to_all.ensures.happened
+    (happened_step place e (system_of s) effect (world_of c.apply_into.new.self)
+    (map live_of c.happen_to_all.new.live.entries) c.requires.plain c.requires.no_fork c.in_ok-apply_into.ensures.effect ok
+    c.in_ok-apply_into.ensures.world (c.happen_to_all.ensures.happened
     ∙ ap₂ (λ (ps : List (ℕ × ℕ)) (hs : List Posted). happened_to_all (pairs_in ps) hs
-    (views_of (world_of c.apply.new.self)) (map live_of old.live.entries)) c.as_slice.ensures c.as_slice-2.ensures))
+    (views_of (world_of c.apply_into.new.self)) (map live_of old.live.entries)) c.as_slice.ensures c.as_slice-2.ensures))
 
 pub happen_to_all-requires : goal.happen_to_all-requires
 happen_to_all-requires c =
     let old = c.self.inside in
     let place = old.applied + 1 in
     let e = c.args.event.now in
-    let effect = c.in_ok-effect.effect in
+    let effect = c.apply_into.new.effect in
     let ok : IsOk effect.verdict = subst IsOk (sym c.in_default.is) refl in
-    let d = done (plan place e (world_of old.world)) effect c.in_ok-effect.ensures.effect ok in
+    let d = done (plan place e (world_of old.world)) effect c.in_ok-apply_into.ensures.effect ok in
     ap all_forks (c.as_slice-2.ensures ∙ d.hints_is) ∙ silent-records place e (world_of old.world) d.plan_is c.requires.no_fork d.is
