@@ -29,7 +29,7 @@ pub fn without_blank<'a>(text: &'a [u8]) -> &'a [u8]
 
 /// The text behind this word, where it begins with it.
 #[inline(always)]
-pub fn behind_word<'a>(text: &'a [u8], word: &[u8]) -> Option<&'a [u8]>
+pub fn behind_word<'a, const N: usize>(text: &'a [u8], word: &[u8; N]) -> Option<&'a [u8]>
     ensures cut { IfSome result (λ rest. text.now ≡ word.now ++ rest.now) }
     ensures shorter { IfSome result (λ rest. length rest.now ≤ length text.now) }
 {
@@ -54,7 +54,7 @@ pub fn same(name: &[u8], other: &[u8]) -> bool
 
 /// Whether a name is this word.
 #[inline(always)]
-pub fn is(name: &[u8], word: &[u8]) -> bool
+pub fn is<const N: usize>(name: &[u8], word: &[u8; N]) -> bool
     ensures { IsTrue result → name.now ≡ word.now }
 {
     match behind_word(name, word) {

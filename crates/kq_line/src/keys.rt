@@ -7,7 +7,7 @@ use crate::cursor::{behind, behind_word, without_blank};
 
 /// The text behind this name in quotation marks, a colon and a blank or none.
 #[inline(always)]
-pub fn behind_key<'a>(text: &'a [u8], name: &[u8]) -> Option<&'a [u8]>
+pub fn behind_key<'a, const N: usize>(text: &'a [u8], name: &[u8; N]) -> Option<&'a [u8]>
     ensures key { IfSome result (λ value. IsKey text.now name.now value.now) }
     ensures shorter { IfSome result (λ value. length value.now < length text.now) }
 {
@@ -18,7 +18,7 @@ pub fn behind_key<'a>(text: &'a [u8], name: &[u8]) -> Option<&'a [u8]>
 
 /// The same behind a comma and a blank or none.
 #[inline(always)]
-pub fn behind_next_key<'a>(text: &'a [u8], name: &[u8]) -> Option<&'a [u8]>
+pub fn behind_next_key<'a, const N: usize>(text: &'a [u8], name: &[u8; N]) -> Option<&'a [u8]>
     ensures key { IfSome result (λ value. IsNextKey text.now name.now value.now) }
     ensures shorter { IfSome result (λ value. length value.now < length text.now) }
 {

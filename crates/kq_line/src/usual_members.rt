@@ -51,7 +51,7 @@ fn number_with_sign<'a>(text: &'a [u8]) -> Option<(i64, &'a [u8])>
 
 /// The number that is the next member of a record, where that has this name, and the text behind it.
 #[inline(always)]
-pub fn next_u32<'a>(text: &'a [u8], name: &[u8]) -> Option<(u32, &'a [u8])>
+pub fn next_u32<'a, const N: usize>(text: &'a [u8], name: &[u8; N]) -> Option<(u32, &'a [u8])>
     requires { IsTrue (are_letters name.now) }
     ensures value { IfSome result (λ r. (line : List ℕ) (ms : Members) → IsLineUpTo line text.now ms
         → IsLineUpTo line r.1.now (put name.now (number (unsigned r.0)) ms)) }
@@ -62,7 +62,7 @@ pub fn next_u32<'a>(text: &'a [u8], name: &[u8]) -> Option<(u32, &'a [u8])>
 
 /// The same with a sign.
 #[inline(always)]
-pub fn next_i64<'a>(text: &'a [u8], name: &[u8]) -> Option<(i64, &'a [u8])>
+pub fn next_i64<'a, const N: usize>(text: &'a [u8], name: &[u8; N]) -> Option<(i64, &'a [u8])>
     requires { IsTrue (are_letters name.now) }
     ensures value { IfSome result (λ r. (line : List ℕ) (ms : Members) → IsLineUpTo line text.now ms
         → IsLineUpTo line r.1.now (put name.now (whole r.0) ms)) }
@@ -73,7 +73,7 @@ pub fn next_i64<'a>(text: &'a [u8], name: &[u8]) -> Option<(i64, &'a [u8])>
 
 /// The same, where it is a moment of the clock, in ns.
 #[inline(always)]
-pub fn next_moment<'a>(text: &'a [u8], name: &[u8]) -> Option<(i64, &'a [u8])>
+pub fn next_moment<'a, const N: usize>(text: &'a [u8], name: &[u8; N]) -> Option<(i64, &'a [u8])>
     requires { IsTrue (are_letters name.now) }
     ensures value { IfSome result (λ r. (line : List ℕ) (ms : Members) → IsLineUpTo line text.now ms
         → IsLineUpTo line r.1.now (put name.now (whole r.0) ms)) }
@@ -85,7 +85,7 @@ pub fn next_moment<'a>(text: &'a [u8], name: &[u8]) -> Option<(i64, &'a [u8])>
 
 /// The name that is the next member of a record, where that has this key, and the text behind it.
 #[inline(always)]
-pub fn next_name<'a>(text: &'a [u8], key: &[u8]) -> Option<(&'a [u8], &'a [u8])>
+pub fn next_name<'a, const N: usize>(text: &'a [u8], key: &[u8; N]) -> Option<(&'a [u8], &'a [u8])>
     requires { IsTrue (are_letters key.now) }
     ensures { IfSome result (λ r. (line : List ℕ) (ms : Members) → IsLineUpTo line text.now ms
         → IsLineUpTo line r.1.now (put key.now (string r.0.now) ms)) }
@@ -105,7 +105,10 @@ pub fn ends(text: &[u8]) -> Option<()>
 
 /// The number that is the next member of a change, where that has this name, and else 0; and the text behind it.
 #[inline(always)]
-pub fn next_u32_or_zero<'a>(text: &'a [u8], name: &[u8]) -> Option<(u32, &'a [u8])>
+pub fn next_u32_or_zero<'a, const N: usize>(
+    text: &'a [u8],
+    name: &[u8; N],
+) -> Option<(u32, &'a [u8])>
     requires { IsTrue (are_letters name.now) }
     ensures value { IfSome result (λ r. (there : Option ℕ) × (r.0 ≡ value_or 0 there)
         × ((start : List ℕ) (ms : Members) → AreMembersUpTo 1 start text.now ms
@@ -121,7 +124,10 @@ pub fn next_u32_or_zero<'a>(text: &'a [u8], name: &[u8]) -> Option<(u32, &'a [u8
 
 /// The same of 64 bits.
 #[inline(always)]
-pub fn next_u64_or_zero<'a>(text: &'a [u8], name: &[u8]) -> Option<(u64, &'a [u8])>
+pub fn next_u64_or_zero<'a, const N: usize>(
+    text: &'a [u8],
+    name: &[u8; N],
+) -> Option<(u64, &'a [u8])>
     requires { IsTrue (are_letters name.now) }
     ensures value { IfSome result (λ r. (there : Option ℕ) × (r.0 ≡ value_or 0 there)
         × ((start : List ℕ) (ms : Members) → AreMembersUpTo 1 start text.now ms
@@ -136,7 +142,10 @@ pub fn next_u64_or_zero<'a>(text: &'a [u8], name: &[u8]) -> Option<(u64, &'a [u8
 
 /// The same of 64 bits with a sign.
 #[inline(always)]
-pub fn next_i64_or_zero<'a>(text: &'a [u8], name: &[u8]) -> Option<(i64, &'a [u8])>
+pub fn next_i64_or_zero<'a, const N: usize>(
+    text: &'a [u8],
+    name: &[u8; N],
+) -> Option<(i64, &'a [u8])>
     requires { IsTrue (are_letters name.now) }
     ensures value { IfSome result (λ r. (there : Option ℤ) × (r.0 ≡ value_or (pos 0) there)
         × ((start : List ℕ) (ms : Members) → AreMembersUpTo 1 start text.now ms

@@ -11,7 +11,10 @@ use kq_model::Memory;
 use memchr::memchr;
 use std::alloc::Global;
 
-/// A block has so many bytes at least, but for the last one: enough that it is worth threads.
+/// So many bytes are enough for a block that one thread decodes: they and their records stay in its cache.
+const LONE_BLOCK_BYTES: usize = 131_072;
+
+/// A block has so many bytes at least, but for the last one, where it is worth threads.
 const LEAST_BLOCK_BYTES: usize = 262_144;
 
 /// However many bytes came, so many are enough for a block.
@@ -28,19 +31,22 @@ pub struct Blocks {
     pub(crate) tail: Vec<u8>,
     /// How many bytes came.
     taken: usize,
+    /// Whether one thread alone decodes them.
+    lone: bool,
     /// Whether all came.
     pub(crate) ended: bool,
 }
 
 impl Blocks {
-    /// Of a source that gave nothing yet.
-    pub fn new(alloc: Global) -> Result<Self, Memory>
+    /// Of a source that gave nothing yet, for so many threads.
+    pub fn new(alloc: Global, threads: u32) -> Result<Self, Memory>
         ensures { IfOk result HasNothing }
     {
         Ok(Blocks {
             chunk: Chunk::new(alloc)?,
             tail: Vec::new(alloc),
             taken: 0,
+            lone: threads < 2,
             ended: false,
         })
     }
@@ -58,6 +64,9 @@ impl Blocks {
 
     /// How many bytes the next block has at least.
     fn least(&self) -> usize {
+        if self.lone {
+            return LONE_BLOCK_BYTES;
+        }
         (self.taken / BLOCK_PART).clamp(LEAST_BLOCK_BYTES, ENOUGH_BLOCK_BYTES)
     }
 

@@ -45,7 +45,7 @@ pub fn read_trace_into<R: AllocGlobal + Threads + Sync, S: Source + Send, K: Sin
     ensures end { OnOk result (IsAtEnd (S.ahead source.new).known) }
     ensures bad { IfErr result (IsInputFault S.may_fail (S.ahead source.old)) }
 {
-    let mut text = Text::new(rt.alloc())?;
+    let mut text = Text::new(rt.alloc(), threads)?;
     match read_blocks(rt, source, &mut text, threads, sink) {
         Ok(version) => Ok(version),
         Err(error) => Err(once_all_came(&mut text.coming, source, error)),
@@ -77,11 +77,12 @@ struct Text {
 }
 
 impl Text {
-    fn new(alloc: Global) -> Result<Self, Memory>
+    /// None came yet, for so many threads.
+    fn new(alloc: Global, threads: u32) -> Result<Self, Memory>
         ensures { IfOk result (λ text. HasNothing text.coming) }
     {
         Ok(Text {
-            coming: Blocks::new(alloc)?,
+            coming: Blocks::new(alloc, threads)?,
             block: Vec::new(alloc),
             next: Vec::new(alloc),
         })
