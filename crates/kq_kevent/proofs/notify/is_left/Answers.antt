@@ -1,4 +1,4 @@
-use Rattle.std.proofs.Common.{List, drop, sym, subst, arith}
+use Rattle.std.proofs.Common.{List, sym, subst, arith}
 use Rattle.std.proofs.lemmas.List.{at_drop_more, at_drop_all}
 use Rattle.kq_model.specs.declared.object.Hint.TheVariants.{Readable}
 use Rattle.kq_model.specs.declared.object.Target.TheVariants.{Socket}
