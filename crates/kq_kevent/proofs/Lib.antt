@@ -14,6 +14,7 @@ pub mod BeginLaws
 pub mod KeepLaws
 pub mod CloseLaws
 pub mod TellLaws
+pub mod SettledLaws
 pub mod NotifyLaws
 pub mod NotifiedLaws
 pub mod RingLaws

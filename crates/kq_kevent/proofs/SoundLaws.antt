@@ -1,5 +1,5 @@
 -- The kqueue stays sound: keys differ, and the queue holds each active enabled knote once and nothing else.
-use Rattle.std.proofs.Common.{◌≡◌, cond, ◌≤◌, false, ◌&&◌, List, [], ◌∷◌, ◌++◌, length, Option, Some, None, refl, sym, ap, ◌∙◌, subst}
+use Rattle.std.proofs.Common.{◌≡◌, cond, ◌≤◌, true, false, ◌&&◌, List, [], ◌∷◌, ◌++◌, length, Option, Some, None, refl, sym, ap, ◌∙◌, subst}
 use Rattle.std.proofs.lemmas.Bool.{true≢false, and_left}
 use Rattle.std.specs.Option.{option_map}
 use Rattle.kq_model.specs.declared.change.Change.{Change}
@@ -12,7 +12,8 @@ use Rattle.kq_model.specs.Registration.{queue_for, is_restart, with_made, with_r
 use Rattle.kq_model.specs.Tallied.{Knote, Kqueue}
 use Rattle.kq_model.proofs.KeyLaws.{same_key, key_eq-refl, key_eq-sym, has_key-without_same, has_key-without_other}
 use Rattle.kq_model.proofs.KnoteLaws.{by_test, found_or, find_knote-none, find_knote-here, find_knote-later, find_knote-append, find_knote-with_same, find_knote-with_other, find_knote-without_same, find_knote-without_other, HaveOwnKeys-append, HaveOwnKeys-with, HaveOwnKeys-without}
-use Rattle.kq_kevent.proofs.QueueLaws.{has_key-queue_for_same, has_key-queue_for_other, AreOnce-queue_for, AreOnce-without}
+use Rattle.kq_kevent.specs.Telling.{HeardMore}
+use Rattle.kq_kevent.proofs.QueueLaws.{has_key-queue_for_same, has_key-queue_for_other, AreOnce-queue_for, AreOnce-without, without_key-absent, queue_for-disabled, queue_for-there}
 use Rattle.kq_knote.proofs.CountLaws.{length-keys}
 
 pub waiting-none : is_waiting {h = tallying} None ≡ false
@@ -128,6 +129,16 @@ IsSound-put_back kq k before sound there stays =
     (λ key apart. find_knote-with_other key k kq.knotes apart) sound.once (λ _ _. refl)
     (λ idle. sound.waiting k.key ∙ ap is_waiting there ∙ waiting-some before ∙ and_left before.active before.enabled
     (stays idle))
+
+-- what an active knote heard moves nothing in the queue
+pub kept-queue : (kq : Kqueue) (k before : Knote) → IsSound kq → find_knote k.key kq.knotes ≡ Some before
+    → k.active ≡ true → HeardMore before k → queue_for k kq.queue ≡ kq.queue
+kept-queue kq k before sound there active more =
+    let waits : has_key k.key kq.queue ≡ k.enabled = sound.waiting k.key ∙ ap is_waiting there ∙ waiting-some before
+    ∙ sym (ap (λ (n : Knote). n.active && n.enabled) more) ∙ ap (λ a. a && k.enabled) active in
+    by_test (λ e. k.enabled ≡ e → queue_for k kq.queue ≡ kq.queue) k.enabled
+    (λ _ on. queue_for-there k kq.queue on (waits ∙ on))
+    (λ _ off. queue_for-disabled k kq.queue off ∙ without_key-absent k.key kq.queue (waits ∙ off)) refl
 
 pub IsSound-removed : (kq : Kqueue) (gone : Key) → IsSound kq → IsSound (with_removed gone kq)
 IsSound-removed kq gone sound = record {

@@ -1,12 +1,12 @@
 -- A knote that the code tells the hints of a record hears those that are for it.
-use Rattle.std.proofs.Common.{◌≡◌, Bool, true, false, cond, ◌&&◌, ◌||◌, List, [], ◌∷◌, map, filter, Option, Some, None, refl, sym, ap, ap₂, ◌∙◌}
+use Rattle.std.proofs.Common.{◌≡◌, Bool, true, false, cond, ◌&&◌, ◌||◌, List, [], ◌∷◌, map, filter, Option, Some, None, refl, sym, ap, ap₂, ◌∙◌, subst}
 use Rattle.std.proofs.lemmas.Bool.{true≢false}
 use Rattle.kq_model.specs.declared.filter.Filter.{Filter}
 use Rattle.kq_model.specs.declared.object.Hint.{Hint}
 use Rattle.kq_model.specs.declared.key.Key.{Key}
 use Rattle.kq_model.specs.declared.object.Target.{Target}
 use Rattle.kq_model.specs.ChangedKnote.{activated}
-use Rattle.kq_model.specs.Hints.{takes, kept, added, after_hint, is_done, hints_for}
+use Rattle.kq_model.specs.Hints.{takes, kept, is_exit, added, after_hint, is_done, hints_for}
 use Rattle.kq_model.specs.Knote.{has_nothing, find_knote, with_knote}
 use Rattle.kq_model.specs.Look.{Seen, look}
 use Rattle.kq_model.specs.Noticing.{is_for, heard_along, is_done_along, left_by, with_noticed, noticed_in}
@@ -17,7 +17,7 @@ use Rattle.kq_model.specs.Views.{Views}
 use Rattle.kq_model.proofs.HeardAlong.{after_hint-key, after_hint-target, heard_along-key, heard_along-target, activated-key, activated-target, noticed-told, tally-hears}
 use Rattle.kq_model.proofs.KnoteLaws.{by_test, find_knote-key}
 use Rattle.kq_kevent.specs.declared.notify.Telling.{Telling}
-use Rattle.kq_kevent.specs.Telling.{told_one, told_all, StandsFor}
+use Rattle.kq_kevent.specs.Telling.{told_one, told_all, HeardMore, StandsFor}
 use Rattle.kq_kevent.proofs.KnoteSteps.{activated-active}
 use Rattle.kq_kevent.proofs.TurnLaws.{kqueue_of}
 
@@ -137,6 +137,32 @@ told-stands posted key ks k t is found =
       active = λ idle. sym (ap (λ (n : Knote). n.active) knote ∙ heard_along-active hints k) ∙ idle;
     }
 
+-- only what it heard, and whether it is ONESHOT, may have changed
+
+added-more : (o : Option Hint) (k : Knote) (once : Bool) → HeardMore k (record (added o k) { oneshot = once })
+unfolding added
+added-more None k once = refl
+added-more (Some hint) k once = refl
+
+after_hint-more : (hint : Hint) (k : Knote) → HeardMore k (after_hint hint k)
+unfolding after_hint
+after_hint-more hint k =
+    let once = k.oneshot || is_exit k.key.filter hint in
+    by_test (λ b. HeardMore k (record (cond b (added (kept k.fflags hint) k) k) { oneshot = once })) (takes k.key.filter hint)
+    (λ _. added-more (kept k.fflags hint) k once) (λ _. refl)
+
+heard_along-more : (hints : List Hint) (k : Knote) → HeardMore k (heard_along hints k)
+unfolding heard_along
+heard_along-more [] k = refl
+heard_along-more (hint ∷ hints) k =
+    let last = heard_along hints (after_hint hint k) in
+    heard_along-more hints (after_hint hint k)
+    ∙ ap (λ (n : Knote). record n { seen = last.seen; oneshot = last.oneshot }) (after_hint-more hint k)
+
+pub told-more : (posted : List Posted) (k : Knote) (t : Telling) → t ≡ told_all posted (telling k false false) → HeardMore k t.knote
+told-more posted k t is =
+    subst (λ (x : Telling). HeardMore k x.knote) (sym (is ∙ told-all posted k false false)) (heard_along-more (hints_for k posted) k)
+
 pub looked-stands : (seen : Option Seen) (before k next : Knote) (ks : List Knote) → next ≡ activated seen k → StandsFor before k ks → StandsFor before next ks
 looked-stands seen before k next ks is stands = record {
   there = ap (λ (n : Knote). find_knote n.key ks) is ∙ ap (λ at. find_knote at ks) (activated-key seen k) ∙ stands.there;
@@ -145,6 +171,12 @@ looked-stands seen before k next ks is stands = record {
 }
 
 -- ---- gone, or back in its place
+
+-- what is active already is as it is, whatever a look sees
+pub activated-already : (seen : Option Seen) (k : Knote) → k.active ≡ true → activated seen k ≡ k
+unfolding activated
+activated-already None k is = refl
+activated-already (Some seen) k is = ap (λ a. record k { active = a }) (sym is)
 
 pub leave-gone : (views : Views) (done : Bool) (told : Knote) (kq : Kqueue) → done ≡ true → has_nothing told ≡ true
     → with_removed told.key kq ≡ with_noticed told (left_by views done told) kq

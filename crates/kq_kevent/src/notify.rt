@@ -1,4 +1,4 @@
-ghost use Rattle.std.specs.Prelude.{◌≡◌, ◌≤◌, [], false, true};
+ghost use Rattle.std.specs.Prelude.{◌≡◌, ◌≤◌, ◌&&◌, [], Some, false, true};
 ghost use Rattle.kq_model.specs.ChangedKnote.{activated};
 ghost use Rattle.kq_model.specs.Following.{followed};
 ghost use Rattle.kq_model.specs.Hearing.{listed};
@@ -14,7 +14,7 @@ ghost use Rattle.kq_model.specs.Views as world;
 ghost use Rattle.kq_model.specs.WatchedNumbers.{LeavesOpen, WatchTheirNumbers};
 ghost use Rattle.kq_knote.specs.Index.{hinted_keys};
 ghost use Rattle.kq_kevent.specs.Owned.{limit, HasRoomToFollow};
-ghost use Rattle.kq_kevent.specs.Telling.{told_one, told_all, StandsFor};
+ghost use Rattle.kq_kevent.specs.Telling.{is_plain, told_one, told_all, with_put, AreLeft, HeardMore, Leaves, StandsFor};
 
 use crate::Kq;
 use crate::look::look_in;
@@ -77,6 +77,51 @@ fn looked_at<V: Views>(views: &V, knote: Knote) -> Knote
 {
     let active = knote.active || look_in(views, &knote).is_some();
     Knote { active, ..knote }
+}
+
+/// Whether a hint tells no more than that there may be something to read or to write.
+#[tactic(auto, unfolding(crate::specs::Telling::is_plain))]
+fn is_plain(hint: Hint) -> bool
+    ensures { result ≡ is_plain hint }
+{
+    matches!(hint, Hint::Readable | Hint::Writable)
+}
+
+/// Whether a hint is such a one, and the knote heard one before.
+fn is_old(knote: &Knote, hint: Hint) -> bool
+    ensures { result ≡ is_plain hint && knote.now.seen.others }
+{
+    is_plain(hint) && knote.tally.others
+}
+
+/// Whether a hint is known to leave a knote as it is.
+fn leaves(knote: &Knote, target: Target, hint: Hint) -> bool
+    ensures { result ≡ true → Leaves knote.now (target, hint) }
+{
+    if is_old(knote, hint) {
+        return true;
+    }
+    !is_for(knote, target, hint)
+}
+
+/// Whether all hints of a record are known to leave a knote as it is.
+fn is_left(knote: &Knote, hints: &[(Target, Hint)]) -> bool
+    ensures { result ≡ true → AreLeft knote.now hints.now }
+{
+    for posted in hints {
+        if !leaves(knote, posted.0, posted.1) {
+            return false;
+        }
+    }
+    true
+}
+
+/// Whether a knote is active, and the hints leave it as it is.
+fn is_content(knote: &Knote, hints: &[(Target, Hint)]) -> bool
+    ensures active { result ≡ true → knote.now.active ≡ true }
+    ensures left { result ≡ true → AreLeft knote.now hints.now }
+{
+    knote.active && is_left(knote, hints)
 }
 
 impl Kq {
@@ -174,6 +219,34 @@ impl Kq {
         ensures room { self.old.room ≤ self.new.room }
         ensures limit { limit self.new ≡ limit self.old }
     {
+        if self.is_settled(guess, key, hints) {
+            return;
+        }
+        self.tell_at(guess, key, hints, views);
+    }
+
+    /// Whether the knote of a key is active, and the hints are known to leave it as it is.
+    fn is_settled(&self, guess: Place, key: Key, hints: &[(Target, Hint)]) -> bool
+        ensures settled { result ≡ true → (seen : world.Views)
+            → noticed_at seen hints.now (find_knote key self.now.kq.knotes) self.now.kq ≡ self.now.kq }
+        // Of every kqueue.
+        ensures own_keys { HaveOwnKeys self.now.kq.knotes }
+    {
+        let Some(knote) = self.knotes.look_at(guess, key) else {
+            return false;
+        };
+        is_content(knote, hints)
+    }
+
+    /// The knote of a key hears the hints for it, is looked at and goes where it belongs.
+    fn tell_at<V: Views>(&mut self, guess: Place, key: Key, hints: &[(Target, Hint)], views: &V)
+        ensures kq { self.new.kq
+            ≡ noticed_at (V.sees views.now) hints.now (find_knote key self.old.kq.knotes) self.old.kq }
+        ensures owner { self.new.owner ≡ self.old.owner }
+        ensures version { self.new.version ≡ self.old.version }
+        ensures room { self.old.room ≤ self.new.room }
+        ensures limit { limit self.new ≡ limit self.old }
+    {
         let Some(found) = self.knotes.locate_at(guess, key) else {
             return;
         };
@@ -186,7 +259,8 @@ impl Kq {
     /// What becomes of a knote that was told hints: it is gone, or is looked at and goes where it
     /// belongs.
     fn leave<V: Views>(&mut self, found: &Placed<Knote>, told: Knote, done: bool, views: &V)
-        requires { StandsFor found.now.row told self.old.kq.knotes }
+        requires stands { StandsFor found.now.row told self.old.kq.knotes }
+        requires more { HeardMore found.now.row told }
         ensures kq { self.new.kq ≡ with_noticed told (left_by (V.sees views.now) done told) self.old.kq }
         ensures owner { self.new.owner ≡ self.old.owner }
         ensures version { self.new.version ≡ self.old.version }
@@ -196,8 +270,40 @@ impl Kq {
         if done && told.has_nothing() {
             self.unmake_at(found.place, told.key);
         } else {
+            self.stay(found, told, views);
+        }
+    }
+
+    /// What becomes of a knote that was told hints and stays: one that was active is not looked at, and stands where it
+    /// belongs.
+    fn stay<V: Views>(&mut self, found: &Placed<Knote>, told: Knote, views: &V)
+        requires stands { StandsFor found.now.row told self.old.kq.knotes }
+        requires more { HeardMore found.now.row told }
+        ensures kq { self.new.kq ≡ with_put (activated (look (V.sees views.now) told) told) self.old.kq }
+        ensures owner { self.new.owner ≡ self.old.owner }
+        ensures version { self.new.version ≡ self.old.version }
+        ensures room { self.new.room ≡ self.old.room }
+        ensures limit { limit self.new ≡ limit self.old }
+    {
+        if told.active {
+            self.keep(found, told);
+        } else {
             self.put_back(found, looked_at(views, told));
         }
+    }
+
+    /// Keeps what an active knote heard, whose key stays where it is.
+    fn keep(&mut self, found: &Placed<Knote>, told: Knote)
+        requires active { told.active ≡ true }
+        requires there { find_knote told.key self.old.kq.knotes ≡ Some found.now.row }
+        requires more { HeardMore found.now.row told }
+        ensures kq { self.new.kq ≡ with_put told self.old.kq }
+        ensures owner { self.new.owner ≡ self.old.owner }
+        ensures version { self.new.version ≡ self.old.version }
+        ensures room { self.new.room ≡ self.old.room }
+        ensures limit { limit self.new ≡ limit self.old }
+    {
+        self.knotes.modify_at(found.place, told);
     }
 
     /// Puts a knote in the place of the one of its key, and its key where it belongs.

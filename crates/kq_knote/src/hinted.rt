@@ -47,6 +47,9 @@ pub(crate) fn only_target(posted: &[(Target, Hint)]) -> Option<Target>
     if !is_shared(Some(*first)) {
         return None;
     }
+    if posted.len() == 1 {
+        return Some(*first);
+    }
     for hint in posted {
         if hint.0 != *first {
             return None;

@@ -1,6 +1,6 @@
 ghost use Rattle.std.specs.Prelude.{List, ◌≡◌, ◌<◌, ◌≤◌, ◌+◌, ◌++◌, ◌↔◌, ◌∷◌, IsTrue, true, [], None, OnOk, OnErr};
 ghost use Rattle.std.specs.Prelude.{MatchOption, slice_get, length, filter, not, max};
-ghost use Rattle.std.specs.Option.{option_map};
+ghost use Rattle.std.specs.Option.{option_copied, option_map};
 ghost use Rattle.kq_model.specs.Close.{is_of_number};
 ghost use Rattle.kq_model.specs.Hearing.{listed};
 ghost use Rattle.kq_model.specs.Knote as model;
@@ -163,6 +163,13 @@ impl Knotes {
             → option_map (λ p. p.row) result ≡ option_map tallied_knote (find_knote key ms) }
     {
         self.rows.locate_at(guess, key)
+    }
+
+    /// The knote of a key, without a copy. Where it stands at the guessed place, that is all that is looked at.
+    pub fn look_at(&self, guess: Place, key: Key) -> Option<&Knote>
+        ensures { option_copied result ≡ find_knote key self.now.knotes }
+    {
+        self.rows.look_at(guess, key)
     }
 
     /// The knote that was registered first.

@@ -1,16 +1,12 @@
-use Rattle.std.proofs.Common.{◌≡◌, ◌&&◌, false, sym, ap, ap₂, ◌∙◌}
+use Rattle.std.proofs.Common.{◌≡◌, ◌&&◌, false, refl, sym, ap, ap₂, ◌∙◌}
+use Rattle.kq_model.specs.ChangedKnote.{activated}
 use Rattle.kq_model.specs.Knote.{has_nothing}
 use Rattle.kq_model.specs.Look.{look}
 use Rattle.kq_model.specs.Registration.{with_removed}
 use Rattle.kq_model.specs.Tallied.{Knote}
-use Rattle.kq_kevent.proofs.TellLaws.{looked-stands, leave-gone, leave-stays}
+use Rattle.kq_kevent.proofs.TellLaws.{leave-gone, leave-stays}
 use Rattle.kq_kevent.proofs.kq.Kq.leave.Goals as goal
 use Rattle.kq_kevent.proofs.kq.Kq.leave.Goals.{else-done-via-then-done+else-has_nothing, else-done-via-else-done}
-
-pub put_back-requires : goal.put_back-requires
-put_back-requires g c =
-    looked-stands (look (g.V.Views.sees c.args.views.now) c.args.told) c.args.found.now.row c.args.told c.looked_at.result c.args.self.now.kq.knotes
-    c.looked_at.ensures c.requires
 
 pub returns-then-has_nothing-clause-kq : goal.returns-then-has_nothing-clause-kq
 returns-then-has_nothing-clause-kq g c =
@@ -28,5 +24,6 @@ returns-else-done-clause-kq g c =
           (sym w.has_nothing.ensures ∙ w.if-has_nothing.false)
       | else-done-via-else-done w ↦ ap (λ a. a && empty) w.if-done.false
     ] in
-    c.put_back.ensures.kq
-    ∙ leave-stays (g.V.Views.sees c.args.views.now) c.args.done c.args.told c.looked_at.result c.args.self.now.kq stays c.looked_at.ensures
+    let views = g.V.Views.sees c.args.views.now in
+    c.stay.ensures.kq
+    ∙ leave-stays views c.args.done c.args.told (activated (look views c.args.told) c.args.told) c.args.self.now.kq stays refl

@@ -1,0 +1,109 @@
+-- An active knote that plain hints tell nothing new stays as it is, and the kqueue with it.
+use Rattle.std.proofs.Common.{◌≡◌, Bool, true, false, cond, ◌&&◌, ◌||◌, List, [], ◌∷◌, Some, refl, sym, ap, ap₂, ◌∙◌, subst}
+use Rattle.std.proofs.lemmas.Bool.{true≢false}
+use Rattle.std.specs.Int.Bits.{or_zero_r}
+use Rattle.kq_model.specs.declared.filter.Filter.{Filter}
+use Rattle.kq_model.specs.declared.filter.Filter.TheVariants.{Read, Write, Vnode, Proc, Signal, Timer, User, Aio, Lio, Fs, Procdesc, Sendfile, Empty}
+use Rattle.kq_model.specs.declared.object.Hint.{Hint}
+use Rattle.kq_model.specs.declared.object.Hint.TheVariants.{Readable, Writable, Note, Delivered, Child}
+use Rattle.kq_model.specs.Hearing.{Told, Tally, tallying, notes_of}
+use Rattle.kq_model.specs.Hints.{takes, kept, is_exit, added, after_hint, is_done, hints_for}
+use Rattle.kq_model.specs.Knote.{has_nothing, find_knote}
+use Rattle.kq_model.specs.Kqueue.{IsSound}
+use Rattle.kq_model.specs.Look.{look}
+use Rattle.kq_model.specs.Noticing.{is_for, left_by, with_noticed, noticed_in}
+use Rattle.kq_model.specs.Tallied.{Knote, Kqueue}
+use Rattle.kq_model.specs.Targets.{Posted}
+use Rattle.kq_model.specs.Views.{Views}
+use Rattle.kq_model.proofs.KnoteLaws.{by_test, with_knote-own}
+use Rattle.kq_kevent.specs.declared.notify.Telling.{Telling}
+use Rattle.kq_kevent.specs.Telling.{is_plain, told_one, told_all, AreLeft}
+use Rattle.kq_kevent.proofs.SoundLaws.{kept-queue}
+use Rattle.kq_kevent.proofs.TellLaws.{activated-already, telling, told-noticed, untold-noticed}
+use Rattle.kq_kevent.proofs.TurnLaws.{kqueue_of}
+
+or_false : (b : Bool) → b || false ≡ b
+or_false true = refl
+or_false false = refl
+
+-- ---- a plain hint
+
+exit-plain : (f : Filter) (hint : Hint) → is_plain hint ≡ true → is_exit f hint ≡ false
+unfolding is_plain is_exit
+exit-plain Proc Readable plain = refl
+exit-plain Proc Writable plain = refl
+exit-plain Proc (Note bits) plain = absurd (true≢false (sym plain))
+exit-plain Proc Delivered plain = refl
+exit-plain Proc (Child pid) plain = refl
+exit-plain Read hint plain = refl
+exit-plain Write hint plain = refl
+exit-plain Vnode hint plain = refl
+exit-plain Signal hint plain = refl
+exit-plain Timer hint plain = refl
+exit-plain User hint plain = refl
+exit-plain Aio hint plain = refl
+exit-plain Lio hint plain = refl
+exit-plain Fs hint plain = refl
+exit-plain Procdesc hint plain = refl
+exit-plain Sendfile hint plain = refl
+exit-plain Empty hint plain = refl
+
+abbrev others_again : Tally → Bool → Tally
+others_again t b = record t { others = b }
+
+heard-plain : (hint : Hint) (t : Tally) → is_plain hint ≡ true → t.others ≡ true → tallying.heard (Told hint) t ≡ t
+unfolding is_plain notes_of
+heard-plain Readable t plain is = ap (λ n. record { count = t.count; notes = n; others = true }) (or_zero_r t.notes) ∙ ap (others_again t) (sym is)
+heard-plain Writable t plain is = ap (λ n. record { count = t.count; notes = n; others = true }) (or_zero_r t.notes) ∙ ap (others_again t) (sym is)
+heard-plain (Note bits) t plain is = absurd (true≢false (sym plain))
+heard-plain Delivered t plain is = absurd (true≢false (sym plain))
+heard-plain (Child pid) t plain is = absurd (true≢false (sym plain))
+
+added-plain : (hint : Hint) (k : Knote) → is_plain hint ≡ true → k.seen.others ≡ true → added (kept k.fflags hint) k ≡ k
+unfolding is_plain added kept
+added-plain Readable k plain is = ap (λ (t : Tally). record k { seen = t }) (heard-plain Readable k.seen plain is)
+added-plain Writable k plain is = ap (λ (t : Tally). record k { seen = t }) (heard-plain Writable k.seen plain is)
+added-plain (Note bits) k plain is = absurd (true≢false (sym plain))
+added-plain Delivered k plain is = absurd (true≢false (sym plain))
+added-plain (Child pid) k plain is = absurd (true≢false (sym plain))
+
+-- one that the knote heard before leaves it as it is
+pub after-plain : (hint : Hint) (k : Knote) → is_plain hint ≡ true → k.seen.others ≡ true → (after_hint hint k ≡ k) × (is_done hint k ≡ false)
+unfolding after_hint is_done
+after-plain hint k plain is =
+    let exits = exit-plain k.key.filter hint plain in
+    let heard : cond (takes k.key.filter hint) (added (kept k.fflags hint) k) k ≡ k =
+    by_test (λ b. cond b (added (kept k.fflags hint) k) k ≡ k) (takes k.key.filter hint) (λ _. added-plain hint k plain is) (λ _. refl) in (
+      ap₂ (λ (n : Knote) b. record n { oneshot = k.oneshot || b }) heard exits ∙ ap (λ b. record k { oneshot = b }) (or_false k.oneshot),
+      ap (λ b. b && has_nothing (after_hint hint k)) exits,
+    )
+
+-- ---- all hints of a record
+
+abbrev IsLeft : Knote → Bool → Telling → Type 0
+IsLeft k d t = (t.knote ≡ k) × (t.done ≡ d)
+
+told-left : (posted : List Posted) (k : Knote) (a d : Bool) → AreLeft k posted → IsLeft k d (told_all posted (telling k a d))
+unfolding told_all told_one
+told-left [] k a d left = (refl, refl)
+told-left (p ∷ posted) k a d left =
+    by_test (λ b. is_for k p ≡ b → IsLeft k d (told_all posted (cond b (telling (after_hint p.1 k) true (d || is_done p.1 k)) (telling k a d)))) (is_for k p)
+    (λ _ on. let same = left.0 on in
+    subst (λ (t : Telling). IsLeft k d (told_all posted t))
+    (sym (ap₂ (λ (n : Knote) b. telling n true (d || b)) same.0 same.1 ∙ ap (telling k true) (or_false d)))
+    (told-left posted k true d left.1))
+    (λ _ _. told-left posted k a d left.1) refl
+
+pub settled : (views : Views) (posted : List Posted) (kq : Kqueue) (k : Knote) → IsSound kq → find_knote k.key kq.knotes ≡ Some k
+    → k.active ≡ true → AreLeft k posted → noticed_in views (hints_for k posted) k kq ≡ kq
+unfolding with_noticed
+settled views posted kq k sound there active left =
+    let t = told_all posted (telling k false false) in
+    let parts = told-left posted k false false left in
+    let stays : with_noticed t.knote (left_by views t.done t.knote) kq ≡ kq =
+    ap₂ (λ (n : Knote) b. with_noticed n (left_by views b n) kq) parts.0 parts.1
+    ∙ ap (λ (n : Knote). with_noticed k (Some n) kq) (activated-already (look views k) k active)
+    ∙ ap₂ kqueue_of (with_knote-own k kq.knotes sound.own_keys there) (kept-queue kq k k sound there active refl) in
+    by_test (λ b. t.any ≡ b → noticed_in views (hints_for k posted) k kq ≡ kq) t.any
+    (λ _ any. sym (told-noticed views posted kq k t refl any) ∙ stays)
+    (λ _ none. sym (untold-noticed views posted kq k t refl none)) refl
