@@ -24,7 +24,8 @@ fn stands_at<T: Keyed>(nodes: &Slab<Node<T>>, slot: usize, key: T::Key) -> bool
 }
 
 /// The slot where the row of a key stands, by the index.
-pub(crate) fn indexed<T: Keyed>(
+#[inline(never)]
+fn indexed<T: Keyed>(
     nodes: &Slab<Node<T>>,
     index: &HashMap<T::Key, usize>,
     key: T::Key,
