@@ -41,8 +41,9 @@ const SPREAD: u64 = 0x9E37_79B9_7F4A_7C15;
 #[inline(always)]
 pub fn number_of(key: Key) -> usize {
     let high = (key.ident >> 32).wrapping_mul(SPREAD) >> 32;
-    (key.ident.wrapping_add(high) as usize)
-        .wrapping_add((key.filter as usize).wrapping_mul(FILTERS_APART))
+    (key.ident.wrapping_add(high) as usize).wrapping_add(
+        (key.filter as usize).wrapping_mul(FILTERS_APART),
+    )
 }
 
 /// A key is a row of itself alone, and watches nothing.
