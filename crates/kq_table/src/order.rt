@@ -6,7 +6,7 @@ ghost use Rattle.kq_table.specs.Rows.{is_among};
 ghost use Rattle.kq_table.specs.Threads.{births_in, rows_in};
 
 use crate::Keyed;
-use crate::find::{key_at, near};
+use crate::find::{key_at, sought};
 use crate::guesses::Guesses;
 use crate::node::Node;
 use crate::numbered::Birth;
@@ -32,7 +32,7 @@ fn births_of<T: Keyed>(
     places.clear();
     for key in keys {
         let guess = guesses.of_key(T::number_of_key(*key));
-        if let Some(slot) = near(nodes, index, guess, *key) {
+        if let Some(slot) = sought(nodes, index, guess, *key) {
             places.push_reserved(Birth {
                 born: nodes[slot].born,
                 slot,
