@@ -42,11 +42,10 @@ module _ (since : ℕ) where
       subst (AreQuiet since least) (sym became)
       (quiet-push least ks k (quiet-less least soonest ks (omega (arith, lesser)) all) (omega (arith, lesser, is)))
 
-  pub quiet-modified : (soonest first least : ℕ) (ks after : List Knote) (k : Knote) → AreQuiet since soonest ks → first ≡ next k → least ≡ min soonest first
+  pub quiet-modified : (soonest least : ℕ) (ks after : List Knote) (k : Knote) → AreQuiet since soonest ks → least ≤ soonest → least ≤ next k
       → after ≡ with_knote k ks → AreQuiet since least after
-  quiet-modified soonest first least ks after k all is lesser became =
-      subst (AreQuiet since least) (sym became)
-      (quiet-with least k ks (quiet-less least soonest ks (omega (arith, lesser)) all) (omega (arith, lesser, is)))
+  quiet-modified soonest least ks after k all less here became =
+      subst (AreQuiet since least) (sym became) (quiet-with least k ks (quiet-less least soonest ks less all) here)
 
 -- ---- a span within it
 

@@ -1,6 +1,7 @@
 -- A knote as a timer: knotes of other filters never expire, and some expirations at once are as many one by one.
 use Rattle.std.proofs.Common.{◌≡◌, ℕ, zero, suc, ◌+◌, ◌-◌, ◌<◌, ◌≤◌, min, Bool, true, false, cond, ◌&&◌, refl, sym, ap, ap₂, ◌∙◌, arith}
 use Rattle.std.specs.Int.Bits.{or_zero_r}
+use Rattle.kq_model.specs.declared.key.Key.{Key}
 use Rattle.kq_model.specs.Clock.{expires_at, timers, expired, ticking}
 use Rattle.kq_model.specs.Hearing.{Expired, Tally, tallying, most_counted, notes_of}
 use Rattle.kq_model.specs.Knote.{is_timer}
@@ -30,6 +31,15 @@ counted-none test none from (suc n) = ap₂ (λ a b. a + cond {A = ℕ} b 1 0) (
 
 pub other-ticks : (k : Knote) (from to : ℕ) → is_timer k.key.filter ≡ false → 0 ≡ ticks_between (expires_at k) from to
 other-ticks k from to is = sym (counted-none (expires_at k) (never k is) from (to - from))
+
+-- those of one key, start, period and kind expire at the same moments
+pub same_expirations : (a b : Knote) → a.start ≡ b.start → a.period ≡ b.period → a.oneshot ≡ b.oneshot → a.key ≡ b.key → expires_at a ≡ expires_at b
+same_expirations a b start period once key =
+    ap (λ n. at a.key n a.period a.oneshot) start ∙ ap (λ n. at a.key b.start n a.oneshot) period
+    ∙ ap (λ o. at a.key b.start b.period o) once ∙ ap (λ (k : Key). at k b.start b.period b.oneshot) key
+  where
+    at : Key → ℕ → ℕ → Bool → ℕ → Bool
+    at key start period once moment = is_timer key.filter && expires once (record { start = start; period = period }) moment
 
 -- ---- expirations
 

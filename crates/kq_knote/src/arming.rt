@@ -38,28 +38,31 @@ pub(crate) fn put_new(alarms: &mut Alarms, whole: bool, ident: u64, moment: u64)
     put_alarm(alarms, ident, moment)
 }
 
-/// Adds the alarm of a knote that comes in the place of another, unless that has it, and says whether
-/// the alarms are whole after it.
+/// Adds the alarm of a knote that comes in the place of another of its key, and notes that it may be the soonest to
+/// expire after `since`; nothing, where it expires when the other does. It says whether the alarms are whole after it.
 pub(crate) fn put_changed(
     before: &Knote,
+    knote: &Knote,
     since: u64,
+    soonest: &mut u64,
     alarms: &mut Alarms,
     whole: bool,
-    moment: u64,
 ) -> bool
-    requires { since ≤ last_moment }
+    requires begun { since ≤ last_moment }
+    requires one_key { before.now.key ≡ knote.now.key }
     ensures kept { AreKept alarms.old.entries alarms.new.entries }
     ensures whole { result ≡ true → whole ≡ true }
     ensures here { result ≡ true → IsAlarmed alarms.old.entries (next_of since before.now) before.now
-        → moment ≤ last_moment → HasAlarm alarms.new.entries moment before.now.key.ident }
+        → IsAlarmed alarms.new.entries (next_of since knote.now) knote.now }
+    ensures sooner { soonest.new ≤ soonest.old }
+    ensures quiet { soonest.old ≤ next_of since before.now → soonest.new ≤ next_of since knote.now }
 {
-    if !whole {
-        return false;
+    if knote.rings_with(before) {
+        return whole;
     }
-    if before.first_after(since) == moment {
-        return true;
-    }
-    put_alarm(alarms, before.key.ident, moment)
+    let first = knote.first_after(since);
+    *soonest = (*soonest).min(first);
+    put_new(alarms, whole, knote.key.ident, first)
 }
 
 /// Adds the alarms of all knotes at their first expirations after `since`. False where there is no
@@ -92,7 +95,7 @@ pub(crate) fn arm_due(rows: &Table<Knote>, due: &[Key], to: u64, alarms: &mut Al
     ensures armed { result ≡ true → AreArmed to due.now alarms.new.entries rows.now.rows }
 {
     for key in due {
-        let Some(knote) = rows.find(*key) else {
+        let Some(knote) = rows.look_at(rows.guess(*key), *key) else {
             return false;
         };
         let first = knote.first_after(to);

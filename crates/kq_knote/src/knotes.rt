@@ -235,9 +235,14 @@ impl Knotes {
         let Some(before) = self.rows.look_at(guess, knote.key) else {
             return;
         };
-        let first = knote.first_after(self.since);
-        self.soonest = self.soonest.min(first);
-        self.alarmed = put_changed(before, self.since, &mut self.alarms, self.alarmed, first);
+        self.alarmed = put_changed(
+            before,
+            &knote,
+            self.since,
+            &mut self.soonest,
+            &mut self.alarms,
+            self.alarmed,
+        );
         self.rows.modify_at(guess, knote);
     }
 

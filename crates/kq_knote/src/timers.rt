@@ -1,5 +1,5 @@
 // A knote as a timer: when it expires, and what its expirations do to it.
-ghost use Rattle.std.specs.Prelude.{◌≡◌, ◌≤◌};
+ghost use Rattle.std.specs.Prelude.{◌≡◌, ◌≤◌, true};
 ghost use Rattle.kq_model.specs.Clock.{expires_at, timers};
 ghost use Rattle.kq_model.specs.Knote.{is_timer};
 ghost use Rattle.kq_model.specs.Ticks.{last_moment, next_tick, ticks_between};
@@ -39,6 +39,15 @@ impl Knote {
         } else {
             Timer::NEVER
         }
+    }
+
+    /// Whether it has the start, the period and the kind of another knote. If both are of one key, they expire at the same
+    /// moments then.
+    #[tactic(auto, using(crate::proofs::TimerLaws::same_expirations))]
+    pub(crate) fn rings_with(&self, other: &Knote) -> bool
+        ensures { result ≡ true → self.now.key ≡ other.now.key → expires_at self.now ≡ expires_at other.now }
+    {
+        self.start == other.start && self.period == other.period && self.oneshot == other.oneshot
     }
 
     /// How often it expires after `from` and not after `to`.

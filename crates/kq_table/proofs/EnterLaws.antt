@@ -126,7 +126,7 @@ module _ {T G : Type 0} (alike : G → G → Bool) (target_of : T → Option G) 
               (λ s there. put_last-away links e (watching alike target_of t rows slots) slot thread s (elsewhere target other s there)
               (apart-in slot s slots out (in_watching target rows slots s there).0)) (are target)))) refl
 
-          pub withdraw-linked : is_in slot slots ≡ true → ((g : G) → found alike noted g ≡ cond (alike t g) (option_map (λ (_ : Ends). ends_past (links slot) e) (found alike targets g)) (found alike targets g))
+          pub withdraw-linked : is_in slot slots ≡ true → ((g : G) → found alike noted g ≡ cond (alike t g) (option_map (ends_past (links slot)) (found alike targets g)) (found alike targets g))
               → AreWatched alike target_of rows (passed_over (links slot) links) noted (without_slot slot slots)
           withdraw-linked there noted_is target =
               by_test (λ b. alike t target ≡ b → IsThread (passed_over (links slot) links) (ends_of (found alike noted target)) (watching alike target_of target rows (without_slot slot slots))) (alike t target)
@@ -135,16 +135,17 @@ module _ {T G : Type 0} (alike : G → G → Bool) (target_of : T → Option G) 
               let had = entry links (found alike targets target) (watching alike target_of target rows slots) slot (are target) in_list in
               subst (λ l. IsThread (passed_over (links slot) links) (ends_of (found alike noted target)) l) (sym (watching-without target rows slots slot))
               (subst (λ o. IsThread (passed_over (links slot) links) (ends_of o) (without_slot slot (watching alike target_of target rows slots)))
-              (sym (noted_is target ∙ ap (λ b. cond b (option_map (λ (_ : Ends). ends_past (links slot) e) (found alike targets target)) (found alike targets target)) alike_t
-              ∙ ap (option_map (λ (_ : Ends). ends_past (links slot) e)) had.1))
-              (IsThread-without links e (watching alike target_of target rows slots) slot (thread-alike target alike_t) in_list)))
+              (sym (noted_is target ∙ ap (λ b. cond b (option_map (ends_past (links slot)) (found alike targets target)) (found alike targets target)) alike_t
+              ∙ ap (option_map (ends_past (links slot))) had.1))
+              (IsThread-without links had.0 (watching alike target_of target rows slots) slot
+              (subst (λ o. IsThread links (ends_of o) (watching alike target_of target rows slots)) had.1 (are target)) in_list)))
               (λ _ other.
               let mine : is_in slot (watching alike target_of t rows slots) ≡ true = in_filter-from (λ s. watches alike target_of t (rows s)) slots slot there (at-slot t ∙ matches.refl t) in
               subst (λ l. IsThread (passed_over (links slot) links) (ends_of (found alike noted target)) l)
               (sym (watching-without target rows slots slot
               ∙ without-absent slot (watching alike target_of target rows slots) (not-watching target rows slots slot (at-slot target ∙ matches.symm target t ∙ other))))
               (subst (λ o. IsThread (passed_over (links slot) links) (ends_of o) (watching alike target_of target rows slots))
-              (sym (noted_is target ∙ ap (λ b. cond b (option_map (λ (_ : Ends). ends_past (links slot) e) (found alike targets target)) (found alike targets target)) other))
+              (sym (noted_is target ∙ ap (λ b. cond b (option_map (ends_past (links slot)) (found alike targets target)) (found alike targets target)) other))
               (IsThread-same links (passed_over (links slot) links) (ends_of (found alike targets target)) (watching alike target_of target rows slots)
               (λ s in_list. passed_over-others links e (watching alike target_of t rows slots) slot s thread mine (elsewhere target other s in_list)) (are target)))) refl
 

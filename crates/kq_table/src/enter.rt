@@ -1,11 +1,11 @@
-ghost use Rattle.std.specs.Prelude.{◌≡◌, ◌<◌, ◌≤◌, ◌+◌, ◌++◌, ◌∷◌, [], ℕ, List, Some, true, false};
+ghost use Rattle.std.specs.Prelude.{◌≡◌, ◌<◌, ◌≤◌, ◌+◌, ◌++◌, ◌∷◌, [], ℕ, List, IsSome, Some, true, false};
 ghost use Rattle.std.specs.Prelude.{if◌then◌else◌, option_map};
 ghost use Rattle.std.specs.Prelude.{length};
 ghost use Rattle.std.specs.HashMap.{get as found, spare};
-ghost use Rattle.slab.specs.Slab.{slab_len};
+ghost use Rattle.slab.specs.Slab.{get, slab_len};
 ghost use Rattle.kq_table.specs.Kept.{ends_of, names_room, AreApart, AreWatched, IsEntered};
-ghost use Rattle.kq_table.specs.Threads.{head_or, is_in, links_in, rows_in, without_slot, AreDistinct};
-ghost use Rattle.kq_table.specs.Threads.{AreLinked, SameBut};
+ghost use Rattle.kq_table.specs.Threads.{ends_past, ends_with, head_or, is_in, links_in, passed_over};
+ghost use Rattle.kq_table.specs.Threads.{put_last, rows_in, without_slot, AreDistinct, AreLinked, SameBut};
 ghost use Rattle.kq_table.specs.declared.node.Thread.TheVariants.{Order, Watch};
 
 use crate::Keyed;
@@ -34,18 +34,6 @@ fn note<K: Copy + Eq + Hash, V: Copy>(names: &mut HashMap<K, V>, name: K, value:
     }
 }
 
-/// Notes what is of a name of which something is noted.
-fn change<K: Copy + Eq + Hash, V: Copy>(names: &mut HashMap<K, V>, name: K, value: V)
-    ensures noted { (other : K) → found K.eq names.new other
-        ≡ (if K.eq name other then option_map (λ _. value) (found K.eq names.old other)
-        else found K.eq names.old other) }
-    ensures room { names_room names.old ≤ names_room names.new }
-{
-    if let Some(at) = names.get_mut(&name) {
-        *at = value;
-    }
-}
-
 /// The first and the last slot whose row watches a target.
 pub(crate) fn ends_at<G: Copy + Eq + Hash>(targets: &HashMap<G, Ends>, target: G) -> Ends
     ensures { result ≡ ends_of (found G.eq targets.now target) }
@@ -53,6 +41,34 @@ pub(crate) fn ends_at<G: Copy + Eq + Hash>(targets: &HashMap<G, Ends>, target: G
     match targets.get(&target) {
         None => Ends::none(),
         Some(ends) => *ends,
+    }
+}
+
+/// Links a slot behind those whose rows watch a target.
+fn link_to<T: Copy, G: Copy + Eq + Hash>(
+    nodes: &mut Slab<Node<T>>,
+    targets: &mut HashMap<G, Ends>,
+    target: G,
+    slot: usize,
+)
+    requires here { IsSome (get nodes.old slot) }
+    requires fits { 0 < spare targets.old }
+    ensures noted { (other : G) → found G.eq targets.new other ≡ (if G.eq target other
+        then Some (ends_with slot (ends_of (found G.eq targets.old target)))
+        else found G.eq targets.old other) }
+    ensures links { links_in Watch nodes.new
+        ≡ put_last (ends_of (found G.eq targets.old target)).last slot (links_in Watch nodes.old) }
+    ensures same { SameBut Watch nodes.old nodes.new }
+    ensures room { names_room targets.old ≤ names_room targets.new }
+    ensures spare { spare targets.old ≤ spare targets.new + 1 }
+{
+    match targets.get_mut(&target) {
+        Some(ends) => link_last(nodes, Thread::Watch, ends, slot),
+        None => {
+            let mut ends = Ends::none();
+            link_last(nodes, Thread::Watch, &mut ends, slot);
+            note(targets, target, ends);
+        }
     }
 }
 
@@ -70,9 +86,7 @@ fn watch<T: Keyed>(nodes: &mut Slab<Node<T>>, targets: &mut HashMap<T::Target, E
     let Some(target) = target_at(nodes, slot) else {
         return;
     };
-    let mut ends = ends_at(targets, target);
-    link_last(nodes, Thread::Watch, &mut ends, slot);
-    note(targets, target, ends);
+    link_to(nodes, targets, target, slot);
 }
 
 /// Notes where the row at a slot stands, and links it behind the others that watch what it watches.
@@ -163,6 +177,27 @@ pub(crate) fn make_room<T: Keyed>(
     enter_all(nodes, index, targets, first);
 }
 
+/// Makes the neighbours of a slot, among those whose rows watch a target, neighbours of each other.
+fn unlink_from<T: Copy, G: Copy + Eq + Hash>(
+    nodes: &mut Slab<Node<T>>,
+    targets: &mut HashMap<G, Ends>,
+    target: G,
+    slot: usize,
+)
+    ensures noted { (other : G) → found G.eq targets.new other ≡ (if G.eq target other
+        then option_map (ends_past (links_in Watch nodes.old slot)) (found G.eq targets.old other)
+        else found G.eq targets.old other) }
+    ensures links { links_in Watch nodes.new
+        ≡ passed_over (links_in Watch nodes.old slot) (links_in Watch nodes.old) }
+    ensures same { SameBut Watch nodes.old nodes.new }
+    ensures room { names_room targets.old ≤ names_room targets.new }
+{
+    match targets.get_mut(&target) {
+        Some(ends) => unlink(nodes, Thread::Watch, ends, slot),
+        None => unlink(nodes, Thread::Watch, &mut Ends::none(), slot),
+    }
+}
+
 /// Takes the row at a slot from among those that watch what it watches.
 pub(crate) fn withdraw<T: Keyed>(
     nodes: &mut Slab<Node<T>>,
@@ -180,7 +215,5 @@ pub(crate) fn withdraw<T: Keyed>(
     let Some(target) = target_at(nodes, slot) else {
         return;
     };
-    let mut ends = ends_at(targets, target);
-    unlink(nodes, Thread::Watch, &mut ends, slot);
-    change(targets, target, ends);
+    unlink_from(nodes, targets, target, slot);
 }

@@ -24,7 +24,7 @@ fn stands_at<T: Keyed>(nodes: &Slab<Node<T>>, slot: usize, key: T::Key) -> bool
 }
 
 /// The slot where the row of a key stands, by the index.
-pub(crate) fn indexed<T: Keyed>(
+fn indexed<T: Keyed>(
     nodes: &Slab<Node<T>>,
     index: &HashMap<T::Key, usize>,
     key: T::Key,
@@ -46,6 +46,23 @@ pub(crate) fn indexed<T: Keyed>(
 /// The slot where the row of a key stands. Where it is the guessed one, the index is not asked.
 #[inline(always)]
 pub(crate) fn near<T: Keyed>(
+    nodes: &Slab<Node<T>>,
+    index: &HashMap<T::Key, usize>,
+    guess: Place,
+    key: T::Key,
+) -> Option<usize>
+    requires { IsIndexed T.Key.eq T.key_of (rows_in nodes.now) index.now }
+    ensures { MatchOption result (HasNoRow T.Key.eq T.key_of (rows_in nodes.now) key)
+        (StandsAt T.Key.eq T.key_of (rows_in nodes.now) key) }
+{
+    if stands_at(nodes, guess.slot, key) {
+        return Some(guess.slot);
+    }
+    indexed(nodes, index, key)
+}
+
+/// The same as `near`, which has as many callers as can take it in.
+pub(crate) fn sought<T: Keyed>(
     nodes: &Slab<Node<T>>,
     index: &HashMap<T::Key, usize>,
     guess: Place,

@@ -33,10 +33,17 @@ pub trait Keyed: Copy {
 /// How far apart the numbers of keys of one ident are.
 const FILTERS_APART: usize = 0x9E37_79B9;
 
-/// A number of a key: small where its ident is.
+/// What spreads the high half of an ident over the low bits of a number.
+const SPREAD: u64 = 0x9E37_79B9_7F4A_7C15;
+
+/// A number of a key: small where its ident is. Idents that follow each other have numbers that do, and those that
+/// differ in their high halves have others.
 #[inline(always)]
 pub fn number_of(key: Key) -> usize {
-    (key.ident as usize).wrapping_add((key.filter as usize).wrapping_mul(FILTERS_APART))
+    let high = (key.ident >> 32).wrapping_mul(SPREAD) >> 32;
+    (key.ident.wrapping_add(high) as usize).wrapping_add(
+        (key.filter as usize).wrapping_mul(FILTERS_APART),
+    )
 }
 
 /// A key is a row of itself alone, and watches nothing.

@@ -6,7 +6,8 @@ ghost use Rattle.kq_table.specs.Rows.{is_among};
 ghost use Rattle.kq_table.specs.Threads.{births_in, rows_in};
 
 use crate::Keyed;
-use crate::find::{indexed, key_at};
+use crate::find::{key_at, sought};
+use crate::guesses::Guesses;
 use crate::node::Node;
 use crate::numbered::Birth;
 use crate::table::Table;
@@ -17,6 +18,7 @@ use std::collections::HashMap;
 fn births_of<T: Keyed>(
     nodes: &Slab<Node<T>>,
     index: &HashMap<T::Key, usize>,
+    guesses: &Guesses,
     keys: &[T::Key],
     places: &mut Vec<Birth>,
 )
@@ -29,7 +31,8 @@ fn births_of<T: Keyed>(
 {
     places.clear();
     for key in keys {
-        if let Some(slot) = indexed(nodes, index, *key) {
+        let guess = guesses.of_key(T::number_of_key(*key));
+        if let Some(slot) = sought(nodes, index, guess, *key) {
             places.push_reserved(Birth {
                 born: nodes[slot].born,
                 slot,
@@ -65,7 +68,7 @@ impl<T: Keyed> Table<T> {
         ensures room { vec_capacity keys.new ≡ vec_capacity keys.old }
         ensures places { vec_capacity places.new ≡ vec_capacity places.old }
     {
-        births_of(&self.nodes, &self.index, keys, places);
+        births_of(&self.nodes, &self.index, &self.guesses, keys, places);
         take_keys(&self.nodes, places, keys);
     }
 }

@@ -257,6 +257,8 @@ impl<T: Keyed> Table<T> {
         };
         let target = target_at(&self.nodes, slot);
         set_row(&mut self.nodes, slot, row);
+        // Another row may have stood there for it.
+        self.guesses.note_key(T::number_of_key(row.key()), slot);
         if target == row.target() {
             return;
         }

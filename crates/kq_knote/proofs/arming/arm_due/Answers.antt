@@ -24,11 +24,11 @@ loop-key-preserved c =
     let i = c.loop-key.key-index in
     let due = c.args.due.now in
     let key : Key = get_or due i no_key in
-    let found : find_knote key ks ≡ Some c.in-Some.knote =
-    sym (find_row-knotes key ks) ∙ sym c.find.ensures ∙ c.in-Some.is in
+    let found : find_knote key ks ≡ Some c.in-Some.knote.now =
+    sym (find_row-knotes key ks) ∙ sym c.in-Some.ensures in
     record {
       kept = λ e here. c.put_alarm.ensures.kept e (c.loop-key.invariant.kept e here);
-      armed = arm-more c.args.to ks (take i due) (take (i + 1) due) key c.in-Some.knote c.first_after-first.result c.loop-key.alarms.entries c.put_alarm.new.alarms.entries
+      armed = arm-more c.args.to ks (take i due) (take (i + 1) due) key c.in-Some.knote.now c.first_after-first.result c.loop-key.alarms.entries c.put_alarm.new.alarms.entries
           c.requires.own_keys c.loop-key.invariant.armed c.put_alarm.ensures.kept found c.first_after-first.ensures
           (c.put_alarm.ensures.here c.if-not-put_alarm.false) (take_more due i no_key (omega arith));
     }

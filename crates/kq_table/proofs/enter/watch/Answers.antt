@@ -1,17 +1,16 @@
-use Rattle.std.proofs.Common.{◌++◌, ◌∷◌, [], ℕ, Option, Some, cond, sym, ap, ◌∙◌, subst}
+use Rattle.std.proofs.Common.{◌++◌, ◌∷◌, [], ℕ, Option, refl, sym, ap, ◌∙◌, subst}
 use Rattle.std.specs.HashMap.{get as found}
 use Rattle.std.specs.Option.{option_and_then}
-use Rattle.kq_table.specs.declared.node.Ends.{Ends}
 use Rattle.kq_table.specs.declared.node.Links.{Links}
 use Rattle.kq_table.specs.declared.node.Thread.TheVariants.{Watch}
-use Rattle.kq_table.specs.Kept.{AreWatched}
+use Rattle.kq_table.specs.Kept.{ends_of, AreWatched}
 use Rattle.kq_table.specs.Threads.{rows_in, links_in}
 use Rattle.kq_table.proofs.EnterLaws.{watch-nothing, watch-linked}
 use Rattle.kq_table.proofs.NodeLaws.{target-some}
 use Rattle.kq_table.proofs.enter.watch.Goals as goal
 
-pub link_last-requires : goal.link_last-requires
-link_last-requires g c = target-some g.T.Keyed.target_of _ c.in-Some.target (sym c.in-Some.ensures)
+pub link_to-requires-clause-here : goal.link_to-requires-clause-here
+link_to-requires-clause-here g c = target-some g.T.Keyed.target_of _ c.in-Some.target (sym c.in-Some.ensures)
 
 pub returns-in_default-clause-watched : goal.returns-in_default-clause-watched
 returns-in_default-clause-watched g c = λ slots row here out are.
@@ -25,7 +24,6 @@ returns-clause-watched g c = λ slots row here out are.
     let target_of = g.T.Keyed.target_of in
     let nodes = c.args.nodes.now in
     let target = c.in-Some.target in
-    subst (λ (f : ℕ → Option Links). AreWatched alike target_of (rows_in nodes) f c.note.new.names (slots ++ c.args.slot ∷ [])) (sym c.link_last.ensures.links)
+    subst (λ (f : ℕ → Option Links). AreWatched alike target_of (rows_in nodes) f c.link_to.new.targets (slots ++ c.args.slot ∷ [])) (sym c.link_to.ensures.links)
     (watch-linked alike target_of g.met.T.Target.Eq.laws (rows_in nodes) (links_in Watch nodes) c.args.targets.now slots c.args.slot row here are target
-    (sym (c.in-Some.ensures ∙ ap (option_and_then target_of) here)) c.ends_at-ends.result c.ends_at-ends.ensures c.note.new.names out
-    (λ t. c.note.ensures.noted t ∙ ap (λ (e : Ends). cond (alike target t) (Some e) (found alike c.args.targets.now t)) c.link_last.ensures.ends))
+    (sym (c.in-Some.ensures ∙ ap (option_and_then target_of) here)) (ends_of (found alike c.args.targets.now target)) refl c.link_to.new.targets out c.link_to.ensures.noted)

@@ -1,10 +1,9 @@
-use Rattle.std.proofs.Common.{ℕ, Option, cond, sym, ap, ◌∙◌, subst}
+use Rattle.std.proofs.Common.{ℕ, Option, refl, sym, ap, ◌∙◌, subst}
 use Rattle.std.specs.HashMap.{get as found}
-use Rattle.std.specs.Option.{option_map, option_and_then}
-use Rattle.kq_table.specs.declared.node.Ends.{Ends}
+use Rattle.std.specs.Option.{option_and_then}
 use Rattle.kq_table.specs.declared.node.Links.{Links}
 use Rattle.kq_table.specs.declared.node.Thread.TheVariants.{Watch}
-use Rattle.kq_table.specs.Kept.{AreWatched}
+use Rattle.kq_table.specs.Kept.{ends_of, AreWatched}
 use Rattle.kq_table.specs.Threads.{rows_in, links_in, without_slot}
 use Rattle.kq_table.proofs.EnterLaws.{withdraw-nothing, withdraw-linked}
 use Rattle.kq_table.proofs.enter.withdraw.Goals as goal
@@ -21,7 +20,6 @@ returns-clause-watched g c = λ slots row here there distinct are.
     let target_of = g.T.Keyed.target_of in
     let nodes = c.args.nodes.now in
     let target = c.in-Some.target in
-    subst (λ (f : ℕ → Option Links). AreWatched alike target_of (rows_in nodes) f c.change.new.names (without_slot c.args.slot slots)) (sym c.unlink.ensures.links)
+    subst (λ (f : ℕ → Option Links). AreWatched alike target_of (rows_in nodes) f c.unlink_from.new.targets (without_slot c.args.slot slots)) (sym c.unlink_from.ensures.links)
     (withdraw-linked alike target_of g.met.T.Target.Eq.laws (rows_in nodes) (links_in Watch nodes) c.args.targets.now slots c.args.slot row here are target
-    (sym (c.in-Some.ensures ∙ ap (option_and_then target_of) here)) c.ends_at-ends.result c.ends_at-ends.ensures c.change.new.names there
-    (λ t. c.change.ensures.noted t ∙ ap (λ (e : Ends). cond (alike target t) (option_map (λ (_ : Ends). e) (found alike c.args.targets.now t)) (found alike c.args.targets.now t)) c.unlink.ensures.ends))
+    (sym (c.in-Some.ensures ∙ ap (option_and_then target_of) here)) (ends_of (found alike c.args.targets.now target)) refl c.unlink_from.new.targets there c.unlink_from.ensures.noted)

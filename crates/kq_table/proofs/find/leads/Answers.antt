@@ -1,4 +1,4 @@
-use Rattle.std.proofs.Common.{◌≡◌, ℕ, Option, Some, sym, ap, ◌∙◌}
+use Rattle.std.proofs.Common.{ℕ, Option, Some, sym, ap, ◌∙◌}
 use Rattle.kq_table.specs.declared.node.Links.{Links}
 use Rattle.kq_table.specs.declared.node.Thread.TheVariants.{Watch}
 use Rattle.kq_table.specs.Links.{is_target}

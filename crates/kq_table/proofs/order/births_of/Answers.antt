@@ -36,7 +36,7 @@ loop-key-preserved g c =
     let more_is : (row : g.row.T.Denot) → is_among same key_of (take (i + 1) keys) row ≡ (is_among same key_of (take i keys) row || same (key_of row) key) =
     λ row. list_any_more (same (key_of row)) keys i key (omega arith)
     ∙ ap (λ (k : g.row.T-Key.Denot). is_among same key_of (take i keys) row || same (key_of row) k) (sym c.key-item.is) in
-    elim c.match-indexed.branch [
+    elim c.match-sought.branch [
       | in_default w ↦ rw w.places-is (record {
         births = AreBirthsOf-missed same key_of (rows_in nodes) (births_in nodes) laws one c.args.index.now c.requires.indexed (take i keys) (take (i + 1) keys) key more_is list c.loop-key.invariant.births w.in_default.ensures;
         len = omega arith;

@@ -1,10 +1,7 @@
-use Rattle.std.proofs.Common.{◌≡◌, ◌≤◌, true, None, Some, sym, ap, ◌∙◌, subst}
-use Rattle.kq_alarm.specs.Armed.{HasAlarm}
-use Rattle.kq_model.specs.declared.key.Key.{Key}
+use Rattle.std.proofs.Common.{◌≡◌, ◌≤◌, true, None, Some, refl, sym, ap, ◌∙◌, subst}
 use Rattle.kq_model.specs.Knote.{find_knote, with_knote}
 use Rattle.kq_model.specs.Kqueue.{HaveOwnKeys}
 use Rattle.kq_model.specs.Tallied.{Knote}
-use Rattle.kq_model.specs.Ticks.{last_moment}
 use Rattle.kq_model.proofs.KnoteLaws.{HaveOwnKeys-with, find_knote-key, with_knote-absent}
 use Rattle.kq_model.proofs.Tallied.{put-tallied}
 use Rattle.kq_knote.specs.Reserved.{Reserved}
@@ -17,6 +14,7 @@ use Rattle.kq_knote.proofs.knotes.Knotes.modify_at.Goals as goal
 pub invariant_of-self : goal.invariant_of-self
 invariant_of-self c =
     let ks = c.self.inside.rows.rows in
+    let since = c.self.inside.since in
     let knote = c.args.knote in
     let before = c.in-Some.before.now in
     let put = c.put_changed-self-inside in
@@ -24,25 +22,30 @@ invariant_of-self c =
     ap (λ (k : Knote). find_knote k.key ks) (sym c.knote.view_is)
     ∙ sym (find_row-knotes c.knote.inside.key ks) ∙ sym c.in-Some.ensures in
     let rows : c.modify_at.new.self.rows ≡ with_knote knote ks = c.modify_at.ensures.rows ∙ with_row-knotes knote ks in
-    let held : put.result ≡ true → IsAlarmed c.self.inside.alarms.entries (next_of c.self.inside.since before) before =
-    λ whole. all-found (λ k. IsAlarmed c.self.inside.alarms.entries (next_of c.self.inside.since k) k) knote.key before ks
+    let held : put.result ≡ true → IsAlarmed c.self.inside.alarms.entries (next_of since before) before =
+    λ whole. all-found (λ k. IsAlarmed c.self.inside.alarms.entries (next_of since k) k) knote.key before ks
     (c.self.invariant.armed (put.ensures.whole whole)) found in
-    let armed_modified : put.result ≡ true → AreAlarmed c.self.inside.since put.new.alarms.entries c.modify_at.new.self.rows =
-    λ whole. alarmed-modified c.self.inside.since put.new.alarms.entries c.self.inside.alarms.entries ks c.modify_at.new.self.rows knote c.first_after-first.result
-    (c.self.invariant.armed (put.ensures.whole whole)) put.ensures.kept c.first_after-first.ensures
-    (subst (λ (key : Key). c.first_after-first.result ≤ last_moment → HasAlarm put.new.alarms.entries c.first_after-first.result key.ident)
-    (sym (find_knote-key knote.key ks before found)) (put.ensures.here whole (held whole)))
-    rows in
+    let armed_modified : put.result ≡ true → AreAlarmed since put.new.alarms.entries c.modify_at.new.self.rows =
+    λ whole. alarmed-modified since put.new.alarms.entries c.self.inside.alarms.entries ks c.modify_at.new.self.rows knote (next_of since knote)
+    (c.self.invariant.armed (put.ensures.whole whole)) put.ensures.kept refl (put.ensures.here whole (held whole)) rows in
+    let quiet : c.self.inside.soonest ≤ next_of since before =
+    all-found (λ k. c.self.inside.soonest ≤ next_of since k) knote.key before ks c.self.invariant.quiet found in
     record {
       own_keys = subst HaveOwnKeys (sym rows) (HaveOwnKeys-with knote ks c.self.invariant.own_keys);
       begun = c.self.invariant.begun;
-      quiet = quiet-modified c.self.inside.since c.self.inside.soonest c.first_after-first.result c.min-self-inside.result ks c.modify_at.new.self.rows knote
-          c.self.invariant.quiet c.first_after-first.ensures c.min-self-inside.ensures rows;
+      quiet = quiet-modified since c.self.inside.soonest put.new.soonest ks c.modify_at.new.self.rows knote
+          c.self.invariant.quiet put.ensures.sooner (put.ensures.quiet quiet) rows;
       armed = armed_modified;
     }
 
-pub first_after-first-requires : goal.first_after-first-requires
-first_after-first-requires c = c.self.invariant.begun
+pub put_changed-self-inside-requires-clause-begun : goal.put_changed-self-inside-requires-clause-begun
+put_changed-self-inside-requires-clause-begun c = c.self.invariant.begun
+
+pub put_changed-self-inside-requires-clause-one_key : goal.put_changed-self-inside-requires-clause-one_key
+put_changed-self-inside-requires-clause-one_key c =
+    let ks = c.self.inside.rows.rows in
+    sym (find_knote-key c.args.knote.key ks c.in-Some.before.now
+    (ap (λ (k : Knote). find_knote k.key ks) (sym c.knote.view_is) ∙ sym (find_row-knotes c.knote.inside.key ks) ∙ sym c.in-Some.ensures))
 
 pub returns-clause-knotes : goal.returns-clause-knotes
 returns-clause-knotes c =
