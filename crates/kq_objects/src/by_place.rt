@@ -45,6 +45,7 @@ impl<T: Drop> ByPlace<T> {
     }
 
     /// The key of the object of a place.
+    #[inline(always)]
     pub fn key_of(&self, place: u64) -> Option<usize>
         ensures { MatchOption result (object_at self.now place ≡ None) (IsKeyOf place self.now) }
     {
@@ -55,6 +56,7 @@ impl<T: Drop> ByPlace<T> {
         }
     }
 
+    #[inline(always)]
     pub fn get(&self, place: u64) -> Option<&T>
         ensures { option_copied result ≡ object_at self.now place }
     {
@@ -75,6 +77,7 @@ impl<T: Drop> ByPlace<T> {
     }
 
     /// Takes out the object of a place, which stands under this key.
+    #[inline(never)]
     fn remove(&mut self, place: u64, key: usize)
         requires { IsKeyOf place self.old key }
         ensures removed { (q : ℕ) → object_at self.new q ≡ cond (place == q) None (object_at self.old q) }
@@ -109,6 +112,7 @@ impl<T: Object> ByPlace<T> {
     }
 
     /// Notes the first record of an object.
+    #[inline(never)]
     fn make(&mut self, place: u64, told: T::Record)
         requires absent { object_at self.old place ≡ None }
         requires fits { T.fits told None }

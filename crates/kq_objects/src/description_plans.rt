@@ -20,6 +20,7 @@ fn grows(size: u64, bytes: u32, end: u64) -> bool
 
 impl Objects {
     #[tactic(auto, unfolding(kq_model::specs::FilePlans::plan_seek, kq_model::specs::FilePlans::sought_in, kq_model::specs::FilePlans::sought, kq_model::specs::ObjectPlan::hints_for))]
+    #[inline(never)]
     pub(crate) fn plan_seek(&self, on: Named, offset: i64) -> Result<Plan, PlanError>
         ensures plan { IsPlanned result (plan_seek on offset (objects_of self.now)) }
         ensures ready { IfOk result (λ p. IsReady p.doings self.now) }
@@ -85,6 +86,7 @@ impl Objects {
     }
 
     #[tactic(auto, unfolding(kq_model::specs::FilePlans::write_file, kq_model::specs::FilePlans::written))]
+    #[inline(never)]
     pub(crate) fn write_file(&self, place: u64, bytes: u32) -> Result<Plan, PlanError>
         ensures plan { IsPlanned result
             (write_file place bytes (object_at self.now.descriptions place) (objects_of self.now)) }

@@ -88,6 +88,7 @@ fn deletion(number: u32, note: Note) -> Option<Doing>
 
 impl Objects {
     #[tactic(auto, unfolding(kq_model::specs::FilePlans::plan_file, kq_model::specs::FilePlans::made_file, kq_model::specs::ObjectPlan::hints_for))]
+    #[inline(never)]
     pub(crate) fn plan_file(&mut self, number: u32, size: i64) -> Result<Plan, PlanError>
         ensures same { objects_of self.new ≡ objects_of self.old }
         ensures plan { IsPlanned result (plan_file number size (objects_of self.old)) }
@@ -118,6 +119,7 @@ impl Objects {
     }
 
     #[tactic(auto, unfolding(kq_model::specs::FilePlans::plan_open, kq_model::specs::FilePlans::opened))]
+    #[inline(never)]
     pub(crate) fn plan_open(
         &mut self,
         place: u64,
@@ -147,6 +149,7 @@ impl Objects {
     }
 
     #[tactic(auto, unfolding(kq_model::specs::FilePlans::plan_truncate, kq_model::specs::FilePlans::truncated, kq_model::specs::FilePlans::sized))]
+    #[inline(never)]
     pub(crate) fn plan_truncate(&self, number: u32, size: i64) -> Result<Plan, PlanError>
         ensures plan { IsPlanned result (plan_truncate number size (objects_of self.now)) }
         ensures ready { IfOk result (λ p. IsReady p.doings self.now) }
@@ -167,6 +170,7 @@ impl Objects {
     }
 
     #[tactic(auto, unfolding(kq_model::specs::FilePlans::plan_note, kq_model::specs::FilePlans::said))]
+    #[inline(never)]
     pub(crate) fn plan_note(&self, number: u32, note: Note) -> Result<Plan, PlanError>
         ensures plan { IsPlanned result (plan_note number note (objects_of self.now)) }
         ensures ready { IfOk result (λ p. IsReady p.doings self.now) }

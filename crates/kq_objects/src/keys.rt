@@ -69,6 +69,7 @@ impl Keys {
     }
 
     /// Makes the list reach a place.
+    #[inline(never)]
     fn reach(&mut self, place: u64) -> Result<(), Memory>
         ensures same { (q : ℕ) → key_of self.new q ≡ key_of self.old q }
         ensures kept { self.new.far ≡ self.old.far }
@@ -83,6 +84,7 @@ impl Keys {
         Ok(())
     }
 
+    #[inline(always)]
     pub fn get(&self, place: u64) -> Option<usize>
         ensures { result ≡ key_of self.now place }
     {
@@ -93,6 +95,7 @@ impl Keys {
     }
 
     /// The key that the map has.
+    #[inline(never)]
     fn far_key(&self, place: u64) -> Option<usize>
         ensures { result ≡ get nat_eq self.now.far place }
     {
@@ -137,6 +140,7 @@ impl Keys {
     }
 
     /// The map has no key of the place from here on.
+    #[inline(never)]
     fn forget_far(&mut self, place: u64)
         ensures near { self.new.near ≡ self.old.near }
         ensures far { (q : ℕ) → get nat_eq self.new.far q ≡ cond (place == q) None (get nat_eq self.old.far q) }

@@ -88,6 +88,7 @@ impl Objects {
     }
 
     #[tactic(auto, unfolding(kq_model::specs::SocketPlans::plan_accept, kq_model::specs::SocketPlans::accepted))]
+    #[inline(never)]
     pub(crate) fn plan_accept(
         &mut self,
         place: u64,

@@ -75,6 +75,7 @@ impl State {
 
     // A record that makes an object, which the new number names.
     #[tactic(auto, unfolding(kq_model::specs::ObjectRecordPlans::plan_act, kq_model::specs::ObjectRecordPlans::with_objects))]
+    #[inline(never)]
     fn act_naming(
         &mut self,
         place: u64,
@@ -119,6 +120,7 @@ impl State {
     /// A socket is made, under a number that is not open (socket(2)). NoProcess; UsedDescriptor: the
     /// number is open; TooMany: a size of a buffer.
     #[tactic(auto, unfolding(kq_model::specs::Holding::made_names, kq_model::specs::ObjectRecordPlans::plan_socket, kq_model::specs::ObjectRecordPlans::if_live, kq_model::specs::ObjectRecordPlans::unless_open, kq_model::specs::World::named_by))]
+    #[inline(never)]
     pub fn socket(
         &mut self,
         place: u64,
@@ -157,6 +159,7 @@ impl State {
     /// (accept(2)). NoProcess; NoDescriptor: `fd` is not open; UsedDescriptor: `to` is; then WrongKind,
     /// Absent: no connection waits; TooMany: a size of a buffer.
     #[tactic(auto, unfolding(kq_model::specs::Holding::made_names, kq_model::specs::ObjectRecordPlans::plan_accept, kq_model::specs::ObjectRecordPlans::unless_open, kq_model::specs::DescriptorPlans::on_descriptor, kq_model::specs::DescriptorPlans::on_named, kq_model::specs::World::named_by))]
+    #[inline(never)]
     pub fn accept(
         &mut self,
         place: u64,
@@ -199,6 +202,7 @@ impl State {
     /// A file is opened, under a number that is not open (open(2)). NoProcess; UsedDescriptor: the
     /// number is open; then Absent: there is no such file.
     #[tactic(auto, unfolding(kq_model::specs::Holding::made_names, kq_model::specs::ObjectRecordPlans::plan_open, kq_model::specs::ObjectRecordPlans::if_live, kq_model::specs::ObjectRecordPlans::unless_open, kq_model::specs::World::named_by))]
+    #[inline(never)]
     pub fn open(
         &mut self,
         place: u64,
@@ -233,6 +237,7 @@ impl State {
     /// A pipe is made, under two numbers that are not open (pipe(2)). NoProcess; UsedDescriptor: one of
     /// them is open, or both are the same; TooMany: its capacity.
     #[tactic(auto, unfolding(kq_model::specs::ObjectRecordPlans::plan_pipe, kq_model::specs::ObjectRecordPlans::if_live, kq_model::specs::ObjectRecordPlans::unless_open, kq_model::specs::World::named_by))]
+    #[inline(never)]
     pub fn pipe(
         &mut self,
         place: u64,

@@ -49,6 +49,7 @@ impl Descriptors {
     }
 
     /// What a number names.
+    #[inline(always)]
     pub fn get(&self, number: u32) -> Option<Named>
         ensures found { result ≡ lookup number self.now }
         ensures rising { AreRising self.now }
@@ -108,6 +109,7 @@ impl Descriptors {
     }
 
     // One slot more is empty, if something was in it.
+    #[inline(never)]
     fn count_empty(&mut self, was: Option<Named>)
         ensures { self.new ≡ self.old }
     {
@@ -115,7 +117,7 @@ impl Descriptors {
         if self.slots.len() / 2 < self.empty {
             self.slots.retain(|slot| slot.1.is_some());
             self.empty = 0;
-            self.guesses.note(&self.slots, 0);
+            self.guesses.note_fewer(&self.slots);
         }
     }
 

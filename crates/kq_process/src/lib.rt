@@ -6,6 +6,7 @@ mod applying;
 mod counting;
 mod descriptors;
 mod effect;
+mod far_guesses;
 mod guesses;
 mod ignored;
 mod process;

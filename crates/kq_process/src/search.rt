@@ -9,6 +9,7 @@ const GUESSES: u32 = 4;
 
 /// The index of the number's pair, or where it would stand. It costs one look where the guess is right, and else a
 /// search.
+#[inline(always)]
 pub fn find<T>(entries: &[(u32, T)], number: u32, guesses: &Guesses) -> Result<usize, usize>
     requires { AreRising entries.now }
     ensures { MatchResult result (IsPlace number entries.now) (IsGap number entries.now) }
@@ -25,6 +26,7 @@ pub fn find<T>(entries: &[(u32, T)], number: u32, guesses: &Guesses) -> Result<u
 
 /// The index of the number's pair, or where it would stand. It costs one look where no number is missing, two or
 /// three where they are missing at regular intervals, and else a few more than a search by halves.
+#[inline(never)]
 fn search<T>(entries: &[(u32, T)], number: u32) -> Result<usize, usize>
     requires { AreRising entries.now }
     ensures { MatchResult result (IsPlace number entries.now) (IsGap number entries.now) }

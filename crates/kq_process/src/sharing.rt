@@ -29,6 +29,7 @@ impl State {
     /// A child starts, with copies of its parent's descriptors and ignored signals, but no kqueues
     /// (fork(2)). NoProcess; UsedPid: the child's pid was used before.
     #[tactic(auto, unfolding(kq_model::specs::ProcessPlans::plan_fork))]
+    #[inline(never)]
     pub fn fork(&mut self, pid: u32, child: u32, effect: &mut Effect) -> Result<(), Memory>
         ensures effect { OnOk result (IsEffectBy (plan_fork pid child) self.old effect.new) }
         ensures world { (place : ℕ) → OnOk result (IsNext place (plan_fork pid child) self.old self.new) }
@@ -60,6 +61,7 @@ impl State {
 
     /// A process exits: all its descriptors are closed, in rising order (exit(3)). NoProcess.
     #[tactic(auto, unfolding(kq_model::specs::ProcessPlans::plan_exit))]
+    #[inline(never)]
     pub fn exit(&mut self, pid: u32, status: u32, effect: &mut Effect) -> Result<(), Memory>
         ensures effect { OnOk result (IsEffectBy (plan_exit pid status) self.old effect.new) }
         ensures world { (place : ℕ) → OnOk result (IsNext place (plan_exit pid status) self.old self.new) }
@@ -87,6 +89,7 @@ impl State {
 
     /// A number is closed (close(2)). NoProcess; NoDescriptor: it is not open.
     #[tactic(auto, unfolding(kq_model::specs::DescriptorPlans::plan_close))]
+    #[inline(never)]
     pub fn close(&mut self, pid: u32, fd: u32, effect: &mut Effect) -> Result<(), Memory>
         ensures effect { OnOk result (IsEffectBy (plan_close pid fd) self.old effect.new) }
         ensures world { (place : ℕ) → OnOk result (IsNext place (plan_close pid fd) self.old self.new) }
@@ -115,6 +118,7 @@ impl State {
     /// The number `to` names what `fd` names. It is closed before, if it is open; onto itself nothing
     /// happens (dup2(2)). NoProcess; NoDescriptor: `fd` is not open; WrongKind: it is a kqueue.
     #[tactic(auto, unfolding(kq_model::specs::DescriptorPlans::plan_dup, kq_model::specs::DescriptorPlans::duplicated))]
+    #[inline(never)]
     pub fn dup(&mut self, pid: u32, fd: u32, to: u32, effect: &mut Effect) -> Result<(), Memory>
         ensures effect { OnOk result (IsEffectBy (plan_dup pid fd to) self.old effect.new) }
         ensures world { (place : ℕ) → OnOk result (IsNext place (plan_dup pid fd to) self.old self.new) }
@@ -145,6 +149,7 @@ impl State {
 
     // A number that is not open names this too.
     #[tactic(auto, unfolding(kq_model::specs::DescriptorPlans::closes, kq_model::specs::DescriptorPlans::close_hints))]
+    #[inline(never)]
     fn share(&mut self, pid: u32, to: u32, named: Named, effect: &mut Effect) -> Result<(), Memory>
         requires live { is_live pid (state_of self.old).processes ≡ true }
         requires absent { named_by pid to (state_of self.old) ≡ None }
@@ -166,6 +171,7 @@ impl State {
 
     // A number that names `before` is closed, and then names what `fd` names.
     #[tactic(auto, unfolding(kq_model::specs::DescriptorPlans::closes, kq_model::specs::DescriptorPlans::close_hints))]
+    #[inline(never)]
     fn replace(
         &mut self,
         pid: u32,

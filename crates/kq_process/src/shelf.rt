@@ -42,6 +42,7 @@ impl<T> Shelf<T> {
     }
 
     /// What stands under a number.
+    #[inline(always)]
     pub fn get(&self, number: u32) -> Option<&T>
         ensures found { option_copied result ≡ lookup number self.now }
         ensures rising { AreRising self.now }
@@ -74,6 +75,7 @@ impl<T> Shelf<T> {
     }
 
     // The index of the number's pair, or where it would stand.
+    #[inline(always)]
     fn find(&self, number: u32) -> Result<usize, usize>
         ensures place { MatchResult result (IsPlace number self.now) (IsGap number self.now) }
         ensures rising { AreRising self.now }

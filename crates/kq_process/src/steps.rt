@@ -12,6 +12,7 @@ impl State {
     ghost use Rattle.kq_process.specs.State.{state_of, IsEffectBy, IsNext};
 
     /// A process starts. UsedPid: the pid was used before.
+    #[inline(never)]
     pub fn proc(&mut self, pid: u32, effect: &mut Effect) -> Result<(), Memory>
         ensures effect { OnOk result (IsEffectBy (plan_proc pid) self.old effect.new) }
         ensures world { (place : ℕ) → OnOk result (IsNext place (plan_proc pid) self.old self.new) }
@@ -22,6 +23,7 @@ impl State {
     }
 
     /// A process executes another program, which changes nothing here. NoProcess.
+    #[inline(never)]
     pub fn exec(&self, pid: u32, effect: &mut Effect) -> Result<(), Memory>
         ensures effect { OnOk result (IsEffectBy (plan_exec pid) self.now effect.new) }
         ensures world { (place : ℕ) → IsNext place (plan_exec pid) self.now self.now }
@@ -31,6 +33,7 @@ impl State {
     }
 
     /// A process begins to ignore a signal, or ceases to. NoProcess; TooMany: no such signal.
+    #[inline(never)]
     pub fn sigset(&mut self, pid: u32, signal: u32, ignore: bool, effect: &mut Effect)
         ensures effect { IsEffectBy (plan_sigset pid signal ignore) self.old effect.new }
         ensures world { (place : ℕ) → IsNext place (plan_sigset pid signal ignore) self.old self.new }
@@ -40,6 +43,7 @@ impl State {
 
     /// A signal is delivered to a process, which changes nothing here. NoProcess; TooMany: no such
     /// signal.
+    #[inline(never)]
     pub fn signal(&self, pid: u32, signal: u32, effect: &mut Effect) -> Result<(), Memory>
         ensures effect { OnOk result (IsEffectBy (plan_sig pid signal) self.now effect.new) }
         ensures world { (place : ℕ) → IsNext place (plan_sig pid signal) self.now self.now }
@@ -81,6 +85,7 @@ impl State {
     /// A process opens a kqueue, named by the record's place, under a number that is not open
     /// (kqueue(2)). NoProcess; UsedDescriptor: the number is open.
     #[tactic(auto, unfolding(kq_model::specs::DescriptorPlans::plan_kqueue, kq_model::specs::World::named_by))]
+    #[inline(never)]
     pub fn kqueue(
         &mut self,
         place: u64,
