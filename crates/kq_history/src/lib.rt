@@ -28,6 +28,7 @@ mod sources;
 mod split;
 mod splitting;
 mod spoken;
+mod spots;
 mod timeline;
 mod timelines;
 mod touched;

@@ -11,8 +11,9 @@ use smallvec::SmallVec;
 use std::alloc::Global;
 use std::collections::HashSet;
 
-/// Most kqueues have no more, and need no memory for them: one for their calls, and one for what they watch.
-const SOURCES_OF_MOST: usize = 2;
+/// Most kqueues have no more, and need no memory for them: one for their calls, one for what they watch, and one for
+/// the number by which it is named.
+const SOURCES_OF_MOST: usize = 3;
 
 /// So many are looked through; only those behind them need a set.
 const FEW_SOURCES: usize = 8;
