@@ -14,7 +14,8 @@ ghost use Rattle.kq_model.specs.Views as world;
 ghost use Rattle.kq_model.specs.WatchedNumbers.{LeavesOpen, WatchTheirNumbers};
 ghost use Rattle.kq_knote.specs.Index.{hinted_keys};
 ghost use Rattle.kq_kevent.specs.Owned.{limit, HasRoomToFollow};
-ghost use Rattle.kq_kevent.specs.Telling.{is_plain, told_one, told_all, with_put, AreLeft, HeardMore, Leaves, StandsFor};
+ghost use Rattle.kq_kevent.specs.Telling.{is_plain, told_one, told_all, with_put};
+ghost use Rattle.kq_kevent.specs.Telling.{AreLeft, HeardMore, Leaves, StandsFor};
 
 use crate::Kq;
 use crate::look::look_in;
