@@ -13,6 +13,8 @@ mod Sourced
 mod SameSource
 mod LineLemmas
 mod Filing
+mod Briefs
+mod Glances
 mod Sighted
 mod PickedPrivate
 mod Descending

@@ -17,6 +17,8 @@ pub mod Touched
 pub mod Accounts
 pub mod Within
 pub mod Keys
+pub mod Brief
+pub mod Glances
 pub mod Sights
 pub mod Sighting
 pub mod Numbers

@@ -4,6 +4,7 @@
 
 mod answering;
 mod at;
+mod brief;
 mod filed;
 mod guesses;
 mod hearing;

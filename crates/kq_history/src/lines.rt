@@ -1,7 +1,7 @@
 ghost use Rattle.std.specs.Prelude.{◌≡◌, [], None, Some, length, unwrap_or, MatchOption, IfOk, if◌then◌else◌};
 ghost use Rattle.std.specs.HashMap.{get, keys, IsUnique};
 ghost use Rattle.kq_history.specs.Items.{source_eq};
-ghost use Rattle.kq_history.specs.Lines.{Extends, HasLine};
+ghost use Rattle.kq_history.specs.Lines.{target_of, target_on, Extends, HasLine};
 ghost use Rattle.kq_history.specs.declared.item.Source.{Source};
 
 use crate::guesses::Guesses;
@@ -92,6 +92,16 @@ impl<V: Copy + Drop> Lines<V> {
         }
     }
 
+    /// The target of a line, where it is a target's.
+    pub fn target_at(&self, line: usize) -> Target
+        ensures { result ≡ target_on (keys self.now.table) line }
+    {
+        match self.table.get_index(line) {
+            Some((source, _)) => target_of(*source),
+            None => Target::Own,
+        }
+    }
+
     /// Puts another value beside a line.
     pub fn set(&mut self, line: usize, value: V)
         ensures stay { keys self.new.table ≡ keys self.old.table }
@@ -102,6 +112,16 @@ impl<V: Copy + Drop> Lines<V> {
         if let Some(there) = self.table.get_index_mut(line) {
             *there = value;
         }
+    }
+}
+
+/// The target that the source is, if it is one.
+fn target_of(source: Source) -> Target
+    ensures { result ≡ target_of (Some source) }
+{
+    match source {
+        Source::Of(target) => target,
+        _ => Target::Own,
     }
 }
 

@@ -4,7 +4,7 @@ ghost use Rattle.kq_history.specs.Looking.{has_slot, Follow, Show};
 ghost use Rattle.kq_history.specs.Sights.{AreInOrder};
 
 use crate::ordering::in_order;
-use crate::sights::{Sight, Sights};
+use crate::sights::Sights;
 use crate::slots::Slots;
 use crate::split::Split;
 use kq_model::{Memory, Named, Target, View, Views};
@@ -20,9 +20,10 @@ pub struct Looking<'s, 'a> {
     place: u64,
     /// The slots follow the log up to this place.
     last: u64,
-    /// The log up to there.
-    log: &'s [Sight],
-    /// So much of it was gone over.
+    /// What was seen: up to there these are so many sights.
+    sights: &'s Sights,
+    end: usize,
+    /// So many of them were gone over.
     gone: usize,
     /// Where the sights stand that come to the slots, of which so many came.
     numbers: Vec<usize>,
@@ -33,7 +34,7 @@ pub struct Looking<'s, 'a> {
 }
 
 impl<'s, 'a> Model for Looking<'s, 'a> {
-    ghost use Rattle.std.specs.Prelude.{◌≡◌, true};
+    ghost use Rattle.std.specs.Prelude.{◌≡◌, true, take};
     ghost use Rattle.kq_history.specs.Looking.{IsLooking, Outlook};
 
     ghost Value = { Outlook };
@@ -41,7 +42,7 @@ impl<'s, 'a> Model for Looking<'s, 'a> {
     ghost view = { λ l. record { trace = l.split.now; place = l.place } };
 
     ghost invariant = { λ l. l.follows ≡ true
-        → IsLooking l.split.now l.place l.last l.log.now l.gone l.numbers.items l.taken l.slots.views };
+        → IsLooking l.split.now l.place l.last (take l.end l.sights.now) l.gone l.numbers.items l.taken l.slots.views };
 }
 
 impl<'s, 'a> Looking<'s, 'a> {
@@ -57,13 +58,13 @@ impl<'s, 'a> Looking<'s, 'a> {
         let last = to.max(from);
         let gone = sights.count_at(from);
         let end = sights.count_at(last);
-        let (log, _) = sights.as_slice().split_at(end);
         let (slots, numbers) = slots_for(split.allocator(), sights, targets, gone, end)?;
         Ok(Looking {
             split,
             place: from,
             last,
-            log,
+            sights,
+            end,
             gone,
             numbers,
             taken: 0,
@@ -81,7 +82,8 @@ impl<'s, 'a> Looking<'s, 'a> {
             split,
             place,
             last: place,
-            log: &[],
+            sights: split.sights(),
+            end: 0,
             gone: 0,
             numbers: Vec::new(alloc),
             taken: 0,
@@ -97,7 +99,14 @@ impl<'s, 'a> Looking<'s, 'a> {
     {
         if self.follows && self.place <= place && place <= self.last {
             let (_, left) = self.numbers.as_slice().split_at(self.taken);
-            let (count, gone) = take_to(self.log, left, &mut self.slots, self.gone, place);
+            let (count, gone) = take_to(
+                self.sights,
+                self.end,
+                left,
+                &mut self.slots,
+                self.gone,
+                place,
+            );
             self.taken += count;
             self.gone = gone;
             self.place = place;
@@ -157,25 +166,27 @@ fn slots_for(
     Ok((slots, numbers))
 }
 
-/// Brings what is seen up to a place to the slots. They show what is seen behind so many sights (`gone`), and `left`
-/// has where the rest stands that comes to them. Returns how much of it came, and behind how many sights the slots are
-/// now.
+/// Brings what is seen up to a place to the slots. They show what is seen behind so many (`gone`) of the first sights
+/// (`end`), and `left` has where the rest of these stands that comes to them. Returns how much of it came, and behind
+/// how many sights the slots are now.
 fn take_to(
-    log: &[Sight],
+    sights: &Sights,
+    end: usize,
     left: &[usize],
     slots: &mut Slots,
     gone: usize,
     place: u64,
 ) -> (usize, usize)
-    requires in_order { AreInOrder log.now }
-    requires follow { (before : ℕ) × (before ≤ place) × Follow before log.now gone left.now slots.old.views }
+    requires in_order { AreInOrder (take end sights.now) }
+    requires follow { (before : ℕ) × (before ≤ place)
+        × Follow before (take end sights.now) gone left.now slots.old.views }
     ensures count { result.0 ≤ length left.now }
-    ensures follow { Follow place log.now result.1 (drop result.0 left.now) slots.new.views }
+    ensures follow { Follow place (take end sights.now) result.1 (drop result.0 left.now) slots.new.views }
 {
     let mut gone = gone;
     for count in 0..left.len() {
         let number = left[count];
-        let sight = sight_at(log, number);
+        let sight = sights.get(number);
         if place < sight.place {
             return (count, gone);
         }
@@ -183,12 +194,4 @@ fn take_to(
         gone = number + 1;
     }
     (left.len(), gone)
-}
-
-/// The sight that stands there.
-fn sight_at(log: &[Sight], number: usize) -> Sight
-    requires { number < length log.now }
-    ensures { result ≡ slice_index_or log.now number result }
-{
-    log[number]
 }

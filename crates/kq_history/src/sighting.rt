@@ -1,11 +1,14 @@
-ghost use Rattle.std.specs.Prelude.{◌≡◌, ◌&&◌, ◌<◌, [], ℕ, nat_le, vec_len, vec_capacity, OnOk, IfOk, if◌then◌else◌};
+ghost use Rattle.std.specs.Prelude.{◌≡◌, ◌&&◌, [], ℕ, nat_le, OnOk, IfOk, if◌then◌else◌};
+ghost use Rattle.kq_history.specs.Glances.{glance, lines_of};
 ghost use Rattle.kq_history.specs.Keys.{target_key};
 ghost use Rattle.kq_history.specs.Sights.{view_at, AreUpTo};
 
+use crate::brief::{Brief, brief_of};
 use crate::filed::Filed;
 use crate::item::Source;
 use crate::lines::Lines;
-use crate::sights::{Sight, Sights};
+use crate::sights::{Glance, Sights};
+use kq_index::Index;
 use kq_model::{Memory, Target, View};
 use std::alloc::Global;
 use std::marker::Model;
@@ -14,24 +17,27 @@ use std::marker::Model;
 /// see the list of its sights.
 #[derive(Drop)]
 pub struct Sighting {
-    log: Vec<Sight>,
+    log: Vec<Glance>,
+    /// The views that do not fit into the log.
+    wholes: Vec<View>,
     /// The line of each target, and beside it what is seen of the target.
-    lines: Lines<Option<View>>,
-    /// The line of each sight's target.
-    line_of: Vec<u32>,
+    lines: Lines<Brief>,
 }
 
 impl Model for Sighting {
     ghost use Rattle.std.specs.Prelude.{List};
+    ghost use Rattle.std.specs.HashMap.{keys};
     ghost use Rattle.kq_history.specs.declared.sights.Sight.{Sight as Declared};
+    ghost use Rattle.kq_history.specs.Glances.{sights_in};
     ghost use Rattle.kq_history.specs.Sighting.{IsNumbered};
     ghost use Rattle.kq_history.specs.Sights.{AreInOrder};
 
     ghost Value = { List Declared };
 
-    ghost view = { λ s. s.log.items };
+    ghost view = { λ s. sights_in (keys s.lines.table) s.wholes.items s.log.items };
 
-    ghost invariant = { λ s. AreInOrder s.log.items × IsNumbered s.log.items s.lines.table s.line_of.items };
+    ghost invariant = { λ s. AreInOrder (sights_in (keys s.lines.table) s.wholes.items s.log.items)
+        × IsNumbered s.lines.table s.wholes.items s.log.items };
 }
 
 impl Sighting {
@@ -41,32 +47,28 @@ impl Sighting {
     {
         Sighting {
             log: Vec::new(alloc),
+            wholes: Vec::new(alloc),
             lines: Lines::new(alloc),
-            line_of: Vec::new(alloc),
         }
     }
 
-    /// From this place on this is seen of a target. Where it is seen already, nothing is written. After Memory nothing
-    /// is known.
+    /// From this place on this is seen of a target. Where it is seen already, nothing is written. After Memory, which
+    /// is also the answer where the place or the line is above 2^32, nothing is known.
     pub fn note(&mut self, target: Target, place: u64, view: Option<View>) -> Result<(), Memory>
         requires { AreUpTo place self.old }
         ensures up_to { OnOk result (AreUpTo place self.new) }
         ensures noted { OnOk result ((at : ℕ) (t : Target) → view_at self.new at t
             ≡ (if target_key target t && nat_le place at then view else view_at self.old at t)) }
     {
-        let line = self.lines.of(Source::Of(target), None)?;
-        let last = self.lines.value_at(line).unwrap_or(None);
-        if last == view {
+        let line = self.lines.of(Source::Of(target), Brief::Nothing)?;
+        let last = self.lines.value_at(line).unwrap_or(Brief::Nothing);
+        if last.view(self.wholes.as_slice()) == view {
             return Ok(());
         }
-        let number = make_room(&mut self.log, &mut self.line_of, line)?;
-        self.lines.set(line, view);
-        let _ = self.line_of.push(number);
-        let _ = self.log.push(Sight {
-            target,
-            place,
-            view,
-        });
+        let brief = brief_of(&mut self.wholes, view)?;
+        let glance = glance_of(place, line, brief)?;
+        self.log.push(glance)?;
+        self.lines.set(line, brief);
         Ok(())
     }
 
@@ -75,29 +77,34 @@ impl Sighting {
     pub fn end(self) -> Result<Sights, Memory>
         ensures { IfOk result (λ s. s ≡ self) }
     {
-        let Sighting {
-            log,
-            lines,
-            line_of,
-        } = self;
+        let Sighting { log, wholes, lines } = self;
         let alloc = *log.allocator();
-        let filed = Filed::of(alloc, lines, line_of)?;
-        Ok(Sights { log, filed })
+        let index = Index::of(alloc, lines_of(alloc, log.as_slice())?, lines.count())?;
+        let filed = Filed { lines, index };
+        Ok(Sights { log, wholes, filed })
     }
 }
 
-/// Room for one sight more and its line, which is returned as it is noted. Memory also if there are 2^32 lines.
-fn make_room(log: &mut Vec<Sight>, line_of: &mut Vec<u32>, line: usize) -> Result<u32, Memory>
-    ensures sights { log.new.items ≡ log.old.items }
-    ensures lines { line_of.new.items ≡ line_of.old.items }
-    ensures line { IfOk result (λ number. number ≡ line) }
-    ensures room { OnOk result (vec_len log.new < vec_capacity log.new) }
-    ensures room_of_line { OnOk result (vec_len line_of.new < vec_capacity line_of.new) }
+/// A sight as the log keeps it. Memory if the place or the line is above 2^32.
+fn glance_of(place: u64, line: usize, brief: Brief) -> Result<Glance, Memory>
+    ensures { IfOk result (λ g. g ≡ glance place line brief) }
 {
-    let Ok(number) = u32::try_from(line) else {
+    let Ok(place) = u32::try_from(place) else {
         return Err(Memory);
     };
-    log.reserve(1)?;
-    line_of.reserve(1)?;
-    Ok(number)
+    let Ok(line) = u32::try_from(line) else {
+        return Err(Memory);
+    };
+    Ok(Glance { place, line, brief })
+}
+
+/// The line of each sight's target.
+fn lines_of(alloc: Global, log: &[Glance]) -> Result<Vec<u32>, Memory>
+    ensures { IfOk result (λ lines. lines.items ≡ lines_of log.now) }
+{
+    let mut lines = Vec::with_capacity(alloc, log.len())?;
+    for glance in log {
+        lines.push(glance.line)?;
+    }
+    Ok(lines)
 }

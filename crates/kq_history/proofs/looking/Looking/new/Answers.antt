@@ -1,6 +1,5 @@
-use Rattle.std.proofs.Common.{◌≡◌, ◌∙◌, ◌≤◌, List, take, ap, sym, subst, rules}
+use Rattle.std.proofs.Common.{◌≤◌, List, rules}
 use Rattle.kq_history.specs.declared.sights.Sight.{Sight}
-use Rattle.kq_history.specs.Looking.{IsLooking}
 use Rattle.kq_history.proofs.LookingLemmas.{counts-rise, looks-first}
 use Rattle.kq_history.proofs.looking.Looking.new.Goals as goal
 
@@ -18,9 +17,7 @@ invariant_of-result c =
     let end = c.count_at-end.result in
     let last = c.max-last.result in
     let later : c.args.from ≤ last = search rules in
-    let log_is : c.split_at.result.0.now ≡ take end all = c.split_at.ensures.front ∙ ap (take end) c.as_slice.ensures.all in
     λ _.
-    subst (λ (log : List Sight). IsLooking t c.args.from last log gone c.in_ok-slots.numbers.items 0 c.in_ok-slots.slots.views) (sym log_is)
-    (looks-first t c.args.from last gone end all c.in_ok-slots.numbers.items c.in_ok-slots.slots.views later
+    looks-first t c.args.from last gone end all c.in_ok-slots.numbers.items c.in_ok-slots.slots.views later
     c.count_at-gone.ensures.within c.count_at-end.ensures.within c.count_at-gone.ensures.up_to c.count_at-gone.ensures.later c.count_at-end.ensures.later
-    c.as_slice.ensures.in_order c.sights-sights.ensures c.in_ok-slots.ensures.shown c.in_ok-slots.ensures.left)
+    c.count_at-gone.ensures.in_order c.sights-sights.ensures c.in_ok-slots.ensures.shown c.in_ok-slots.ensures.left

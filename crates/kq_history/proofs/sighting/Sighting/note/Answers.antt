@@ -1,72 +1,165 @@
-use Rattle.std.proofs.Common.{◌≡◌, ◌∙◌, ◌++◌, ◌∷◌, [], ℕ, List, None, unwrap_or, true, sym, ap, subst, rules}
+use Rattle.std.proofs.Common.{◌≡◌, ◌∙◌, ◌≤◌, ◌++◌, ◌∷◌, [], ℕ, List, unwrap_or, true, sym, ap, subst, rules, arith}
+use Rattle.std.specs.HashMap.{keys}
+use Rattle.std.proofs.lemmas.List.Elements.{All-append, All-cons, All-nil}
 use Rattle.std.proofs.lemmas.List.Sorted.{IsNonDecreasingBy-push}
 use Rattle.kq_model.specs.declared.object.Target.{Target}
+use Rattle.kq_history.specs.declared.brief.Brief.TheVariants.{Nothing}
 use Rattle.kq_history.specs.declared.item.Source.TheVariants.{Of}
+use Rattle.kq_history.specs.declared.sights.Glance.{Glance}
 use Rattle.kq_history.specs.declared.sights.Sight.{Sight}
+use Rattle.kq_history.specs.Brief.{view_in}
+use Rattle.kq_history.specs.Glances.{glance, sights_in}
+use Rattle.kq_history.specs.Sighting.{IsNumbered}
 use Rattle.kq_history.specs.Sights.{last_view, sight, view_at, AreInOrder, AreUpTo}
+use Rattle.kq_history.proofs.Glances.{no-more}
 use Rattle.kq_history.proofs.SameValues.{same_view, view_eq}
-use Rattle.kq_history.proofs.Sighted.{numbered-on, numbered-push, numbered-same}
+use Rattle.kq_history.proofs.Sighted.{in-order-on, numbered-on, numbered-push, seen-push, sights-stay}
 use Rattle.kq_history.proofs.SightLemmas.{up_to-last, view-kept, view-push}
 use Rattle.kq_history.proofs.sighting.Sighting.note.Goals as goal
 
+-- ---- no sight more
+
+pub returns-then-eq-clause-up_to : goal.returns-then-eq-clause-up_to
+returns-then-eq-clause-up_to c =
+    let ws = c.self.inside.wholes.items in
+    let log = c.self.inside.log.items in
+    let inside : sights_in (keys c.self.inside.lines.table) ws log ≡ c.args.self.now = search rules in
+    let stay = sights-stay c.self.inside.lines.table c.of.new.self.table ws ws log c.of.ensures.stay (no-more ws) c.self.invariant.1 in
+    subst (AreUpTo c.args.place) (sym (stay ∙ inside)) c.requires
+
 pub returns-then-eq-clause-noted : goal.returns-then-eq-clause-noted
 returns-then-eq-clause-noted c = λ (at : ℕ) (t : Target).
-    let log : List Sight = c.args.self.now in
+    let ws = c.self.inside.wholes.items in
+    let log = c.self.inside.log.items in
+    let old : List Sight = c.args.self.now in
     let target = c.args.target in
-    let inside : c.self.inside.log.items ≡ log = search rules in
-    let last : c.unwrap_or-last.result ≡ unwrap_or c.value_at.result None = search rules in
-    let seen : c.unwrap_or-last.result ≡ last_view target log =
-    last ∙ ap (λ o. unwrap_or o None) (c.value_at.ensures (Of target) c.in_ok-line.ensures.line)
-    ∙ c.in_ok-line.ensures.values (Of target) ∙ c.self.invariant.1.shown target ∙ ap (last_view target) inside in
-    let equal : view_eq c.unwrap_or-last.result c.args.view ≡ true = search rules in
-    ap (λ (ss : List Sight). view_at ss at t) inside
-    ∙ view-kept c.args.place at target t c.args.view log c.requires (sym seen ∙ same_view c.unwrap_or-last.result c.args.view equal)
+    let inside : sights_in (keys c.self.inside.lines.table) ws log ≡ old = search rules in
+    let stay = sights-stay c.self.inside.lines.table c.of.new.self.table ws ws log c.of.ensures.stay (no-more ws) c.self.invariant.1 in
+    let last : c.unwrap_or-last.result ≡ unwrap_or c.value_at.result Nothing = search rules in
+    let view : c.view.result ≡ view_in ws c.unwrap_or-last.result = search rules in
+    let seen : c.view.result ≡ last_view target old =
+    view ∙ ap (view_in ws)
+    (last ∙ ap (λ o. unwrap_or o Nothing) (c.value_at.ensures (Of target) c.in_ok-line.ensures.line) ∙ c.in_ok-line.ensures.values (Of target))
+    ∙ c.self.invariant.1.shown target ∙ ap (last_view target) inside in
+    let equal : view_eq c.view.result c.args.view ≡ true = search rules in
+    ap (λ (ss : List Sight). view_at ss at t) (stay ∙ inside)
+    ∙ view-kept c.args.place at target t c.args.view old c.requires (sym seen ∙ same_view c.view.result c.args.view equal)
+
+pub invariant_of-self : goal.invariant_of-self
+invariant_of-self c =
+    let table = c.self.inside.lines.table in
+    let ws = c.self.inside.wholes.items in
+    let log = c.self.inside.log.items in (
+      in-order-on table c.of.new.self.table ws ws log c.of.ensures.stay (no-more ws) c.self.invariant.1 c.self.invariant.0,
+      numbered-on table c.of.new.self.table ws ws log c.of.ensures.stay (no-more ws) c.self.invariant.1 c.of.ensures.values,
+    )
+
+pub invariant_of-self-then-eq : goal.invariant_of-self-then-eq
+invariant_of-self-then-eq c =
+    let table = c.self.inside.lines.table in
+    let ws = c.self.inside.wholes.items in
+    let log = c.self.inside.log.items in (
+      in-order-on table c.of.new.self.table ws ws log c.of.ensures.stay (no-more ws) c.self.invariant.1 c.self.invariant.0,
+      numbered-on table c.of.new.self.table ws ws log c.of.ensures.stay (no-more ws) c.self.invariant.1 c.of.ensures.values,
+    )
+
+pub invariant_of-self-in_err-brief : goal.invariant_of-self-in_err-brief
+invariant_of-self-in_err-brief c =
+    let table = c.self.inside.lines.table in
+    let ws = c.self.inside.wholes.items in
+    let vs = c.brief_of.new.wholes.items in
+    let log = c.self.inside.log.items in (
+      in-order-on table c.of.new.self.table ws vs log c.of.ensures.stay c.brief_of.ensures.grows c.self.invariant.1 c.self.invariant.0,
+      numbered-on table c.of.new.self.table ws vs log c.of.ensures.stay c.brief_of.ensures.grows c.self.invariant.1 c.of.ensures.values,
+    )
+
+pub invariant_of-self-in_err-glance : goal.invariant_of-self-in_err-glance
+invariant_of-self-in_err-glance c =
+    let table = c.self.inside.lines.table in
+    let ws = c.self.inside.wholes.items in
+    let vs = c.brief_of.new.wholes.items in
+    let log = c.self.inside.log.items in (
+      in-order-on table c.of.new.self.table ws vs log c.of.ensures.stay c.brief_of.ensures.grows c.self.invariant.1 c.self.invariant.0,
+      numbered-on table c.of.new.self.table ws vs log c.of.ensures.stay c.brief_of.ensures.grows c.self.invariant.1 c.of.ensures.values,
+    )
+
+pub invariant_of-self-in_err-push : goal.invariant_of-self-in_err-push
+invariant_of-self-in_err-push c =
+    let table = c.self.inside.lines.table in
+    let ws = c.self.inside.wholes.items in
+    let vs = c.brief_of.new.wholes.items in
+    let log = c.self.inside.log.items in
+    let same : c.push.new.self.items ≡ log = search rules in (
+      subst (λ (gs : List Glance). AreInOrder (sights_in (keys c.of.new.self.table) vs gs)) (sym same)
+          (in-order-on table c.of.new.self.table ws vs log c.of.ensures.stay c.brief_of.ensures.grows c.self.invariant.1 c.self.invariant.0),
+      subst (λ (gs : List Glance). IsNumbered c.of.new.self.table vs gs) (sym same)
+          (numbered-on table c.of.new.self.table ws vs log c.of.ensures.stay c.brief_of.ensures.grows c.self.invariant.1 c.of.ensures.values),
+    )
+
+-- ---- one more
 
 pub returns-clause-noted : goal.returns-clause-noted
 returns-clause-noted c = λ (at : ℕ) (t : Target).
-    let log : List Sight = c.args.self.now in
+    let mid = c.of.new.self.table in
+    let ws = c.self.inside.wholes.items in
+    let vs = c.brief_of.new.wholes.items in
+    let log = c.self.inside.log.items in
+    let old : List Sight = c.args.self.now in
+    let g : Glance = glance c.args.place c.in_ok-line.line c.in_ok-brief.brief in
+    let inside : sights_in (keys c.self.inside.lines.table) ws log ≡ old = search rules in
+    let stay = sights-stay c.self.inside.lines.table mid ws vs log c.of.ensures.stay c.brief_of.ensures.grows c.self.invariant.1 in
     let s : Sight = sight c.args.target c.args.place c.args.view in
-    let pushed : c.push-2.new.self.items ≡ log ++ s ∷ [] = search rules in
-    ap (λ (ss : List Sight). view_at ss at t) pushed ∙ view-push at t s log
+    let more : c.push.new.self.items ≡ log ++ g ∷ [] = search rules in
+    let pushed : sights_in (keys c.set.new.self.table) vs c.push.new.self.items ≡ old ++ s ∷ [] =
+    ap (sights_in (keys c.set.new.self.table) vs) more
+    ∙ seen-push mid c.set.new.self.table vs log g c.args.target c.in_ok-line.ensures.line c.set.ensures.stay c.args.view c.in_ok-brief.ensures.brief
+    ∙ ap (λ (ss : List Sight). ss ++ s ∷ []) (stay ∙ inside) in
+    ap (λ (ss : List Sight). view_at ss at t) pushed ∙ view-push at t s old
 
-pub invariant_of-self : goal.invariant_of-self
-invariant_of-self c = (
-  c.self.invariant.0,
-  numbered-on c.self.inside.log.items c.self.inside.lines.table c.of.new.self.table c.self.inside.line_of.items c.of.ensures.stay
-      c.of.ensures.values c.self.invariant.1,
-)
-
-pub invariant_of-self-then-eq : goal.invariant_of-self-then-eq
-invariant_of-self-then-eq c = (
-  c.self.invariant.0,
-  numbered-on c.self.inside.log.items c.self.inside.lines.table c.of.new.self.table c.self.inside.line_of.items c.of.ensures.stay
-      c.of.ensures.values c.self.invariant.1,
-)
-
-pub invariant_of-self-in_err-number : goal.invariant_of-self-in_err-number
-invariant_of-self-in_err-number c = (
-  subst AreInOrder (sym c.make_room.ensures.sights) c.self.invariant.0,
-  numbered-same c.self.inside.log.items c.make_room.new.log.items c.of.new.self.table c.self.inside.line_of.items
-      c.make_room.new.line_of.items c.make_room.ensures.sights c.make_room.ensures.lines
-      (numbered-on c.self.inside.log.items c.self.inside.lines.table c.of.new.self.table c.self.inside.line_of.items c.of.ensures.stay
-      c.of.ensures.values c.self.invariant.1),
-)
+pub returns-clause-up_to : goal.returns-clause-up_to
+returns-clause-up_to c =
+    let mid = c.of.new.self.table in
+    let ws = c.self.inside.wholes.items in
+    let vs = c.brief_of.new.wholes.items in
+    let log = c.self.inside.log.items in
+    let old : List Sight = c.args.self.now in
+    let g : Glance = glance c.args.place c.in_ok-line.line c.in_ok-brief.brief in
+    let inside : sights_in (keys c.self.inside.lines.table) ws log ≡ old = search rules in
+    let stay = sights-stay c.self.inside.lines.table mid ws vs log c.of.ensures.stay c.brief_of.ensures.grows c.self.invariant.1 in
+    let s : Sight = sight c.args.target c.args.place c.args.view in
+    let more : c.push.new.self.items ≡ log ++ g ∷ [] = search rules in
+    let pushed : sights_in (keys c.set.new.self.table) vs c.push.new.self.items ≡ old ++ s ∷ [] =
+    ap (sights_in (keys c.set.new.self.table) vs) more
+    ∙ seen-push mid c.set.new.self.table vs log g c.args.target c.in_ok-line.ensures.line c.set.ensures.stay c.args.view c.in_ok-brief.ensures.brief
+    ∙ ap (λ (ss : List Sight). ss ++ s ∷ []) (stay ∙ inside) in
+    subst (AreUpTo c.args.place) (sym pushed)
+    (All-append (λ (x : Sight). x.place ≤ c.args.place) old (s ∷ []) c.requires
+    (All-cons (λ (x : Sight). x.place ≤ c.args.place) s [] (omega arith) (All-nil (λ (x : Sight). x.place ≤ c.args.place))))
 
 pub invariant_of-self-2 : goal.invariant_of-self-2
 invariant_of-self-2 c =
-    let log : List Sight = c.self.inside.log.items in
-    let line_of : List ℕ = c.self.inside.line_of.items in
-    let line : ℕ = c.in_ok-line.line in
-    let s : Sight = sight c.args.target c.args.place c.args.view in
+    let table = c.self.inside.lines.table in
     let mid = c.of.new.self.table in
-    let inside : log ≡ c.args.self.now = search rules in
-    let pushed : c.push-2.new.self.items ≡ log ++ s ∷ [] = search rules in
-    let more : c.push.new.self.items ≡ line_of ++ line ∷ [] = search rules in
-    let before = numbered-on log c.self.inside.lines.table mid line_of c.of.ensures.stay c.of.ensures.values c.self.invariant.1 in (
+    let new = c.set.new.self.table in
+    let ws = c.self.inside.wholes.items in
+    let vs = c.brief_of.new.wholes.items in
+    let log = c.self.inside.log.items in
+    let target = c.args.target in
+    let g : Glance = glance c.args.place c.in_ok-line.line c.in_ok-brief.brief in
+    let inside : sights_in (keys table) ws log ≡ c.args.self.now = search rules in
+    let stay = sights-stay table mid ws vs log c.of.ensures.stay c.brief_of.ensures.grows c.self.invariant.1 in
+    let s : Sight = sight target c.args.place c.args.view in
+    let more : c.push.new.self.items ≡ log ++ g ∷ [] = search rules in
+    let before = numbered-on table mid ws vs log c.of.ensures.stay c.brief_of.ensures.grows c.self.invariant.1 c.of.ensures.values in
+    let rise = in-order-on table mid ws vs log c.of.ensures.stay c.brief_of.ensures.grows c.self.invariant.1 c.self.invariant.0 in
+    let pushed : sights_in (keys new) vs c.push.new.self.items ≡ sights_in (keys mid) vs log ++ s ∷ [] =
+    ap (sights_in (keys new) vs) more
+    ∙ seen-push mid new vs log g target c.in_ok-line.ensures.line c.set.ensures.stay c.args.view c.in_ok-brief.ensures.brief in (
       subst AreInOrder (sym pushed)
-          (IsNonDecreasingBy-push (λ (x : Sight). x.place) log s c.self.invariant.0
-          (λ d some. up_to-last s.place log d (subst (λ (ss : List Sight). AreUpTo s.place ss) (sym inside) c.requires) some)),
-      numbered-same (log ++ s ∷ []) c.push-2.new.self.items c.set.new.self.table (line_of ++ line ∷ []) c.push.new.self.items pushed more
-          (numbered-push log mid c.set.new.self.table line_of s line c.in_ok-line.ensures.line c.set.ensures.stay
-          (c.set.ensures.values (Of c.args.target) c.in_ok-line.ensures.line) before),
+          (IsNonDecreasingBy-push (λ (x : Sight). x.place) (sights_in (keys mid) vs log) s rise
+          (λ d some. up_to-last s.place (sights_in (keys mid) vs log) d
+          (subst (AreUpTo s.place) (sym (stay ∙ inside)) c.requires) some)),
+      subst (λ (gs : List Glance). IsNumbered new vs gs) (sym more)
+          (numbered-push mid new vs log g target c.in_ok-line.ensures.line c.set.ensures.stay
+          (c.set.ensures.values (Of target) c.in_ok-line.ensures.line) c.in_ok-brief.ensures.settled before),
     )

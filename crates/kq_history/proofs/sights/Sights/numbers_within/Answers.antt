@@ -1,7 +1,9 @@
 use Rattle.std.proofs.Common.{◌≡◌, ◌∙◌, ◌-◌, ◌<◌, [], List, drop, filter, take, sym, ap, subst, rules}
 use Rattle.std.specs.List.Sorted.{IsNonDecreasing}
 use Rattle.kq_history.specs.declared.sights.Sight.{Sight}
+use Rattle.std.specs.HashMap.{keys}
 use Rattle.kq_index.specs.Index.{standing}
+use Rattle.kq_history.specs.Glances.{sights_in}
 use Rattle.kq_history.specs.Log.{is_within}
 use Rattle.kq_history.specs.Sights.{is_of}
 use Rattle.kq_history.proofs.Between.{rises-along}
@@ -16,12 +18,13 @@ returns-then-end-first c =
 
 pub within-requires : goal.within-requires
 within-requires c =
+    let log = sights_in (keys c.self.inside.filed.lines.table) c.self.inside.wholes.items c.self.inside.log.items in
     subst IsNonDecreasing (sym (c.at.ensures ∙ c.self.invariant.1 c.args.target))
-    (rises-along (standing (is_of c.args.target) 0 c.self.inside.log.items) (standing-rises (is_of c.args.target) 0 c.self.inside.log.items))
+    (rises-along (standing (is_of c.args.target) 0 log) (standing-rises (is_of c.args.target) 0 log))
 
 pub returns : goal.returns
 returns c =
-    let log : List Sight = c.self.inside.log.items in
+    let log = sights_in (keys c.self.inside.filed.lines.table) c.self.inside.wholes.items c.self.inside.log.items in
     let test = is_of c.args.target in
     let some : c.args.first < c.args.end = search rules in
     let same : log ≡ c.args.self.now = search rules in
