@@ -72,10 +72,7 @@ pub(crate) fn sought<T: Keyed>(
     ensures { MatchOption result (HasNoRow T.Key.eq T.key_of (rows_in nodes.now) key)
         (StandsAt T.Key.eq T.key_of (rows_in nodes.now) key) }
 {
-    if stands_at(nodes, guess.slot, key) {
-        return Some(guess.slot);
-    }
-    indexed(nodes, index, key)
+    near(nodes, index, guess, key)
 }
 
 /// Whether the row at a slot is the first that watches a target.
