@@ -72,7 +72,10 @@ pub(crate) fn sought<T: Keyed>(
     ensures { MatchOption result (HasNoRow T.Key.eq T.key_of (rows_in nodes.now) key)
         (StandsAt T.Key.eq T.key_of (rows_in nodes.now) key) }
 {
-    near(nodes, index, guess, key)
+    if stands_at(nodes, guess.slot, key) {
+        return Some(guess.slot);
+    }
+    indexed(nodes, index, key)
 }
 
 /// Whether the row at a slot is the first that watches a target.
