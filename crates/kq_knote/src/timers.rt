@@ -41,8 +41,8 @@ impl Knote {
         }
     }
 
-    /// Whether it has the start, the period and the kind of another knote. If both are of one key, they expire at the same
-    /// moments then.
+    /// Whether it has the start, the period and the kind of another knote. If both are of one key, they expire
+    /// at the same moments then.
     #[tactic(auto, using(crate::proofs::TimerLaws::same_expirations))]
     pub(crate) fn rings_with(&self, other: &Knote) -> bool
         ensures { result ≡ true → self.now.key ≡ other.now.key → expires_at self.now ≡ expires_at other.now }
