@@ -61,7 +61,7 @@ pub(crate) fn near<T: Keyed>(
     indexed(nodes, index, key)
 }
 
-/// The same as `near`, which has as many callers as can take it in.
+/// The same as `near`, by a call: with one more caller to take it in, `near` would be a call in all of them.
 pub(crate) fn sought<T: Keyed>(
     nodes: &Slab<Node<T>>,
     index: &HashMap<T::Key, usize>,
@@ -72,10 +72,10 @@ pub(crate) fn sought<T: Keyed>(
     ensures { MatchOption result (HasNoRow T.Key.eq T.key_of (rows_in nodes.now) key)
         (StandsAt T.Key.eq T.key_of (rows_in nodes.now) key) }
 {
-    if stands_at(nodes, guess.slot, key) {
-        return Some(guess.slot);
+    if !stands_at(nodes, guess.slot, key) {
+        return indexed(nodes, index, key);
     }
-    indexed(nodes, index, key)
+    Some(guess.slot)
 }
 
 /// Whether the row at a slot is the first that watches a target.
