@@ -7,8 +7,8 @@ pub returns-then-key-ends : goal.returns-then-key-ends
 returns-then-key-ends c =
     let same : c.as_slice-ends.result.now ≡ c.self.inside.ends.items = search rules in
     let long : length c.self.inside.ends.items ≡ length c.as_slice-ends.result.now = ap length (sym same) in
-    let shown : c.self.inside.keys.value.items ≡ c.args.self.now = search rules in
-    past-all c.self.inside.keys.value.items c.self.inside.ends.items c.self.inside.numbers.items c.self.invariant c.args.key (omega arith)
+    let shown : c.self.inside.keys.items ≡ c.args.self.now = search rules in
+    past-all c.self.inside.keys.items c.self.inside.ends.items c.self.inside.numbers.items c.self.invariant c.args.key (omega arith)
     ∙ ap (standing (λ k. eqb k c.args.key) 0) shown
 
 pub split_at-requires : goal.split_at-requires
@@ -17,14 +17,14 @@ split_at-requires c =
     let same : c.as_slice-ends.result.now ≡ ends = search rules in
     let numbers : c.as_slice.result.now ≡ c.self.inside.numbers.items = search rules in
     let within : c.args.key < length ends = subst (λ (xs : List ℕ). c.args.key < length xs) same c.if-key-ends.false in
-    let end = end-within c.self.inside.keys.value.items ends c.self.inside.numbers.items c.self.invariant c.args.key within in
+    let end = end-within c.self.inside.keys.items ends c.self.inside.numbers.items c.self.invariant c.args.key within in
     let there : get_or c.as_slice-ends.result.now c.args.key 0 ≡ get_or ends c.args.key 0 = ap (λ (xs : List ℕ). get_or xs c.args.key 0) same in
     let long : length c.as_slice.result.now ≡ length c.self.inside.numbers.items = ap length numbers in
     omega (arith, end, there, long)
 
 pub returns-then-key-eq0 : goal.returns-then-key-eq0
 returns-then-key-eq0 c =
-    let keys = c.self.inside.keys.value.items in
+    let keys = c.self.inside.keys.items in
     let ends = c.self.inside.ends.items in
     let key = c.args.key in
     let same : c.as_slice-ends.result.now ≡ ends = search rules in
@@ -40,7 +40,7 @@ returns-then-key-eq0 c =
 
 pub split_at-requires-2 : goal.split_at-requires-2
 split_at-requires-2 c =
-    let keys = c.self.inside.keys.value.items in
+    let keys = c.self.inside.keys.items in
     let ends = c.self.inside.ends.items in
     let numbers = c.self.inside.numbers.items in
     let key = c.args.key in
@@ -56,7 +56,7 @@ split_at-requires-2 c =
 
 pub returns : goal.returns
 returns c =
-    let keys = c.self.inside.keys.value.items in
+    let keys = c.self.inside.keys.items in
     let ends = c.self.inside.ends.items in
     let key = c.args.key in
     let some = c.if-key-eq0.false in
