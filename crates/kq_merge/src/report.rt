@@ -21,6 +21,7 @@ use crate::unwritten::Unwritten;
 use extent::Extent;
 use kq_model::{Memory, Row};
 pub use line::{put_counts, put_reply};
+use rayon::current_num_threads;
 use rounds::{empty_pieces, write_lines};
 use std::alloc::Global;
 use std::io::Write;
@@ -42,8 +43,8 @@ pub fn report_text(alloc: Global, rows: &[Row], records: u64) -> Result<Vec<u8>,
 /// Writes the report of rows by place, out of so many records: a line for each row, and a last line that counts calls,
 /// events and records. No row is moved, and none copied.
 ///
-/// The lines are made in pieces of a bounded number of bytes, so many at once as there are threads; 0 and 1 are the
-/// calling one. All memory is there before the first byte is written: where `rt` refuses it, nothing was. A thread
+/// The lines are made in pieces of a bounded number of bytes, so many at once as there are threads, but no more than
+/// processors; 0 and 1 threads are the calling one. All memory is there before the first byte is written: where `rt` refuses it, nothing was. A thread
 /// that does not start is no error.
 pub fn write_by_place<R: AllocGlobal + Threads + Sync, W: Write>(
     rt: &R,
@@ -60,8 +61,9 @@ pub fn write_by_place<R: AllocGlobal + Threads + Sync, W: Write>(
     let slots = by_place(alloc, rows.kqueues.as_slice(), rows.plain.as_slice())?;
     let extent = Extent::of(slots.as_slice());
     let last = extent.last_line(alloc, records)?;
-    let bytes = extent.piece_bytes()?;
-    let mut pieces = empty_pieces(alloc, extent.piece_count(threads), bytes)?;
+    let bytes = extent.piece_bytes(threads)?;
+    let count = extent.piece_count(threads, current_num_threads(rt));
+    let mut pieces = empty_pieces(alloc, count, bytes)?;
     write_lines(rt, pieces.as_mut_slice(), slots.as_slice(), bytes, out)?;
     write_out(last.as_slice(), out)
 }

@@ -7,7 +7,7 @@ ghost use Rattle.kq_merge.specs.Bounds.{line_bound};
 
 use super::bound::line_bound;
 use super::line::put_counts;
-use super::pieces::PIECE_BYTES;
+use super::pieces::piece_bytes_by;
 use super::text::{calls_in, events_in};
 use kq_model::{Memory, Reply, Row};
 use std::alloc::Global;
@@ -61,20 +61,23 @@ impl Extent {
         }
     }
 
-    /// How many bytes the buffer of a piece has: as many as the longest line at least.
-    pub fn piece_bytes(self) -> Result<usize, Memory>
+    /// How many bytes the buffer of a piece has, by so many threads: as many as the longest line at least.
+    pub fn piece_bytes(self, threads: u32) -> Result<usize, Memory>
         ensures { IfOk result (λ bytes. self.longest ≤ bytes) }
     {
-        let bytes = self.bytes.min(PIECE_BYTES).max(self.longest);
+        let bytes = self.bytes.min(piece_bytes_by(threads)).max(self.longest);
         usize::try_from(bytes).map_err(|_| Memory)
     }
 
-    /// How many pieces are made at once: one for each thread, but no more than about as many as there are.
-    pub fn piece_count(self, threads: u32) -> usize
+    /// How many pieces are made at once: one for each thread that has a processor, but no more than about as many as
+    /// there are.
+    pub fn piece_count(self, threads: u32, processors: usize) -> usize
         ensures { 0 < result }
     {
-        let others = usize::try_from(self.bytes / PIECE_BYTES).unwrap_or(usize::MAX);
-        (threads as usize).max(1).min(others.saturating_add(1))
+        let others = self.bytes / piece_bytes_by(threads);
+        let others = usize::try_from(others).unwrap_or(usize::MAX);
+        let makers = (threads as usize).min(processors);
+        makers.min(others.saturating_add(1)).max(1)
     }
 
     /// The line that counts the calls and events, and so many records.

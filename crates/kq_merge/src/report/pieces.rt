@@ -10,8 +10,22 @@ use super::line::write_reply_at;
 use kq_model::{Memory, Row};
 use std::alloc::Global;
 
-/// How many bytes the lines of a piece have at most, where no line has more.
-pub const PIECE_BYTES: u128 = 1 << 18;
+/// How many bytes the lines of a piece have at most, where no line has more and one thread makes all pieces.
+const LONE_PIECE_BYTES: u128 = 1 << 18;
+
+/// The same where several threads make pieces at once: so many that a piece takes far longer than a thread to start.
+const PIECE_BYTES: u128 = 1 << 20;
+
+/// How many bytes the lines of a piece have at most, where no line has more, by so many threads.
+pub fn piece_bytes_by(threads: u32) -> u128
+    ensures { 0 < result }
+{
+    if threads > 1 {
+        PIECE_BYTES
+    } else {
+        LONE_PIECE_BYTES
+    }
+}
 
 /// A run of slots, from one place to another, and a buffer for the lines of their rows. So many bytes of the buffer,
 /// from the first, are lines.
