@@ -14,7 +14,7 @@ use std::alloc::Global;
 const LONE_PIECE_BYTES: u128 = 1 << 18;
 
 /// The same where several threads make pieces at once: so many that a piece takes far longer than a thread to start.
-const PIECE_BYTES: u128 = 1 << 20;
+const PIECE_BYTES: u128 = 1 << 21;
 
 /// How many bytes the lines of a piece have at most, where no line has more, by so many threads.
 pub fn piece_bytes_by(threads: u32) -> u128
