@@ -14,6 +14,7 @@ mod SameSource
 mod LineLemmas
 mod Filing
 mod Briefs
+mod NotedItems
 mod Glances
 mod Sighted
 mod PickedPrivate

@@ -11,7 +11,7 @@ pub returns-then-eq-clause-line : goal.returns-then-eq-clause-line
 returns-then-eq-clause-line g c =
     let there : Source = c.in-Some.there.now in
     let equal : source_eq there c.args.source ≡ true = search rules in
-    key-there c.args.self.now.table.entries c.guess_of-guess.result c.args.source c.in-Some.field-0-1.now
+    key-there c.args.self.now.table.entries c.of-guess.result c.args.source c.in-Some.field-0-1.now
     (sym c.in-Some.ensures.entry ∙ ap (λ (s : Source). Some (s, c.in-Some.field-0-1.now)) (same-source there c.args.source equal))
 
 -- the table found it

@@ -10,7 +10,7 @@ use Rattle.kq_history.proofs.log.Log.pick.Goals as goal
 
 pub items_at-requires : goal.items_at-requires
 items_at-requires c =
-    let items = c.args.self.now.items.items in
+    let items = c.args.self.now.items in
     let sources = c.args.sources.now in
     let sorted = c.in_ok-numbers.numbers.items in
     let moved = subst (λ (ns : List ℕ). IsPermutation ns sorted) c.in_ok-gathered.ensures c.in_ok-numbers.ensures.permutation in
@@ -20,7 +20,7 @@ items_at-requires c =
 
 pub returns : goal.returns
 returns c =
-    let items = c.args.self.now.items.items in
+    let items = c.args.self.now.items in
     let sources = c.args.sources.now in
     let sorted = c.in_ok-numbers.numbers.items in
     let moved = subst (λ (ns : List ℕ). IsPermutation ns sorted) c.in_ok-gathered.ensures c.in_ok-numbers.ensures.permutation in

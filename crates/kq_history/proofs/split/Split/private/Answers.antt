@@ -25,9 +25,6 @@ pick_reached-requires-clause-distinct c =
     subst (λ (ss : List Source). IsDistinct source_eq ss) (sym c.as_slice.ensures)
     (known-there _ c.self.inside.said c.self.invariant.said c.args.kqueue c.of-concerned.result.now c.of-concerned.ensures).distinct
 
-pub pick_reached-requires-clause-shelved : goal.pick_reached-requires-clause-shelved
-pick_reached-requires-clause-shelved c = c.self.invariant.said.logged.shelved
-
 pub invariant_of-result : goal.invariant_of-result
 invariant_of-result c =
     let t : Traced = record { version = c.self.inside.version; events = c.self.inside.events.now } in
@@ -37,6 +34,6 @@ invariant_of-result c =
       own = subst (λ (x : Traced). IsPrivate x c.args.kqueue concerned.owner c.in_ok-items.items.items) same
           (is-private t c.self.inside.said c.self.invariant.said c.args.kqueue concerned c.of-concerned.ensures
           c.in_ok-items.ensures.0 c.in_ok-items.items.items
-          (subst (λ ss. AreReached (not (t.version == 1)) c.self.inside.said.log.items.items ss c.in_ok-items.ensures.0) c.as_slice.ensures c.in_ok-items.ensures.1)
+          (subst (λ ss. AreReached (not (t.version == 1)) c.self.inside.said.log.items ss c.in_ok-items.ensures.0) c.as_slice.ensures c.in_ok-items.ensures.1)
           c.in_ok-items.ensures.2);
     }
