@@ -1,4 +1,4 @@
-ghost use Rattle.std.specs.Prelude.{◌≡◌, [], None, Some, length, slice_get, unwrap_or, MatchOption, IfOk, if◌then◌else◌};
+ghost use Rattle.std.specs.Prelude.{◌≡◌, [], None, Some, length, slice_get, unwrap_or, MatchOption, IfOk, IfSome, if◌then◌else◌};
 ghost use Rattle.std.specs.HashMap.{get, keys, IsUnique};
 ghost use Rattle.kq_history.specs.Items.{source_eq};
 ghost use Rattle.kq_history.specs.Lines.{target_of, target_on, Extends, HasLine};
@@ -41,17 +41,10 @@ impl<V: Copy + Drop> Lines<V> {
         ensures line { MatchOption result (get source_eq self.now.table source ≡ None)
             (HasLine (keys self.now.table) source) }
     {
-        let lines = self.table.len();
-        let guess = self.guesses.of(source);
-        if guess < lines {
-            if let Some((there, _)) = self.table.get_index(guess) {
-                if *there == source {
-                    return Some(guess);
-                }
-            }
+        match self.guessed(source) {
+            Some(line) => Some(line),
+            None => self.sought(source),
         }
-        let (line, _, _) = self.table.get_full(&source)?;
-        Some(line)
     }
 
     /// The line of a source; if it has none it is given the next one, with this value. After Memory no line is another
@@ -62,12 +55,37 @@ impl<V: Copy + Drop> Lines<V> {
         ensures values { (s : Source) → unwrap_or (get source_eq self.new.table s) value
             ≡ unwrap_or (get source_eq self.old.table s) value }
     {
-        let line = match self.find(source) {
+        if let Some(line) = self.guessed(source) {
+            return Ok(line);
+        }
+        let line = match self.sought(source) {
             Some(line) => line,
             None => self.open(source, value)?,
         };
         self.guesses.note(source, line);
         Ok(line)
+    }
+
+    /// The line of a source, if a guess shows it.
+    fn guessed(&self, source: Source) -> Option<usize>
+        ensures unique { IsUnique source_eq self.now.table }
+        ensures line { IfSome result (HasLine (keys self.now.table) source) }
+    {
+        let guess = self.guesses.of(source);
+        if self.table.len() <= guess {
+            return None;
+        }
+        let (there, _) = self.table.get_index(guess)?;
+        if *there == source { Some(guess) } else { None }
+    }
+
+    /// The line of a source, if it has one, by the table's index.
+    fn sought(&self, source: Source) -> Option<usize>
+        ensures { MatchOption result (get source_eq self.now.table source ≡ None)
+            (HasLine (keys self.now.table) source) }
+    {
+        let (line, _, _) = self.table.get_full(&source)?;
+        Some(line)
     }
 
     /// The next line, for a source that has none.
