@@ -12,7 +12,6 @@ mod Places
 mod Sourced
 mod SameSource
 mod LineLemmas
-mod Filing
 mod Briefs
 mod NotedItems
 mod Glances

@@ -1,11 +1,9 @@
 -- A log of items in little room: its items stay as lines and steps come, and one comes behind them.
 use Rattle.std.proofs.Common.{◌≡◌, ◌∙◌, ℕ, length, List, [], ◌∷◌, ◌++◌, map, Option, Some, slice_get, sym, ap, ap₂, refl, subst}
-use Rattle.std.specs.Prelude.{All}
-use Rattle.std.proofs.lemmas.List.{append_assoc, append-nil}
+use Rattle.std.proofs.lemmas.List.{append_assoc, append-nil, map-append}
 use Rattle.std.proofs.lemmas.List.Elements.{All-append, All-cons, All-head, All-nil, All-tail, All-weaker}
 use Rattle.kq_history.specs.declared.item.Item.{Item}
 use Rattle.kq_history.specs.declared.item.Source.{Source}
-use Rattle.kq_history.specs.declared.item.What.{What}
 use Rattle.kq_history.specs.declared.note.Note.{Note}
 use Rattle.kq_history.specs.declared.note.Step.{Step}
 use Rattle.kq_history.specs.declared.note.Word.{Word}
@@ -56,10 +54,6 @@ items-on old new xs ys (n ∷ ns) on grows noted =
     ap₂ (λ (i : Item) (is : List Item). i ∷ is) here
     (items-on old new xs ys ns on grows (record { lined = noted.lined.1; settled = All-tail (λ (m : Note). IsSettled xs m.word) n ns noted.settled }))
 
-map-push : {X Y : Type 0} (f : X → Y) (xs : List X) (x : X) → map f (xs ++ x ∷ []) ≡ map f xs ++ f x ∷ []
-map-push f [] x = refl
-map-push f (z ∷ xs) x = ap (λ ys. f z ∷ ys) (map-push f xs x)
-
 module _ (old new : List Source) (xs ys : List Step) (log : List Note) (on : Extends old new) (grows : Grows xs ys) (noted : AreNoted old xs log) where
   pub stay : items_in new ys log ≡ items_in old xs log
   stay = items-on old new xs ys log on grows noted
@@ -78,16 +72,16 @@ module _ (names : List Source) (steps : List Step) (log : List Note) (n : Note) 
     (says : item_by (Some (item_source item)) steps n ≡ item) where
   pub items-push : items_in names steps (log ++ n ∷ []) ≡ items_in names steps log ++ item ∷ []
   items-push =
-      map-push (item_in names steps) log n
+      map-append (item_in names steps) log (n ∷ [])
       ∙ ap (λ (i : Item). items_in names steps log ++ i ∷ []) (ap (λ o. item_by o steps n) there ∙ says)
 
   pub noted-push : AreNoted names steps log → IsSettled steps n.word → AreNoted names steps (log ++ n ∷ [])
   noted-push noted settled =
       let sources : map item_source (items_in names steps (log ++ n ∷ [])) ≡ map item_source (items_in names steps log) ++ item_source item ∷ [] =
-      ap (λ (is : List Item). map item_source is) items-push ∙ map-push item_source (items_in names steps log) item in
+      ap (λ (is : List Item). map item_source is) items-push ∙ map-append item_source (items_in names steps log) (item ∷ []) in
       record {
         lined = subst (λ (ns : List ℕ). AreLined names ns (map item_source (items_in names steps (log ++ n ∷ []))))
-            (sym (map-push (λ (m : Note). m.line) log n))
+            (sym (map-append (λ (m : Note). m.line) log (n ∷ [])))
             (subst (λ (ss : List Source). AreLined names (lines_of log ++ n.line ∷ []) ss) (sym sources)
             (lined-push names n.line (item_source item) there (lines_of log) (map item_source (items_in names steps log)) noted.lined));
         settled = All-append (λ (m : Note). IsSettled steps m.word) log (n ∷ []) noted.settled

@@ -56,7 +56,7 @@ impl Log {
     /// The items that come from these sources, in their order. It costs these items, and where they are many a word for
     /// each 64 of the log; where they are few, a sort of them.
     pub fn pick(&self, sources: &[Source]) -> Result<Vec<Item>, Memory>
-        requires distinct { IsDistinct source_eq sources.now }
+        requires { IsDistinct source_eq sources.now }
         ensures { IfOk result (λ picked. picked.items ≡ filter (is_from sources.now) self.now.items) }
     {
         let gathered = self.numbers_of(sources)?;
@@ -83,7 +83,7 @@ impl Log {
     /// The items that come from these sources, and where children are asked for from those of the processes that
     /// descend from theirs. Else nothing tells of these, and no fork is read.
     pub fn pick_reached(&self, children: bool, named: &[Source]) -> Result<Vec<Item>, Memory>
-        requires distinct { IsDistinct source_eq named.now }
+        requires { IsDistinct source_eq named.now }
         ensures { IfOk result (λ picked. (all : List Source) × AreReached children self.now.items named.now all
             × (picked.items ≡ filter (is_from all) self.now.items)) }
     {

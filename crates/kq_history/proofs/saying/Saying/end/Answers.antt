@@ -8,7 +8,7 @@ use Rattle.kq_history.specs.Lines.{AreLined}
 use Rattle.kq_history.specs.Log.{comes_from, standing}
 use Rattle.kq_history.specs.Notes.{items_in, lines_of}
 use Rattle.kq_history.specs.Saying.{item_source}
-use Rattle.kq_history.proofs.Filing.{standing-map}
+use Rattle.kq_history.proofs.LineLemmas.{standing-map}
 use Rattle.kq_history.proofs.saying.Saying.end.Goals as goal
 
 pub of-requires : goal.of-requires

@@ -1,7 +1,6 @@
 use Rattle.std.proofs.Common.{◌≡◌, ◌∙◌, ◌++◌, ◌∷◌, [], List, Some, slice_get, sym, ap, subst, rules}
 use Rattle.std.specs.HashMap.{keys}
 use Rattle.kq_history.specs.declared.item.Item.{Item}
-use Rattle.kq_history.specs.declared.item.Source.{Source}
 use Rattle.kq_history.specs.declared.note.Note.{Note}
 use Rattle.kq_history.specs.Lines.{HasLine}
 use Rattle.kq_history.specs.Notes.{items_in}

@@ -20,8 +20,8 @@ of-concerned-requires-clause-born c =
     let same : c.self.inside.said.kqueues.places.items ≡ places_of c.args.self.now = c.self.invariant.said.kqueues.births ∙ search rules in
     subst (λ (ps : List ℕ). Contains ps c.args.kqueue) (sym same) c.requires
 
-pub pick_reached-requires-clause-distinct : goal.pick_reached-requires-clause-distinct
-pick_reached-requires-clause-distinct c =
+pub pick_reached-requires : goal.pick_reached-requires
+pick_reached-requires c =
     subst (λ (ss : List Source). IsDistinct source_eq ss) (sym c.as_slice.ensures)
     (known-there _ c.self.inside.said c.self.invariant.said c.args.kqueue c.of-concerned.result.now c.of-concerned.ensures).distinct
 
