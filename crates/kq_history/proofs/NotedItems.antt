@@ -54,28 +54,25 @@ items-on old new xs ys (n ∷ ns) on grows noted =
     ap₂ (λ (i : Item) (is : List Item). i ∷ is) here
     (items-on old new xs ys ns on grows (record { lined = noted.lined.1; settled = All-tail (λ (m : Note). IsSettled xs m.word) n ns noted.settled }))
 
-module _ (old new : List Source) (xs ys : List Step) (log : List Note) (on : Extends old new) (grows : Grows xs ys) (noted : AreNoted old xs log) where
-  pub stay : items_in new ys log ≡ items_in old xs log
-  stay = items-on old new xs ys log on grows noted
-
-  pub noted-on : AreNoted new ys log
-  noted-on = record {
-    lined = subst (λ (is : List Item). AreLined new (lines_of log) (map item_source is)) (sym stay)
-        (lined-on old new on (lines_of log) (map item_source (items_in old xs log)) noted.lined);
-    settled = All-weaker (λ (n : Note). IsSettled xs n.word) (λ (n : Note). IsSettled ys n.word)
-        (λ (n : Note) settled. settled-on xs ys grows n.word settled) log noted.settled;
-  }
+pub noted-on : (old new : List Source) (xs ys : List Step) (log : List Note) → Extends old new → Grows xs ys → AreNoted old xs log
+    → AreNoted new ys log
+noted-on old new xs ys log on grows noted = record {
+  lined = subst (λ (is : List Item). AreLined new (lines_of log) (map item_source is)) (sym (items-on old new xs ys log on grows noted))
+      (lined-on old new on (lines_of log) (map item_source (items_in old xs log)) noted.lined);
+  settled = All-weaker (λ (n : Note). IsSettled xs n.word) (λ (n : Note). IsSettled ys n.word)
+      (λ (n : Note) settled. settled-on xs ys grows n.word settled) log noted.settled;
+}
 
 -- ---- one item more
 
 module _ (names : List Source) (steps : List Step) (log : List Note) (n : Note) (item : Item) (there : HasLine names (item_source item) n.line)
     (says : item_by (Some (item_source item)) steps n ≡ item) where
-  pub items-push : items_in names steps (log ++ n ∷ []) ≡ items_in names steps log ++ item ∷ []
+  items-push : items_in names steps (log ++ n ∷ []) ≡ items_in names steps log ++ item ∷ []
   items-push =
       map-append (item_in names steps) log (n ∷ [])
       ∙ ap (λ (i : Item). items_in names steps log ++ i ∷ []) (ap (λ o. item_by o steps n) there ∙ says)
 
-  pub noted-push : AreNoted names steps log → IsSettled steps n.word → AreNoted names steps (log ++ n ∷ [])
+  noted-push : AreNoted names steps log → IsSettled steps n.word → AreNoted names steps (log ++ n ∷ [])
   noted-push noted settled =
       let sources : map item_source (items_in names steps (log ++ n ∷ [])) ≡ map item_source (items_in names steps log) ++ item_source item ∷ [] =
       ap (λ (is : List Item). map item_source is) items-push ∙ map-append item_source (items_in names steps log) (item ∷ []) in
@@ -87,3 +84,13 @@ module _ (names : List Source) (steps : List Step) (log : List Note) (n : Note) 
         settled = All-append (λ (m : Note). IsSettled steps m.word) log (n ∷ []) noted.settled
             (All-cons (λ (m : Note). IsSettled steps m.word) n [] settled (All-nil (λ (m : Note). IsSettled steps m.word)));
       }
+
+-- the log has it behind what it had
+pub one-more : (old new : List Source) (xs ys : List Step) (log more : List Note) (n : Note) (item : Item) → Extends old new → Grows xs ys
+    → AreNoted old xs log → more ≡ log ++ n ∷ [] → HasLine new (item_source item) n.line → item_by (Some (item_source item)) ys n ≡ item
+    → IsSettled ys n.word → (items_in new ys more ≡ items_in old xs log ++ item ∷ []) × AreNoted new ys more
+one-more old new xs ys log more n item on grows noted pushed there says settled = (
+  ap (items_in new ys) pushed ∙ items-push new ys log n item there says
+      ∙ ap (λ (is : List Item). is ++ item ∷ []) (items-on old new xs ys log on grows noted),
+  subst (AreNoted new ys) (sym pushed) (noted-push new ys log n item there says (noted-on old new xs ys log on grows noted) settled),
+)

@@ -1,4 +1,5 @@
-ghost use Rattle.std.specs.Prelude.{◌≡◌, [], None, Some, length, slice_get, unwrap_or, MatchOption, IfOk, IfSome, if◌then◌else◌};
+ghost use Rattle.std.specs.Prelude.{◌≡◌, [], None, Some, length, slice_get, unwrap_or, if◌then◌else◌};
+ghost use Rattle.std.specs.Prelude.{MatchOption, IfOk, IfSome};
 ghost use Rattle.std.specs.HashMap.{get, keys, IsUnique};
 ghost use Rattle.kq_history.specs.Items.{source_eq};
 ghost use Rattle.kq_history.specs.Lines.{target_of, target_on, Extends, HasLine};

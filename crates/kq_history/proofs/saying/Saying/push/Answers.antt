@@ -5,27 +5,8 @@ use Rattle.kq_history.specs.declared.note.Note.{Note}
 use Rattle.kq_history.specs.Lines.{HasLine}
 use Rattle.kq_history.specs.Notes.{items_in}
 use Rattle.kq_history.specs.Saying.{item_source, AreNoted}
-use Rattle.kq_history.proofs.NotedItems.{items-push, no-more, noted-on, noted-push, stay}
+use Rattle.kq_history.proofs.NotedItems.{no-more, noted-on, one-more}
 use Rattle.kq_history.proofs.saying.Saying.push.Goals as goal
-
-pub returns : goal.returns
-returns c =
-    let old = keys c.self.inside.lines.table in
-    let new = keys c.of.new.self.table in
-    let steps = c.self.inside.steps.items in
-    let more = c.note_of.new.steps.items in
-    let log = c.self.inside.log.items in
-    let n : Note = c.in_ok-note.note in
-    let item : Item = c.args.item in
-    let inside : items_in old steps log ≡ c.args.self.now = search rules in
-    let pushed : c.push.new.self.items ≡ log ++ n ∷ [] = search rules in
-    let source : item_source item ≡ c.source.result = search rules in
-    let there : HasLine new (item_source item) n.line =
-    ap (λ l. slice_get new l) c.in_ok-note.ensures.line ∙ c.in_ok-line.ensures.line ∙ ap Some (sym source) in
-    ap (items_in new more) pushed
-    ∙ items-push new more log n item there c.in_ok-note.ensures.item
-    ∙ ap (λ (is : List Item). is ++ item ∷ [])
-    (stay old new steps more log c.of.ensures.stay c.note_of.ensures.grows c.self.invariant ∙ inside)
 
 pub invariant_of-self : goal.invariant_of-self
 invariant_of-self c =
@@ -46,19 +27,31 @@ invariant_of-self-in_err-push c =
     (noted-on (keys c.self.inside.lines.table) new c.self.inside.steps.items more c.self.inside.log.items
     c.of.ensures.stay c.note_of.ensures.grows c.self.invariant)
 
-pub invariant_of-self-2 : goal.invariant_of-self-2
-invariant_of-self-2 c =
+pub returns : goal.returns
+returns c =
     let old = keys c.self.inside.lines.table in
     let new = keys c.of.new.self.table in
-    let steps = c.self.inside.steps.items in
-    let more = c.note_of.new.steps.items in
+    let log = c.self.inside.log.items in
+    let n : Note = c.in_ok-note.note in
+    let item : Item = c.args.item in
+    let inside : items_in old c.self.inside.steps.items log ≡ c.args.self.now = search rules in
+    let pushed : c.push.new.self.items ≡ log ++ n ∷ [] = search rules in
+    let source : item_source item ≡ c.source.result = search rules in
+    let there : HasLine new (item_source item) n.line =
+    ap (slice_get new) c.in_ok-note.ensures.line ∙ c.in_ok-line.ensures.line ∙ ap Some (sym source) in
+    (one-more old new c.self.inside.steps.items c.note_of.new.steps.items log c.push.new.self.items n item c.of.ensures.stay c.note_of.ensures.grows
+    c.self.invariant pushed there c.in_ok-note.ensures.item c.in_ok-note.ensures.settled).0
+    ∙ ap (λ (is : List Item). is ++ item ∷ []) inside
+
+pub invariant_of-self-2 : goal.invariant_of-self-2
+invariant_of-self-2 c =
+    let new = keys c.of.new.self.table in
     let log = c.self.inside.log.items in
     let n : Note = c.in_ok-note.note in
     let item : Item = c.args.item in
     let pushed : c.push.new.self.items ≡ log ++ n ∷ [] = search rules in
     let source : item_source item ≡ c.source.result = search rules in
     let there : HasLine new (item_source item) n.line =
-    ap (λ l. slice_get new l) c.in_ok-note.ensures.line ∙ c.in_ok-line.ensures.line ∙ ap Some (sym source) in
-    subst (λ (ns : List Note). AreNoted new more ns) (sym pushed)
-    (noted-push new more log n item there c.in_ok-note.ensures.item
-    (noted-on old new steps more log c.of.ensures.stay c.note_of.ensures.grows c.self.invariant) c.in_ok-note.ensures.settled)
+    ap (slice_get new) c.in_ok-note.ensures.line ∙ c.in_ok-line.ensures.line ∙ ap Some (sym source) in
+    (one-more (keys c.self.inside.lines.table) new c.self.inside.steps.items c.note_of.new.steps.items log c.push.new.self.items n item
+    c.of.ensures.stay c.note_of.ensures.grows c.self.invariant pushed there c.in_ok-note.ensures.item c.in_ok-note.ensures.settled).1
