@@ -98,8 +98,8 @@ calls-named t said is place c at =
     ∙ ap (λ v. v || list_any (source_eq (source.Kqueue place)) others) (eq_is (source.Kqueue place) (source.Kqueue b.place) ∙ eq-eqb b.place place there.2)
 
 pub is-answering : (t : Traced) (said : Said) → IsSaid t said → (place : ℕ) (c : Concerned) → IsAtPlace place said.kqueues c → (items : List Item)
-    → (sources : List Source) → AreReached (not (t.version == 1) && c.follows) said.log.items.items c.sources.list.items sources
-    → items ≡ joined (between (comes_from (source.Kqueue place)) (filter (is_from sources) said.log.items.items)) → IsAnswering t place c.owner items
+    → (sources : List Source) → AreReached (not (t.version == 1) && c.follows) said.log.items c.sources.list.items sources
+    → items ≡ joined (between (comes_from (source.Kqueue place)) (filter (is_from sources) said.log.items)) → IsAnswering t place c.owner items
 is-answering t said is place c at items sources reached picked =
     record {
       owned = owned-there t said is place c at;

@@ -13,10 +13,8 @@ use Rattle.kq_history.specs.declared.item.Item.{Item}
 use Rattle.kq_history.specs.declared.item.Source.{Source}
 use Rattle.kq_history.specs.BetweenCalls.{between, from_first, to_last}
 use Rattle.kq_history.specs.Items.{has_source, is_from, source_eq, source_of}
-use Rattle.kq_history.specs.Log.{all_standing, comes_from, is_within, item_at, standing, within_of, AreShelved}
+use Rattle.kq_history.specs.Log.{all_standing, comes_from, is_within, item_at, standing, within_of}
 use Rattle.kq_index.specs.Index.{shelved}
-use Rattle.kq_history.specs.declared.filed.Filed.{Filed}
-use Rattle.kq_history.specs.Filed.{filed_at}
 use Rattle.kq_history.proofs.Picked.{standing-from, standing-rises}
 use Rattle.kq_history.proofs.Rising.{AreFrom, DoNotFall}
 
@@ -246,10 +244,9 @@ rises-along (n ∷ ns) rises zero (suc j) d le within = from-low n ns j d rises.
 rises-along (n ∷ ns) rises (suc i) zero d le within = absurd (omega (arith, le))
 rises-along (n ∷ ns) rises (suc i) (suc j) d le within = rises-along ns rises.1 i j d (omega (arith, le)) (omega (arith, within))
 
-pub shelf-rises : {V : Type 0} (items : List Item) (shelves : Filed V) → AreShelved items shelves → (s : Source) (ns : List ℕ)
-    → ns ≡ filed_at shelves s → IsNonDecreasing ns
-shelf-rises items shelves shelved s ns is =
-    subst (λ (xs : List ℕ). IsNonDecreasing xs) (sym (is ∙ shelved s))
+pub shelf-rises : (items : List Item) (s : Source) (ns : List ℕ) → ns ≡ standing (comes_from s) 0 items → IsNonDecreasing ns
+shelf-rises items s ns is =
+    subst (λ (xs : List ℕ). IsNonDecreasing xs) (sym is)
     (rises-along (standing (comes_from s) 0 items) (standing-rises (comes_from s) 0 items))
 
 pub empty-is : (ns : List ℕ) → true ≡ (length ns == 0) → ns ≡ []

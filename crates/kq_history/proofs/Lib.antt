@@ -12,8 +12,8 @@ mod Places
 mod Sourced
 mod SameSource
 mod LineLemmas
-mod Filing
 mod Briefs
+mod NotedItems
 mod Glances
 mod Sighted
 mod PickedPrivate

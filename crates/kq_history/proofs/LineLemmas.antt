@@ -1,5 +1,5 @@
 -- Lines of sources: which line a source has, and where those of a list with lines stand.
-use Rattle.std.proofs.Common.{◌≡◌, ◌∙◌, ◌+◌, ◌<◌, ℕ, zero, suc, true, false, eqb, length, List, [], ◌∷◌, ◌++◌, ⊎_elim, Option, None, Some, option_map, slice_get, refl, sym, ap, ap₂, subst}
+use Rattle.std.proofs.Common.{◌≡◌, ◌∙◌, ◌+◌, ◌<◌, ℕ, Bool, zero, suc, true, false, eqb, length, List, [], ◌∷◌, ◌++◌, map, ⊎_elim, Option, None, Some, option_map, slice_get, refl, sym, ap, ap₂, subst}
 use Rattle.std.specs.HashMap.{HashMap, get, keys, IsUnique}
 use Rattle.std.specs.HashMap.Eq.{lookup_congr}
 use Rattle.std.specs.List.{All, AllByRecursion, IsDistinct}
@@ -119,6 +119,12 @@ lined-below names [] ss lined = All-nil (λ n. n < length names)
 lined-below names (n ∷ ns) [] lined = absurd lined
 lined-below names (n ∷ ns) (s ∷ ss) lined =
     All-cons (λ k. k < length names) n ns (slice_get_within names n s lined.0) (lined-below names ns ss lined.1)
+
+-- where things stand whose images pass a test
+pub standing-map : {X Y : Type 0} (f : X → Y) (test : Y → Bool) (from : ℕ) (xs : List X)
+    → standing test from (map f xs) ≡ standing (λ x. test (f x)) from xs
+standing-map f test from [] = refl
+standing-map f test from (x ∷ xs) = ap (λ rest. shelved (test (f x)) from ++ rest) (standing-map f test (from + 1) xs)
 
 -- where those of a source stand, by their lines
 pub lined-standing : (names : List Source) (s : Source) (from : ℕ) (ns : List ℕ) (ss : List Source) → AreLined names ns ss

@@ -153,12 +153,12 @@ owner-kept t b index pid number ns owner sources within at concerned from =
 picked-there : (t : Traced) (said : Said) → IsSaid t said → (place : ℕ) (c : Concerned) → IsAtPlace place said.kqueues c
     → (names : ℕ → ℕ → Names) (sources : List Source)
     → ((b : Birth) → IsNamedBy (moments_of t) b c → IsConcerned (names b.place b.owner) b c.owner sources)
-    → filter (is_from sources) said.log.items.items
+    → filter (is_from sources) said.log.items
     ≡ bare_items (flat_map model.items_of (private_by place c.owner (names place c.owner) (moments_of t)))
 picked-there t said is place c at names sources concerned =
     let there = named-there t said is place c at in
     let b = get_or (births_of t) there.0 no_birth in
-    is.logged.items (is_from sources) (λ here pid number from. owner-kept t b there.0 pid number (names b.place b.owner) c.owner sources there.1 refl (concerned b there.3) from)
+    is.logged (is_from sources) (λ here pid number from. owner-kept t b there.0 pid number (names b.place b.owner) c.owner sources there.1 refl (concerned b there.3) from)
     ∙ picked-private (names b.place b.owner) (moments_of t) b c.owner sources (concerned b there.3)
     ∙ ap₂ (λ p o. bare_items (flat_map model.items_of (private_by p o (names p o) (moments_of t)))) there.2 (sym there.3.owner_is)
 
@@ -184,14 +184,14 @@ no-forks (m ∷ ms) all =
 module _ (t : Traced) (said : Said) (is : IsSaid t said) (place : ℕ) (c : Concerned) (at : IsAtPlace place said.kqueues c) (sources : List Source) where
   -- in a later version than 1 the processes that descend from those that are named are reached
   reached-later : (b : Birth) → IsNamedBy (moments_of t) b c → (t.version == 1) ≡ false
-      → AreWithChildren said.log.items.items c.sources.list.items sources
+      → AreWithChildren said.log.items c.sources.list.items sources
       → IsConcerned (names_in (forks_at (moments_of t)) (references b.place b.owner (moments_of t))) b c.owner sources
   reached-later b named later with_children =
       concerned-later (moments_of t) b c sources named
       (All-weaker (λ (m : Moment). m.version ≡ t.version) (λ (m : Moment). eqb m.version 1 ≡ false) (λ m of. ap (λ n. eqb n 1) of ∙ later) (moments_of t)
       (all-version t.version 1 (empty_world listed) (plans listed t.version t.events)))
       (born-first listed t.version t.events)
-      (children-same (kept_by t) (bare_items (model.all_items (moments_of t))) said.log.items.items is.logged.items c.sources.list.items sources with_children)
+      (children-same (kept_by t) (bare_items (model.all_items (moments_of t))) said.log.items is.logged c.sources.list.items sources with_children)
 
   -- where no fork is asked for
   reached-none : (b : Birth) → IsNamedBy (moments_of t) b c → (forks : List Fork) → forks ≡ [] → sources ≡ c.sources.list.items
@@ -208,45 +208,45 @@ module _ (t : Traced) (said : Said) (is : IsSaid t said) (place : ℕ) (c : Conc
       (All-weaker (λ (m : Moment). m.version ≡ t.version) (λ (m : Moment). m.version ≡ 1) (λ m of. of ∙ eqb-true t.version 1 one) (moments_of t)
       (all-version t.version 1 (empty_world listed) (plans listed t.version t.events)))
 
-  reached-all : AreReached (not (t.version == 1)) said.log.items.items c.sources.list.items sources
+  reached-all : AreReached (not (t.version == 1)) said.log.items c.sources.list.items sources
       → (b : Birth) → IsNamedBy (moments_of t) b c
       → IsConcerned (names_in (forks_at (moments_of t)) (references b.place b.owner (moments_of t))) b c.owner sources
   reached-all reached b named =
-      by_test (λ v. (t.version == 1) ≡ v → AreReached (not v) said.log.items.items c.sources.list.items sources
+      by_test (λ v. (t.version == 1) ≡ v → AreReached (not v) said.log.items c.sources.list.items sources
       → IsConcerned (names_in (forks_at (moments_of t)) (references b.place b.owner (moments_of t))) b c.owner sources) (t.version == 1)
       (λ _ one same. reached-none b named (forks_at (moments_of t)) (none-at-first one) same)
       (λ _ later with_children. reached-later b named later with_children) refl reached
 
-  reached-met : AreReached (not (t.version == 1) && c.follows) said.log.items.items c.sources.list.items sources
+  reached-met : AreReached (not (t.version == 1) && c.follows) said.log.items c.sources.list.items sources
       → (b : Birth) → IsNamedBy (moments_of t) b c
       → IsConcerned (names_met b.place b.owner (moments_of t)) b c.owner sources
   reached-met reached b named =
-      by_test (λ f. c.follows ≡ f → AreReached (not (t.version == 1) && f) said.log.items.items c.sources.list.items sources
+      by_test (λ f. c.follows ≡ f → AreReached (not (t.version == 1) && f) said.log.items c.sources.list.items sources
       → IsConcerned (names_met b.place b.owner (moments_of t)) b c.owner sources) c.follows
       (λ _ does have.
       subst (λ f. IsConcerned (names_in (cond f (forks_at (moments_of t)) []) (references b.place b.owner (moments_of t))) b c.owner sources)
       (sym does ∙ named.follows)
-      (reached-all (subst (λ v. AreReached v said.log.items.items c.sources.list.items sources) (and_true (not (t.version == 1))) have) b named))
+      (reached-all (subst (λ v. AreReached v said.log.items c.sources.list.items sources) (and_true (not (t.version == 1))) have) b named))
       (λ _ none same.
       subst (λ f. IsConcerned (names_in (cond f (forks_at (moments_of t)) []) (references b.place b.owner (moments_of t))) b c.owner sources)
       (sym none ∙ named.follows)
-      (reached-none b named [] refl (subst (λ v. AreReached v said.log.items.items c.sources.list.items sources) (and_right (not (t.version == 1)) false refl) same)))
+      (reached-none b named [] refl (subst (λ v. AreReached v said.log.items c.sources.list.items sources) (and_right (not (t.version == 1)) false refl) same)))
       refl reached
     where
       and_true : (b : Bool) → (b && true) ≡ b
       and_true true = refl
       and_true false = refl
 
-  pub is-private : (items : List Item) → AreReached (not (t.version == 1)) said.log.items.items c.sources.list.items sources
-      → items ≡ filter (is_from sources) said.log.items.items → IsPrivate t place c.owner items
+  pub is-private : (items : List Item) → AreReached (not (t.version == 1)) said.log.items c.sources.list.items sources
+      → items ≡ filter (is_from sources) said.log.items → IsPrivate t place c.owner items
   is-private items reached picked = record {
     owned = owned-there t said is place c at;
     items_are = picked ∙ picked-there t said is place c at (λ p o. names_in (forks_at (moments_of t)) (references p o (moments_of t))) sources (reached-all reached);
   }
 
   -- what is picked where children are asked for in a later version than 1 alone, and by a kqueue that follows some
-  pub picked-met : AreReached (not (t.version == 1) && c.follows) said.log.items.items c.sources.list.items sources
-      → filter (is_from sources) said.log.items.items ≡ items_met place c.owner (moments_of t)
+  pub picked-met : AreReached (not (t.version == 1) && c.follows) said.log.items c.sources.list.items sources
+      → filter (is_from sources) said.log.items ≡ items_met place c.owner (moments_of t)
   picked-met reached = picked-there t said is place c at (λ p o. names_met p o (moments_of t)) sources (reached-met reached)
 
 -- whose list it is

@@ -390,17 +390,13 @@ module _ (t : Traced) (e : Event) (counts : IsCountedWorld (end t e) (now t e)) 
   said-next (Impossible why) is effect refused next leads silent s s' said silent_is heard =
       let none : s' ≡ s = subst (λ v. IsHeardBy v silent (end t e) e effect (now t e) next s s') refused.verdict heard in
       subst (IsHearing (longer t e)) (sym none) (record {
-        logged = record { items = refused-said why is s.log.items.items said.logged.items; lined = said.logged.lined };
+        logged = refused-said why is s.log said.logged;
         kqueues = refused-kqueues why is s.kqueues said.kqueues;
       })
   said-next (Possible p) is effect done next leads silent s s' said silent_is heard =
       let once = possible effect.verdict done.verdict heard in
       record {
-        logged = record {
-          items = done-said p is effect done silent (contains nat_eq s.kqueues.owners) said.kqueues.owners silent_is s.log.items.items s'.log.items.items
-              said.logged.items once.items;
-          lined = once.lined said.logged.lined;
-        };
+        logged = done-said p is effect done silent (contains nat_eq s.kqueues.owners) said.kqueues.owners silent_is s.log s'.log said.logged once.items;
         kqueues = done-kqueues p is effect done s.kqueues s'.kqueues said.kqueues
             (subst (λ w. AreHeard (end t e) (born_of e) (call_by e (kqueue_of e (now t e))) (views_of w) s.kqueues s'.kqueues) (leads p refl) once.kqueues);
       }

@@ -26,7 +26,6 @@ use Rattle.kq_history.specs.declared.hearing.Hearing.{Hearing}
 use Rattle.kq_history.specs.Heard.{IsHeard}
 use Rattle.kq_history.specs.Kept.{is_silent}
 use Rattle.kq_history.specs.Said.{AreNamedBy, AreTheKqueues, IsHearing}
-use Rattle.kq_history.specs.Saying.{AreLinedUp}
 use Rattle.kq_history.specs.Sayings.{kqueue_of}
 use Rattle.kq_history.specs.Traced.{Traced, births_of, longer, places_of}
 use Rattle.kq_history.specs.Tracked.{IsWorldAfter}
@@ -94,14 +93,11 @@ few-kqueues t =
 
 -- ---- no record
 
-pub first-said : (version : ℕ) (s : Hearing) → s.log.items.items ≡ [] → AreLinedUp s.log → s.kqueues.places.items ≡ []
+pub first-said : (version : ℕ) (s : Hearing) → s.log ≡ [] → s.kqueues.places.items ≡ []
     → s.kqueues.concerned.items ≡ [] → ((pid : ℕ) → contains nat_eq s.kqueues.owners pid ≡ false) → IsHearing (record { version = version; events = [] }) s
 unfolding plans_from moments_from births_from
-first-said version s items lined places concerned none = record {
-  logged = record {
-    items = λ test keeps. ap (filter test) items;
-    lined = lined;
-  };
+first-said version s items places concerned none = record {
+  logged = λ test keeps. ap (filter test) items;
   kqueues = record {
     births = places;
     owners = none;

@@ -1,5 +1,5 @@
 -- Sources to which the children of their processes come, one source after the other.
-use Rattle.std.proofs.Common.{◌≡◌, ◌∙◌, ◌<◌, ◌≤◌, ◌&&◌, ◌||◌, ℕ, Bool, true, false, cond, List, [], ◌∷◌, ◌++◌, map, filter, length, get_or, slice_get, zero, suc, Some, None, refl, sym, ap, ap₂, arith}
+use Rattle.std.proofs.Common.{◌≡◌, ◌∙◌, ◌≤◌, ◌&&◌, ◌||◌, ℕ, Bool, true, false, cond, List, [], ◌∷◌, ◌++◌, map, filter, length, slice_get, zero, suc, Some, None, refl, sym, ap, ap₂, arith}
 use Rattle.std.specs.List.{All, Contains, flat_map}
 use Rattle.std.proofs.lemmas.Bool.{and_from, and_parts, eq-eqb, eqb-true, false≢true, or_left, or_right}
 use Rattle.std.proofs.lemmas.Option.{none-some, same_Some}
@@ -146,9 +146,3 @@ pub past : (ss : List Source) (n : ℕ) → slice_get ss n ≡ None → length s
 past [] n none = omega arith
 past (x ∷ ss) zero none = absurd (none-some x (sym none))
 past (x ∷ ss) (suc n) none = omega (arith, past ss n none)
-
--- within the list no default is read
-pub read-inside : (items : List Item) (n : ℕ) (a b : Item) → n < length items → get_or items n a ≡ get_or items n b
-read-inside [] n a b inside = absurd (omega (arith, inside))
-read-inside (i ∷ items) zero a b inside = refl
-read-inside (i ∷ items) (suc n) a b inside = read-inside items n a b (omega (arith, inside))

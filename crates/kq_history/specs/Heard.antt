@@ -7,16 +7,14 @@ use Rattle.kq_model.specs.World.{World, views_of}
 use Rattle.kq_process.specs.declared.effect.Effect.{Effect}
 use Rattle.kq_history.specs.declared.hearing.Hearing.{Hearing}
 use Rattle.kq_history.specs.Kept.{heard_closes}
-use Rattle.kq_history.specs.Saying.{StaysLined}
 use Rattle.kq_history.specs.Said.{said_items, AreHeard}
 use Rattle.kq_history.specs.Sayings.{born_of, call_by, clock_of, kqueue_of}
 
 -- of a possible one, with the worlds before it and after it, where `silent` says whether its closes concern no kqueue
 pub record IsSaidOnce (silent : Bool) (place : ℕ) (e : Event) (effect : Effect) (before after : World counted)
     (old new : Hearing) : Type 0 where
-  pub items : new.log.items.items ≡ old.log.items.items
+  pub items : new.log ≡ old.log
       ++ said_items place (heard_closes silent effect.closed) effect.hints (clock_of e before.now) (kqueue_of e before)
-  pub lined : StaysLined old.log new.log
   pub kqueues : AreHeard place (born_of e) (call_by e (kqueue_of e before)) (views_of after) old.kqueues new.kqueues
 
 abbrev pub IsHeardBy : Result (Unit {0}) Why → Bool → ℕ → Event → Effect → World counted → World counted

@@ -18,14 +18,10 @@ use Rattle.kq_history.specs.declared.item.Source.{Source}
 use Rattle.kq_history.specs.declared.kqueues.Concerned.{Concerned}
 use Rattle.kq_history.specs.declared.kqueues.Kqueues.{Kqueues}
 use Rattle.kq_history.specs.declared.hearing.Hearing.{Hearing}
-use Rattle.kq_history.specs.declared.log.Log.{Log}
 use Rattle.kq_history.specs.declared.said.Said.{Said}
-use Rattle.kq_history.specs.declared.saying.Saying.{Saying}
 use Rattle.kq_history.specs.Items.{bare_items, has_source}
 use Rattle.kq_history.specs.Kept.{has_owner, is_kept, SaysAll}
 use Rattle.kq_history.specs.Kqueues.{HasMaker, IsNamedAt, IsNew}
-use Rattle.kq_history.specs.Log.{AreShelved}
-use Rattle.kq_history.specs.Saying.{AreLinedUp}
 use Rattle.kq_history.specs.Sources.{AreKnown, named_sources}
 use Rattle.kq_history.specs.Traced.{Traced, births_of, moments_of, places_of, world_at_end}
 
@@ -84,16 +80,6 @@ kept_by t = is_kept (births_of t) (world_at_end t).processes
 abbrev pub AreAllSaid : Traced → List Item → Type 0
 AreAllSaid t items = SaysAll (kept_by t) (bare_items (all_items (moments_of t))) items
 
--- the items are all that they say, with the lines of their sources
-pub record IsLoggedSoFar (t : Traced) (l : Saying) : Type 0 where
-  pub items : AreAllSaid t l.items.items
-  pub lined : AreLinedUp l
-
--- the log has all that they say
-pub record IsLogged (t : Traced) (l : Log) : Type 0 where
-  pub items : AreAllSaid t l.items.items
-  pub shelved : AreShelved l.items.items l.shelves
-
 -- these are their kqueues, with what concerns each
 pub record AreTheKqueues (t : Traced) (k : Kqueues) : Type 0 where
   pub births : k.places.items ≡ places_of t
@@ -102,9 +88,9 @@ pub record AreTheKqueues (t : Traced) (k : Kqueues) : Type 0 where
   pub calls : All (CallsBelow (length t.events + 1)) (moments_of t)
 
 pub record IsHearing (t : Traced) (h : Hearing) : Type 0 where
-  pub logged : IsLoggedSoFar t h.log
+  pub logged : AreAllSaid t h.log
   pub kqueues : AreTheKqueues t h.kqueues
 
 pub record IsSaid (t : Traced) (s : Said) : Type 0 where
-  pub logged : IsLogged t s.log
+  pub logged : AreAllSaid t s.log.items
   pub kqueues : AreTheKqueues t s.kqueues

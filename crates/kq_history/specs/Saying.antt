@@ -1,18 +1,16 @@
--- The lines of the sources of items, one after the other.
-use Rattle.std.specs.Prelude.{map}
-use Rattle.std.specs.HashMap.{keys}
+-- A log of items, while they come: by its lines each is of its source.
+use Rattle.std.specs.Prelude.{All, List, map}
 use Rattle.kq_history.specs.declared.item.Item.{Item}
 use Rattle.kq_history.specs.declared.item.Source.{Source}
-use Rattle.kq_history.specs.declared.saying.Saying.{Saying}
+use Rattle.kq_history.specs.declared.note.Note.{Note}
+use Rattle.kq_history.specs.declared.note.Step.{Step}
 use Rattle.kq_history.specs.Items.{source_of}
 use Rattle.kq_history.specs.Lines.{AreLined}
+use Rattle.kq_history.specs.Notes.{items_in, lines_of, IsSettled}
 
 abbrev pub item_source : Item → Source
 item_source i = source_of i.what
 
-abbrev pub AreLinedUp : Saying → Type 0
-AreLinedUp s = AreLined (keys s.lines.table) s.line_of.items (map item_source s.items.items)
-
--- they still are, if they were
-abbrev pub StaysLined : Saying → Saying → Type 0
-StaysLined old new = AreLinedUp old → AreLinedUp new
+pub record AreNoted (names : List Source) (steps : List Step) (log : List Note) : Type 0 where
+  pub lined : AreLined names (lines_of log) (map item_source (items_in names steps log))
+  pub settled : All (λ (n : Note). IsSettled steps n.word) log

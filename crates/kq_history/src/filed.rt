@@ -21,7 +21,8 @@ impl<V: Copy + Drop> Filed<V> {
     /// Of a list of things, by the lines of their sources. Memory: a growth was refused.
     pub fn of(alloc: Global, lines: Lines<V>, line_of: Vec<u32>) -> Result<Self, Memory>
         requires { (sources : List Source) × AreLined (keys lines.table) line_of.items sources }
-        ensures { IfOk result (λ filed. (sources : List Source)
+        ensures lines { IfOk result (λ filed. filed.lines ≡ lines) }
+        ensures filed { IfOk result (λ filed. (sources : List Source)
             → AreLined (keys lines.table) line_of.items sources → AreFiled sources filed) }
     {
         let count = lines.count();

@@ -9,7 +9,6 @@ ghost use Rattle.kq_process.specs.Effects.{pairs_in};
 ghost use Rattle.kq_process.specs.World.{world_of};
 ghost use Rattle.kq_history.specs.Kept.{heard_closes, is_silent};
 ghost use Rattle.kq_history.specs.Said.{called_items, said_items, said_whats, AreHeard};
-ghost use Rattle.kq_history.specs.Saying.{StaysLined};
 ghost use Rattle.kq_history.specs.Sayings.{born_of, call_by, clock_of, kqueue_of};
 
 use crate::item::{Item, What};
@@ -132,10 +131,9 @@ impl Hearing {
     ) -> Result<(), Memory>
         requires rising { IsStrictlyIncreasing self.old.kqueues.places.items }
         requires one_each { length self.old.kqueues.concerned.items ≡ length self.old.kqueues.places.items }
-        ensures items { OnOk result (self.new.log.items.items ≡ self.old.log.items.items
+        ensures items { OnOk result (self.new.log ≡ self.old.log
             ++ said_items place (heard_closes before.silent effect.now.closed) effect.now.hints
             (clock_of event.now before.clock) before.kqueue) }
-        ensures lined { OnOk result (StaysLined self.old.log self.new.log) }
         ensures kqueues { OnOk result (AreHeard place (born_of event.now) (call_by event.now before.kqueue)
             (views_of (world_of world.now)) self.old.kqueues self.new.kqueues) }
     {
@@ -155,9 +153,8 @@ fn push_closes(
     closed: &[(u32, u32)],
     silent: bool,
 ) -> Result<(), Memory>
-    ensures items { OnOk result (log.new.items.items
-        ≡ log.old.items.items ++ said_whats place (map Closed (pairs_in (heard_closes silent closed.now)))) }
-    ensures lined { OnOk result (StaysLined log.old log.new) }
+    ensures { OnOk result (log.new
+        ≡ log.old ++ said_whats place (map Closed (pairs_in (heard_closes silent closed.now)))) }
 {
     if silent {
         return Ok(());
@@ -166,9 +163,8 @@ fn push_closes(
 }
 
 fn push_closed(log: &mut Saying, place: u64, closed: &[(u32, u32)]) -> Result<(), Memory>
-    ensures items { OnOk result (log.new.items.items
-        ≡ log.old.items.items ++ said_whats place (map Closed (pairs_in closed.now))) }
-    ensures lined { OnOk result (StaysLined log.old log.new) }
+    ensures { OnOk result (log.new
+        ≡ log.old ++ said_whats place (map Closed (pairs_in closed.now))) }
 {
     for pair in closed {
         let what = What::Closed {
@@ -181,9 +177,8 @@ fn push_closed(log: &mut Saying, place: u64, closed: &[(u32, u32)]) -> Result<()
 }
 
 fn push_told(log: &mut Saying, place: u64, hints: &[(Target, Hint)]) -> Result<(), Memory>
-    ensures items { OnOk result (log.new.items.items
-        ≡ log.old.items.items ++ said_whats place (map Told hints.now)) }
-    ensures lined { OnOk result (StaysLined log.old log.new) }
+    ensures { OnOk result (log.new
+        ≡ log.old ++ said_whats place (map Told hints.now)) }
 {
     for told in hints {
         let what = What::Told {
@@ -197,9 +192,8 @@ fn push_told(log: &mut Saying, place: u64, hints: &[(Target, Hint)]) -> Result<(
 
 #[tactic(auto, unfolding(crate::specs::Sayings::clock_of, crate::specs::Sayings::span_to, kq_model::specs::Items::clock_whats))]
 fn push_clock(log: &mut Saying, place: u64, event: &Event, from: u64) -> Result<(), Memory>
-    ensures items { OnOk result (log.new.items.items
-        ≡ log.old.items.items ++ said_whats place (clock_whats (clock_of event.now from))) }
-    ensures lined { OnOk result (StaysLined log.old log.new) }
+    ensures { OnOk result (log.new
+        ≡ log.old ++ said_whats place (clock_whats (clock_of event.now from))) }
 {
     match event {
         Event::Clock { ns } => {
@@ -217,8 +211,7 @@ fn push_clock(log: &mut Saying, place: u64, event: &Event, from: u64) -> Result<
 }
 
 fn push_call(log: &mut Saying, place: u64, kqueue: Option<u64>) -> Result<(), Memory>
-    ensures items { OnOk result (log.new.items.items ≡ log.old.items.items ++ called_items place kqueue) }
-    ensures lined { OnOk result (StaysLined log.old log.new) }
+    ensures { OnOk result (log.new ≡ log.old ++ called_items place kqueue) }
 {
     match kqueue {
         None => Ok(()),

@@ -14,6 +14,8 @@ mod lines;
 mod listing;
 mod log;
 mod looking;
+mod note;
+mod notes;
 mod numbers;
 mod ordering;
 mod plain;

@@ -1,4 +1,5 @@
-ghost use Rattle.std.specs.Prelude.{◌≡◌, [], None, Some, length, unwrap_or, MatchOption, IfOk, if◌then◌else◌};
+ghost use Rattle.std.specs.Prelude.{◌≡◌, [], None, Some, length, slice_get, unwrap_or, if◌then◌else◌};
+ghost use Rattle.std.specs.Prelude.{MatchOption, IfOk, IfSome};
 ghost use Rattle.std.specs.HashMap.{get, keys, IsUnique};
 ghost use Rattle.kq_history.specs.Items.{source_eq};
 ghost use Rattle.kq_history.specs.Lines.{target_of, target_on, Extends, HasLine};
@@ -41,17 +42,10 @@ impl<V: Copy + Drop> Lines<V> {
         ensures line { MatchOption result (get source_eq self.now.table source ≡ None)
             (HasLine (keys self.now.table) source) }
     {
-        let lines = self.table.len();
-        let guess = guess_of(&self.guesses, source);
-        if guess < lines {
-            if let Some((there, _)) = self.table.get_index(guess) {
-                if *there == source {
-                    return Some(guess);
-                }
-            }
+        match self.guessed(source) {
+            Some(line) => Some(line),
+            None => self.sought(source),
         }
-        let (line, _, _) = self.table.get_full(&source)?;
-        Some(line)
     }
 
     /// The line of a source; if it has none it is given the next one, with this value. After Memory no line is another
@@ -62,10 +56,37 @@ impl<V: Copy + Drop> Lines<V> {
         ensures values { (s : Source) → unwrap_or (get source_eq self.new.table s) value
             ≡ unwrap_or (get source_eq self.old.table s) value }
     {
-        match self.find(source) {
-            Some(line) => Ok(line),
-            None => self.open(source, value),
+        if let Some(line) = self.guessed(source) {
+            return Ok(line);
         }
+        let line = match self.sought(source) {
+            Some(line) => line,
+            None => self.open(source, value)?,
+        };
+        self.guesses.note(source, line);
+        Ok(line)
+    }
+
+    /// The line of a source, if a guess shows it.
+    fn guessed(&self, source: Source) -> Option<usize>
+        ensures unique { IsUnique source_eq self.now.table }
+        ensures line { IfSome result (HasLine (keys self.now.table) source) }
+    {
+        let guess = self.guesses.of(source);
+        if self.table.len() <= guess {
+            return None;
+        }
+        let (there, _) = self.table.get_index(guess)?;
+        if *there == source { Some(guess) } else { None }
+    }
+
+    /// The line of a source, if it has one, by the table's index.
+    fn sought(&self, source: Source) -> Option<usize>
+        ensures { MatchOption result (get source_eq self.now.table source ≡ None)
+            (HasLine (keys self.now.table) source) }
+    {
+        let (line, _, _) = self.table.get_full(&source)?;
+        Some(line)
     }
 
     /// The next line, for a source that has none.
@@ -78,7 +99,7 @@ impl<V: Copy + Drop> Lines<V> {
     {
         let line = self.table.len();
         self.table.insert(source, value)?;
-        note_line(&mut self.guesses, source, line);
+        self.guesses.widen_for(line);
         Ok(line)
     }
 
@@ -92,14 +113,21 @@ impl<V: Copy + Drop> Lines<V> {
         }
     }
 
+    /// The source of a line, if there is such a line.
+    pub fn source_at(&self, line: usize) -> Option<Source>
+        ensures { result ≡ slice_get (keys self.now.table) line }
+    {
+        match self.table.get_index(line) {
+            Some((source, _)) => Some(*source),
+            None => None,
+        }
+    }
+
     /// The target of a line, where it is a target's.
     pub fn target_at(&self, line: usize) -> Target
         ensures { result ≡ target_on (keys self.now.table) line }
     {
-        match self.table.get_index(line) {
-            Some((source, _)) => target_of(*source),
-            None => Target::Own,
-        }
+        target_of(self.source_at(line))
     }
 
     /// Puts another value beside a line.
@@ -115,38 +143,12 @@ impl<V: Copy + Drop> Lines<V> {
     }
 }
 
-/// The target that the source is, if it is one.
-fn target_of(source: Source) -> Target
-    ensures { result ≡ target_of (Some source) }
+/// The target that a source is, if it is one.
+pub fn target_of(source: Option<Source>) -> Target
+    ensures { result ≡ target_of source }
 {
     match source {
-        Source::Of(target) => target,
+        Some(Source::Of(target)) => target,
         _ => Target::Own,
-    }
-}
-
-/// On which line a source may be.
-fn guess_of(guesses: &Guesses, source: Source) -> usize {
-    match number_of(source) {
-        Some(number) => guesses.of(number),
-        None => 0,
-    }
-}
-
-/// Notes on which line a source is.
-fn note_line(guesses: &mut Guesses, source: Source, line: usize) {
-    if let Some(number) = number_of(source) {
-        guesses.note(number, line);
-    }
-}
-
-/// What tells most sources apart: the place of the record that made the thing, as far as it was made by one.
-fn number_of(source: Source) -> Option<usize> {
-    match source {
-        Source::Of(Target::Socket(place) | Target::Pipe(place) | Target::Open(place))
-        | Source::Kqueue(place) => usize::try_from(place).ok(),
-        Source::Of(Target::File(_) | Target::Process(_) | Target::Signal { .. } | Target::Own)
-        | Source::Number { .. }
-        | Source::Clock => None,
     }
 }

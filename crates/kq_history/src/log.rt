@@ -6,39 +6,36 @@ ghost use Rattle.kq_history.specs.BetweenCalls.{between};
 ghost use Rattle.kq_history.specs.Children.{child_told, children_at, children_of, is_of_process, AreReached};
 ghost use Rattle.kq_history.specs.Children.{AreWithChildren};
 ghost use Rattle.kq_history.specs.Items.{has_source, is_from, source_eq};
-ghost use Rattle.kq_history.specs.Log.{all_standing, comes_from, is_within, item_at, AreShelved};
+ghost use Rattle.kq_history.specs.Log.{all_standing, comes_from, is_within, item_at};
 ghost use Rattle.kq_history.specs.Log.{others_within, steps_within, within_of};
 ghost use Rattle.kq_history.specs.Sources.{AreKnown, Begins, Grows};
 ghost use Rattle.kq_history.specs.Steps.{joined};
 ghost use Rattle.kq_history.specs.declared.item.Source.{Source};
 ghost use Rattle.kq_history.specs.declared.item.Source.TheVariants.{Clock};
 
-use crate::filed::Filed;
 use crate::item::{Item, Source, What};
+use crate::notes::Notes;
 use crate::ordering::in_order;
 use crate::sources::Sources;
 use crate::weave::woven;
 use kq_model::{Hint, Memory, Target};
 use std::alloc::Global;
 
-/// All that the records of a trace say to kqueues, in order. The shelves say where the items of each source stand
-/// (`AreShelved`).
+/// All that the records of a trace say to kqueues, in order.
 #[derive(Drop)]
 pub struct Log {
-    pub(crate) items: Vec<Item>,
-    pub(crate) shelves: Filed<()>,
+    pub(crate) items: Notes,
     pub(crate) alloc: Global,
 }
 
 impl Log {
     /// Where the items of these sources stand, source by source.
     fn numbers_of(&self, sources: &[Source]) -> Result<Vec<usize>, Memory>
-        requires { AreShelved self.now.items.items self.now.shelves }
-        ensures { IfOk result (λ numbers. numbers.items ≡ all_standing self.now.items.items sources.now) }
+        ensures { IfOk result (λ numbers. numbers.items ≡ all_standing self.now.items sources.now) }
     {
         let mut numbers = Vec::new(self.alloc);
         for source in sources {
-            let standing = self.shelves.at(*source);
+            let standing = self.items.at(*source);
             numbers.extend_from_slice(standing)?;
         }
         Ok(numbers)
@@ -46,12 +43,12 @@ impl Log {
 
     /// The items that stand there.
     fn items_at(&self, numbers: &[usize]) -> Result<Vec<Item>, Memory>
-        requires { All (λ n. n < length self.now.items.items) numbers.now }
-        ensures { IfOk result (λ picked. picked.items ≡ map (item_at self.now.items.items) numbers.now) }
+        requires { All (λ n. n < length self.now.items) numbers.now }
+        ensures { IfOk result (λ picked. picked.items ≡ map (item_at self.now.items) numbers.now) }
     {
         let mut picked = Vec::with_capacity(self.alloc, numbers.len())?;
         for number in numbers {
-            picked.push(self.items[*number])?;
+            picked.push(self.items.get(*number))?;
         }
         Ok(picked)
     }
@@ -59,21 +56,19 @@ impl Log {
     /// The items that come from these sources, in their order. It costs these items, and where they are many a word for
     /// each 64 of the log; where they are few, a sort of them.
     pub fn pick(&self, sources: &[Source]) -> Result<Vec<Item>, Memory>
-        requires distinct { IsDistinct source_eq sources.now }
-        requires shelved { AreShelved self.now.items.items self.now.shelves }
-        ensures { IfOk result (λ picked. picked.items ≡ filter (is_from sources.now) self.now.items.items) }
+        requires { IsDistinct source_eq sources.now }
+        ensures { IfOk result (λ picked. picked.items ≡ filter (is_from sources.now) self.now.items) }
     {
         let gathered = self.numbers_of(sources)?;
-        let numbers = in_order(self.alloc, gathered, 0, self.items.len())?;
+        let numbers = in_order(self.alloc, gathered, 0, self.items.count())?;
         self.items_at(numbers.as_slice())
     }
 
     /// The sources with those of the processes that descend from theirs, by what the items say of
     /// forks. It costs the items of these processes, which are among those that are picked.
     pub fn with_children(&self, named: &[Source]) -> Result<Sources, Memory>
-        requires { AreShelved self.now.items.items self.now.shelves }
         ensures known { IfOk result AreKnown }
-        ensures sources { IfOk result (λ all. AreWithChildren self.now.items.items named.now all.list.items) }
+        ensures sources { IfOk result (λ all. AreWithChildren self.now.items named.now all.list.items) }
     {
         let mut all = Sources::of(self.alloc, named)?;
         for next in 0..usize::MAX {
@@ -88,10 +83,9 @@ impl Log {
     /// The items that come from these sources, and where children are asked for from those of the processes that
     /// descend from theirs. Else nothing tells of these, and no fork is read.
     pub fn pick_reached(&self, children: bool, named: &[Source]) -> Result<Vec<Item>, Memory>
-        requires distinct { IsDistinct source_eq named.now }
-        requires shelved { AreShelved self.now.items.items self.now.shelves }
-        ensures { IfOk result (λ picked. (all : List Source) × AreReached children self.now.items.items named.now all
-            × (picked.items ≡ filter (is_from all) self.now.items.items)) }
+        requires { IsDistinct source_eq named.now }
+        ensures { IfOk result (λ picked. (all : List Source) × AreReached children self.now.items named.now all
+            × (picked.items ≡ filter (is_from all) self.now.items)) }
     {
         if !children {
             return self.pick(named);
@@ -109,9 +103,8 @@ impl Log {
     ) -> Result<Vec<Item>, Memory>
         requires distinct { IsDistinct source_eq named.now }
         requires there { has_source named.now source ≡ true }
-        requires shelved { AreShelved self.now.items.items self.now.shelves }
-        ensures { IfOk result (λ picked. (all : List Source) × AreReached children self.now.items.items named.now all
-            × (picked.items ≡ joined (between (comes_from source) (filter (is_from all) self.now.items.items)))) }
+        ensures { IfOk result (λ picked. (all : List Source) × AreReached children self.now.items named.now all
+            × (picked.items ≡ joined (between (comes_from source) (filter (is_from all) self.now.items)))) }
     {
         if !children {
             return self.pick_between(named, source);
@@ -122,24 +115,23 @@ impl Log {
 
     /// The children of which the items of a source tell.
     fn add_children(&self, all: &mut Sources, source: Source) -> Result<(), Memory>
-        requires { AreShelved self.now.items.items self.now.shelves }
-        ensures grows { OnOk result (Grows (children_of self.now.items.items source) all.old all.new) }
+        ensures grows { OnOk result (Grows (children_of self.now.items source) all.old all.new) }
         ensures begins { OnOk result (Begins all.old.list.items all.new.list.items) }
     {
         if !is_of_process(source) {
             return Ok(());
         }
-        self.add_told(all, self.shelves.at(source))
+        self.add_told(all, self.items.at(source))
     }
 
     /// The children of which the items at these places tell.
     fn add_told(&self, all: &mut Sources, numbers: &[usize]) -> Result<(), Memory>
-        requires { All (λ n. n < length self.now.items.items) numbers.now }
-        ensures grows { OnOk result (Grows (children_at self.now.items.items numbers.now) all.old all.new) }
+        requires { All (λ n. n < length self.now.items) numbers.now }
+        ensures grows { OnOk result (Grows (children_at self.now.items numbers.now) all.old all.new) }
         ensures begins { OnOk result (Begins all.old.list.items all.new.list.items) }
     {
         for number in numbers {
-            let item = self.items[*number];
+            let item = self.items.get(*number);
             all.add_target(child_told(item.what))?;
         }
         Ok(())
@@ -147,14 +139,13 @@ impl Log {
 
     /// Where the items of a source but the clock stand from one number to another.
     fn others_of(&self, source: Source, first: usize, last: usize) -> &[usize]
-        requires { AreShelved self.now.items.items self.now.shelves }
         ensures { result.now
-            ≡ (if source_eq source Clock then [] else within_of first last self.now.items.items source) }
+            ≡ (if source_eq source Clock then [] else within_of first last self.now.items source) }
     {
         if source == Source::Clock {
             return &[];
         }
-        within(self.shelves.at(source), first, last)
+        within(self.items.at(source), first, last)
     }
 
     /// Where the items of these sources but the clock stand from one number to another, source by
@@ -165,8 +156,7 @@ impl Log {
         first: usize,
         last: usize,
     ) -> Result<Vec<usize>, Memory>
-        requires { AreShelved self.now.items.items self.now.shelves }
-        ensures { IfOk result (λ numbers. numbers.items ≡ others_within first last self.now.items.items sources.now) }
+        ensures { IfOk result (λ numbers. numbers.items ≡ others_within first last self.now.items sources.now) }
     {
         let mut numbers = Vec::new(self.alloc);
         for source in sources {
@@ -177,11 +167,10 @@ impl Log {
 
     /// Where the steps of the clock stand from one number to another, if it is one of these sources.
     fn steps_within(&self, sources: &[Source], first: usize, last: usize) -> &[usize]
-        requires { AreShelved self.now.items.items self.now.shelves }
-        ensures { result.now ≡ steps_within first last self.now.items.items sources.now }
+        ensures { result.now ≡ steps_within first last self.now.items sources.now }
     {
         if sources.contains(&Source::Clock) {
-            within(self.shelves.at(Source::Clock), first, last)
+            within(self.items.at(Source::Clock), first, last)
         } else {
             &[]
         }
@@ -194,11 +183,10 @@ impl Log {
     pub fn pick_between(&self, sources: &[Source], source: Source) -> Result<Vec<Item>, Memory>
         requires distinct { IsDistinct source_eq sources.now }
         requires there { has_source sources.now source ≡ true }
-        requires shelved { AreShelved self.now.items.items self.now.shelves }
         ensures { IfOk result (λ picked. picked.items
-            ≡ joined (between (comes_from source) (filter (is_from sources.now) self.now.items.items))) }
+            ≡ joined (between (comes_from source) (filter (is_from sources.now) self.now.items))) }
     {
-        let standing = self.shelves.at(source);
+        let standing = self.items.at(source);
         if standing.is_empty() {
             return Ok(Vec::new(self.alloc));
         }
@@ -207,8 +195,7 @@ impl Log {
         let gathered = self.numbers_within(sources, first, last)?;
         let chosen = in_order(self.alloc, gathered, first, last)?;
         let steps = self.steps_within(sources, first, last);
-        let items = self.items.as_slice();
-        woven(self.alloc, items, chosen.as_slice(), steps)
+        woven(self.alloc, &self.items, chosen.as_slice(), steps)
     }
 }
 

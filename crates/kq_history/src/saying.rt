@@ -1,77 +1,89 @@
 ghost use Rattle.std.specs.Prelude.{◌≡◌, ◌++◌, ◌∷◌, [], IfOk, OnOk};
-ghost use Rattle.kq_history.specs.Log.{AreShelved};
-ghost use Rattle.kq_history.specs.Saying.{AreLinedUp, StaysLined};
+ghost use Rattle.kq_history.specs.Notes.{lines_of};
 
 use crate::filed::Filed;
 use crate::item::Item;
 use crate::lines::Lines;
 use crate::log::Log;
+use crate::note::{Note, Step, note_of};
+use crate::notes::Notes;
 use kq_model::Memory;
 use std::alloc::Global;
+use std::marker::Model;
 
-/// All that the records say to kqueues, in order, while they come. But after Memory the lines are those of the items'
-/// sources (`AreLinedUp`).
+/// All that the records say to kqueues, in order, while they come. Contracts see the list of its items.
 #[derive(Drop)]
 pub struct Saying {
-    pub(crate) items: Vec<Item>,
-    pub(crate) lines: Lines<()>,
-    /// The line of each item's source.
-    pub(crate) line_of: Vec<u32>,
+    log: Vec<Note>,
+    /// The steps of the clock, which do not fit into the log.
+    steps: Vec<Step>,
+    /// The line of each source.
+    lines: Lines<()>,
+}
+
+impl Model for Saying {
+    ghost use Rattle.std.specs.Prelude.{List};
+    ghost use Rattle.std.specs.HashMap.{keys};
+    ghost use Rattle.kq_history.specs.declared.item.Item.{Item as Declared};
+    ghost use Rattle.kq_history.specs.Notes.{items_in};
+    ghost use Rattle.kq_history.specs.Saying.{AreNoted};
+
+    ghost Value = { List Declared };
+
+    ghost view = { λ s. items_in (keys s.lines.table) s.steps.items s.log.items };
+
+    ghost invariant = { λ s. AreNoted (keys s.lines.table) s.steps.items s.log.items };
 }
 
 impl Saying {
     /// No item.
     pub fn new(alloc: Global) -> Self
-        ensures items { result.items.items ≡ [] }
-        ensures lined { AreLinedUp result }
+        ensures { result ≡ [] }
     {
         Saying {
-            items: Vec::new(alloc),
+            log: Vec::new(alloc),
+            steps: Vec::new(alloc),
             lines: Lines::new(alloc),
-            line_of: Vec::new(alloc),
         }
     }
 
     /// Room for so many items more.
     pub fn reserve(&mut self, count: usize) -> Result<(), Memory>
-        ensures items { self.new.items.items ≡ self.old.items.items }
-        ensures lined { StaysLined self.old self.new }
+        ensures { self.new ≡ self.old }
     {
-        self.items.reserve(count)?;
-        Ok(self.line_of.reserve(count)?)
+        Ok(self.log.reserve(count)?)
     }
 
-    /// One item more. Memory also if there are 2^32 sources.
+    /// One item more. After Memory, which is also the answer where its place or the line of its source is above 2^32,
+    /// nothing is known.
     pub fn push(&mut self, item: Item) -> Result<(), Memory>
-        ensures items { OnOk result (self.new.items.items ≡ self.old.items.items ++ item ∷ []) }
-        ensures lined { OnOk result (StaysLined self.old self.new) }
+        ensures { OnOk result (self.new ≡ self.old ++ item ∷ []) }
     {
         let line = self.lines.of(item.what.source(), ())?;
-        let Ok(number) = u32::try_from(line) else {
-            return Err(Memory);
-        };
-        self.line_of.push(number)?;
-        Ok(self.items.push(item)?)
+        let note = note_of(&mut self.steps, item, line)?;
+        Ok(self.log.push(note)?)
     }
 
     /// The items, of which those of each source can be found. Its cost is that of the items. Memory: a growth was
     /// refused.
     pub fn end(self) -> Result<Log, Memory>
-        requires { AreLinedUp self }
-        ensures items { IfOk result (λ log. log.items.items ≡ self.items.items) }
-        ensures shelved { IfOk result (λ log. AreShelved self.items.items log.shelves) }
+        ensures { IfOk result (λ log. log.items ≡ self) }
     {
-        let Saying {
-            items,
-            lines,
-            line_of,
-        } = self;
-        let alloc = *items.allocator();
-        let shelves = Filed::of(alloc, lines, line_of)?;
-        Ok(Log {
-            items,
-            shelves,
-            alloc,
-        })
+        let Saying { log, steps, lines } = self;
+        let alloc = *log.allocator();
+        let filed = Filed::of(alloc, lines, lines_of(alloc, log.as_slice())?)?;
+        let items = Notes { log, steps, filed };
+        Ok(Log { items, alloc })
     }
+}
+
+/// The line of each item's source.
+fn lines_of(alloc: Global, log: &[Note]) -> Result<Vec<u32>, Memory>
+    ensures { IfOk result (λ lines. lines.items ≡ lines_of log.now) }
+{
+    let mut lines = Vec::with_capacity(alloc, log.len())?;
+    for note in log {
+        lines.push(note.line)?;
+    }
+    Ok(lines)
 }

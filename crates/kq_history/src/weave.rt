@@ -6,6 +6,7 @@ ghost use Rattle.kq_history.specs.Log.{is_step, item_at, AreSteps, AreWoven};
 ghost use Rattle.kq_history.specs.Steps.{joined};
 
 use crate::item::{Item, What};
+use crate::notes::Notes;
 use kq_model::Memory;
 use std::alloc::Global;
 
@@ -14,7 +15,7 @@ use std::alloc::Global;
 /// each chosen number, and does not go over them.
 pub(crate) fn woven(
     alloc: Global,
-    items: &[Item],
+    items: &Notes,
     chosen: &[usize],
     steps: &[usize],
 ) -> Result<Vec<Item>, Memory>
@@ -30,7 +31,7 @@ pub(crate) fn woven(
         let below = rest.partition_point(|step| *step < *number);
         let (before, behind) = rest.split_at(below);
         put_joined(&mut picked, items, before)?;
-        picked.push(items[*number])?;
+        picked.push(items.get(*number))?;
         rest = behind;
     }
     put_joined(&mut picked, items, rest)?;
@@ -39,7 +40,7 @@ pub(crate) fn woven(
 
 /// One item more for these steps of the clock: from the first moment of the first to the last moment
 /// of the last. None where there is no step.
-fn put_joined(picked: &mut Vec<Item>, items: &[Item], steps: &[usize]) -> Result<(), Memory>
+fn put_joined(picked: &mut Vec<Item>, items: &Notes, steps: &[usize]) -> Result<(), Memory>
     requires { AreSteps items.now steps.now }
     ensures { OnOk result (picked.new.items
         ≡ picked.old.items ++ joined (map (item_at items.now) steps.now)) }
@@ -51,18 +52,18 @@ fn put_joined(picked: &mut Vec<Item>, items: &[Item], steps: &[usize]) -> Result
     let last = steps[steps.len() - 1];
     let (from, _) = moments(items, first);
     let (_, to) = moments(items, last);
-    let place = items[last].place;
+    let place = items.get(last).place;
     let what = What::Clocked { from, to };
     picked.push(Item { place, what }).map_err(|_| Memory)
 }
 
 /// The moments of the step of the clock that stands there.
-fn moments(items: &[Item], number: usize) -> (u64, u64)
+fn moments(items: &Notes, number: usize) -> (u64, u64)
     requires there { number < length items.now }
     requires step { is_step items.now number ≡ true }
     ensures { (item_at items.now number).what ≡ Clocked result.0 result.1 }
 {
-    let What::Clocked { from, to } = items[number].what else {
+    let What::Clocked { from, to } = items.get(number).what else {
         unreachable!();
     };
     (from, to)

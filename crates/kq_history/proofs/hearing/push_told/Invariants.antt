@@ -1,12 +1,7 @@
 use Rattle.std.proofs.Common.{◌≡◌, ◌++◌, map, take}
 use Rattle.kq_model.specs.Items.{Told}
-use Rattle.kq_history.specs.Saying.{StaysLined}
 use Rattle.kq_history.specs.Said.{said_whats}
 use Rattle.kq_history.proofs.hearing.push_told.Given as goal
 
 abbrev pub invariant-loop-told : goal.invariant-loop-told
-invariant-loop-told l = record {
-  items : l.log.items.items
-      ≡ l.initial.log.items.items ++ said_whats l.place (map Told (take l.told-index l.hints));
-  lined : StaysLined l.initial.log l.log;
-}
+invariant-loop-told l = l.log ≡ l.initial.log ++ said_whats l.place (map Told (take l.told-index l.hints))

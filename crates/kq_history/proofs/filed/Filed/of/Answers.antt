@@ -13,8 +13,8 @@ of-requires g c =
     lined-below (keys c.args.lines.table) c.args.line_of.items c.requires.0 c.requires.1 in
     subst (λ (count : ℕ). All (λ n. n < count) c.args.line_of.items) (sym c.count-count.ensures) below
 
-pub returns : goal.returns
-returns g c = λ (sources : List Source) lined (s : Source).
+pub returns-clause-filed : goal.returns-clause-filed
+returns-clause-filed g c = λ (sources : List Source) lined (s : Source).
     let names = keys c.args.lines.table in
     let same : c.in_ok-index.index ≡ c.args.line_of.items = search rules in
     ap (standing (is_line names s) 0) same ∙ lined-standing names s 0 c.args.line_of.items sources lined

@@ -4,21 +4,20 @@ use Rattle.std.proofs.lemmas.List.{append-nil, take_more}
 use Rattle.kq_history.specs.declared.item.Item.{Item}
 use Rattle.kq_history.specs.declared.item.Source.{Source}
 use Rattle.kq_history.specs.Children.{children_at, child_sources, child_told}
-use Rattle.kq_history.specs.Log.{item_at, no_item}
+use Rattle.kq_history.specs.Log.{item_at}
 use Rattle.kq_history.specs.Sources.{Grows, target_sources}
 use Rattle.kq_history.proofs.Known.{grows-then}
-use Rattle.kq_history.proofs.Worklist.{begins-then, read-inside}
+use Rattle.kq_history.proofs.Worklist.{begins-then}
 use Rattle.kq_history.proofs.log.Log.add_told.Goals as goal
 
 pub loop-number-preserved : goal.loop-number-preserved
 loop-number-preserved c =
-    let items = c.args.self.now.items.items in
+    let items = c.args.self.now.items in
     let ns = c.args.numbers.now in
     let i = c.loop-number.number-index in
     let n = get_or ns i 0 in
     let at = λ (k : ℕ). child_sources (item_at items k).what in
-    let read : c.index-item.result.now ≡ item_at items n = c.index-item.ensures ∙ read-inside items n c.index-item.result.now no_item (c.requires i 0 c.loop-number-test.true) in
-    let here : c.child_told.result ≡ child_told (item_at items n).what = c.child_told.ensures ∙ ap (λ (x : Item). child_told x.what) read in
+    let here : c.child_told.result ≡ child_told (item_at items n).what = c.child_told.ensures ∙ ap (λ (x : Item). child_told x.what) c.get-item.ensures in
     let more = flat_map-append at (take i ns) (n ∷ []) ∙ ap (λ ss. children_at items (take i ns) ++ ss) (append-nil (at n)) in
     let all = ap (children_at items) (take_more ns i 0 c.loop-number-test.true) ∙ more in
     record {

@@ -3,4 +3,4 @@ use Rattle.kq_history.proofs.log.Log.others_of.Goals as goal
 
 pub within-requires : goal.within-requires
 within-requires c =
-    shelf-rises c.args.self.now.items.items c.args.self.now.shelves c.requires _ c.at.result.now c.at.ensures
+    shelf-rises c.args.self.now.items c.args.source c.at.result.now c.at.ensures

@@ -4,4 +4,4 @@ use Rattle.kq_history.proofs.log.Log.steps_within.Goals as goal
 
 pub within-requires : goal.within-requires
 within-requires c =
-    shelf-rises c.args.self.now.items.items c.args.self.now.shelves c.requires Clock c.at.result.now c.at.ensures
+    shelf-rises c.args.self.now.items Clock c.at.result.now c.at.ensures

@@ -32,9 +32,6 @@ pick_reached_between-requires-clause-there c =
     subst (λ (ss : List Source). has_source ss (Kqueue c.args.kqueue) ≡ true) (sym c.as_slice-sources.ensures)
     (calls-named _ c.self.inside.said c.self.invariant.said c.args.kqueue c.of-concerned.result.now c.of-concerned.ensures)
 
-pub pick_reached_between-requires-clause-shelved : goal.pick_reached_between-requires-clause-shelved
-pick_reached_between-requires-clause-shelved c = c.self.invariant.said.logged.shelved
-
 pub invariant_of-result : goal.invariant_of-result
 invariant_of-result c =
     let t : Traced = record { version = c.self.inside.version; events = c.self.inside.events.now } in
@@ -44,9 +41,9 @@ invariant_of-result c =
       own = subst (λ (x : Traced). IsAnswering x c.args.kqueue concerned.owner c.in_ok-items.items.items) same
           (is-answering t c.self.inside.said c.self.invariant.said c.args.kqueue concerned c.of-concerned.ensures c.in_ok-items.items.items
           c.in_ok-items.ensures.0
-          (subst (λ children. AreReached children c.self.inside.said.log.items.items concerned.sources.list.items c.in_ok-items.ensures.0)
+          (subst (λ children. AreReached children c.self.inside.said.log.items concerned.sources.list.items c.in_ok-items.ensures.0)
           c.follows_in-children.ensures
-          (subst (λ ss. AreReached c.follows_in-children.result c.self.inside.said.log.items.items ss c.in_ok-items.ensures.0)
+          (subst (λ ss. AreReached c.follows_in-children.result c.self.inside.said.log.items ss c.in_ok-items.ensures.0)
           c.as_slice-sources.ensures c.in_ok-items.ensures.1))
           c.in_ok-items.ensures.2);
     }

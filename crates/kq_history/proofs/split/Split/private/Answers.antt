@@ -20,13 +20,10 @@ of-concerned-requires-clause-born c =
     let same : c.self.inside.said.kqueues.places.items ≡ places_of c.args.self.now = c.self.invariant.said.kqueues.births ∙ search rules in
     subst (λ (ps : List ℕ). Contains ps c.args.kqueue) (sym same) c.requires
 
-pub pick_reached-requires-clause-distinct : goal.pick_reached-requires-clause-distinct
-pick_reached-requires-clause-distinct c =
+pub pick_reached-requires : goal.pick_reached-requires
+pick_reached-requires c =
     subst (λ (ss : List Source). IsDistinct source_eq ss) (sym c.as_slice.ensures)
     (known-there _ c.self.inside.said c.self.invariant.said c.args.kqueue c.of-concerned.result.now c.of-concerned.ensures).distinct
-
-pub pick_reached-requires-clause-shelved : goal.pick_reached-requires-clause-shelved
-pick_reached-requires-clause-shelved c = c.self.invariant.said.logged.shelved
 
 pub invariant_of-result : goal.invariant_of-result
 invariant_of-result c =
@@ -37,6 +34,6 @@ invariant_of-result c =
       own = subst (λ (x : Traced). IsPrivate x c.args.kqueue concerned.owner c.in_ok-items.items.items) same
           (is-private t c.self.inside.said c.self.invariant.said c.args.kqueue concerned c.of-concerned.ensures
           c.in_ok-items.ensures.0 c.in_ok-items.items.items
-          (subst (λ ss. AreReached (not (t.version == 1)) c.self.inside.said.log.items.items ss c.in_ok-items.ensures.0) c.as_slice.ensures c.in_ok-items.ensures.1)
+          (subst (λ ss. AreReached (not (t.version == 1)) c.self.inside.said.log.items ss c.in_ok-items.ensures.0) c.as_slice.ensures c.in_ok-items.ensures.1)
           c.in_ok-items.ensures.2);
     }

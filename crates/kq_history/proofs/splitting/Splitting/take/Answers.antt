@@ -16,10 +16,7 @@ loop-taken-init c =
     subst (λ (xs : List Event). IsSplitSoFar (record { version = t.version; events = xs }) roomy) (sym (none-follow t c.args.events.now)) (record {
       tracked = so_far.tracked;
       said = record {
-        logged = record {
-          items = subst (AreAllSaid t) (sym c.reserve.ensures.items) so_far.said.logged.items;
-          lined = c.reserve.ensures.lined so_far.said.logged.lined;
-        };
+        logged = subst (AreAllSaid t) (sym c.reserve.ensures) so_far.said.logged;
         kqueues = so_far.said.kqueues;
       };
       plain_is = so_far.plain_is;
