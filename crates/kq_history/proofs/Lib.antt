@@ -7,6 +7,7 @@ mod Joined
 mod Merged
 mod Parted
 mod Weaving
+mod StretchLemmas
 mod Known
 mod Places
 mod Sourced

@@ -6,6 +6,7 @@ pub mod Filed
 pub mod Hashed
 pub mod Steps
 pub mod Log
+pub mod Stretches
 pub mod Notes
 pub mod Saying
 pub mod Sources

@@ -1,8 +1,12 @@
-ghost use Rattle.std.specs.Prelude.{◌≡◌};
+ghost use Rattle.std.specs.Prelude.{◌≡◌, length, map};
 ghost use Rattle.kq_history.specs.Private.{IsAnswering};
+ghost use Rattle.kq_history.specs.Stretches.{stretch_item, AreWithin};
 
 use crate::item::Item;
+use crate::item_list::ItemList;
+use crate::notes::Notes;
 use crate::split::Split;
+use crate::stretch::Stretch;
 use kq_model::Target;
 
 /// What of a kqueue's private list can show in its rows: the items from its first call to its last
@@ -12,10 +16,13 @@ pub struct Answering<'s, 'a> {
     pub(crate) split: &'s Split<'a>,
     pub(crate) kqueue: u64,
     pub(crate) owner: u32,
-    pub(crate) items: Vec<Item>,
+    /// The log in which the items stand, and where.
+    pub(crate) notes: &'s Notes,
+    pub(crate) stretches: Vec<Stretch>,
     /// What its changes name, but for processes that descend from these.
     pub(crate) targets: Vec<Target>,
-    ghost own: { IsAnswering split.now kqueue owner items.items },
+    ghost own: { IsAnswering split.now kqueue owner (map (stretch_item notes.now) stretches.items) },
+    ghost within: { AreWithin (length notes.now) stretches.items },
 }
 
 impl<'s, 'a> Answering<'s, 'a> {
@@ -33,13 +40,6 @@ impl<'s, 'a> Answering<'s, 'a> {
         self.owner
     }
 
-    /// The items, by rising place, and at each place in the record's order.
-    pub fn items(&self) -> &[Item]
-        ensures { result.now ≡ self.now.items.items }
-    {
-        self.items.as_slice()
-    }
-
     /// What its changes name, but for what descends from that. So these are what it mostly looks at.
     pub fn targets(&self) -> &[Target] {
         self.targets.as_slice()
@@ -50,5 +50,21 @@ impl<'s, 'a> Answering<'s, 'a> {
         ensures { result.now ≡ self.now.split.now }
     {
         self.split
+    }
+}
+
+/// The items, by rising place, and at each place in the record's order.
+impl<'s, 'a> ItemList for Answering<'s, 'a> {
+    ghost use Rattle.std.specs.Prelude.{map};
+    ghost use Rattle.kq_history.specs.Stretches.{stretch_item};
+
+    ghost list = { λ a. map (stretch_item a.notes.now) a.stretches.items };
+
+    fn count(&self) -> usize {
+        self.stretches.len()
+    }
+
+    fn item(&self, number: usize) -> Item {
+        self.stretches[number].item(self.notes)
     }
 }

@@ -10,6 +10,7 @@ ghost use Rattle.kq_history.specs.Log.{all_standing, comes_from, is_within, item
 ghost use Rattle.kq_history.specs.Log.{others_within, steps_within, within_of};
 ghost use Rattle.kq_history.specs.Sources.{AreKnown, Begins, Grows};
 ghost use Rattle.kq_history.specs.Steps.{joined};
+ghost use Rattle.kq_history.specs.Stretches.{stretch_item, AreWithin};
 ghost use Rattle.kq_history.specs.declared.item.Source.{Source};
 ghost use Rattle.kq_history.specs.declared.item.Source.TheVariants.{Clock};
 
@@ -17,7 +18,7 @@ use crate::item::{Item, Source, What};
 use crate::notes::Notes;
 use crate::ordering::in_order;
 use crate::sources::Sources;
-use crate::weave::woven;
+use crate::stretch::Stretch;
 use kq_model::{Hint, Memory, Target};
 use std::alloc::Global;
 
@@ -94,17 +95,19 @@ impl Log {
         self.pick(all.as_slice())
     }
 
-    /// Of these, those from the first one of this source among them to its last one.
+    /// Where of these those stand from the first one of this source among them to its last one.
     pub fn pick_reached_between(
         &self,
         children: bool,
         named: &[Source],
         source: Source,
-    ) -> Result<Vec<Item>, Memory>
+    ) -> Result<Vec<Stretch>, Memory>
         requires distinct { IsDistinct source_eq named.now }
         requires there { has_source named.now source ≡ true }
-        ensures { IfOk result (λ picked. (all : List Source) × AreReached children self.now.items named.now all
-            × (picked.items ≡ joined (between (comes_from source) (filter (is_from all) self.now.items)))) }
+        ensures picked { IfOk result (λ picked. (all : List Source) × AreReached children self.now.items named.now all
+            × (map (stretch_item self.now.items) picked.items
+            ≡ joined (between (comes_from source) (filter (is_from all) self.now.items)))) }
+        ensures within { IfOk result (λ picked. AreWithin (length self.now.items) picked.items) }
     {
         if !children {
             return self.pick_between(named, source);
@@ -176,15 +179,15 @@ impl Log {
         }
     }
 
-    /// The items that come from these sources, from the first one of this source among them to its
-    /// last one, in their order; steps of the clock with no other of them between them are one. It
-    /// costs those that are no steps of the clock, a search among the steps for each of them, and two
-    /// searches for each source.
-    pub fn pick_between(&self, sources: &[Source], source: Source) -> Result<Vec<Item>, Memory>
+    /// Where the items stand that come from these sources, from the first one of this source among them to its last
+    /// one, in their order; steps of the clock with no other of them between them are one. It costs those that are no
+    /// steps of the clock, a search among the steps for each of them, and two searches for each source.
+    pub fn pick_between(&self, sources: &[Source], source: Source) -> Result<Vec<Stretch>, Memory>
         requires distinct { IsDistinct source_eq sources.now }
         requires there { has_source sources.now source ≡ true }
-        ensures { IfOk result (λ picked. picked.items
+        ensures picked { IfOk result (λ picked. map (stretch_item self.now.items) picked.items
             ≡ joined (between (comes_from source) (filter (is_from sources.now) self.now.items))) }
+        ensures within { IfOk result (λ picked. AreWithin (length self.now.items) picked.items) }
     {
         let standing = self.items.at(source);
         if standing.is_empty() {
@@ -195,7 +198,7 @@ impl Log {
         let gathered = self.numbers_within(sources, first, last)?;
         let chosen = in_order(self.alloc, gathered, first, last)?;
         let steps = self.steps_within(sources, first, last);
-        woven(self.alloc, &self.items, chosen.as_slice(), steps)
+        self.items.woven(self.alloc, chosen.as_slice(), steps)
     }
 }
 

@@ -96,7 +96,7 @@ pub fn note_of(steps: &mut Vec<Step>, item: Item, line: usize) -> Result<Note, M
 }
 
 /// A number in 32 bits. Memory if it does not fit.
-fn small(number: u64) -> Result<u32, Memory>
+pub fn small(number: u64) -> Result<u32, Memory>
     ensures { IfOk result (λ n. n ≡ number) }
 {
     u32::try_from(number).map_err(|_| Memory)

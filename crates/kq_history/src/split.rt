@@ -109,16 +109,15 @@ impl<'a> Split<'a> {
         let concerned = kqueues.of(kqueue);
         let sources = concerned.sources.as_slice();
         let children = concerned.follows_in(self.version);
-        let items = self
-            .said
-            .log
-            .pick_reached_between(children, sources, Source::Kqueue(kqueue))?;
+        let log = &self.said.log;
+        let stretches = log.pick_reached_between(children, sources, Source::Kqueue(kqueue))?;
         let targets = targets_of(self.allocator(), sources)?;
         Ok(Answering {
             split: self,
             kqueue,
             owner: concerned.owner,
-            items,
+            notes: &log.items,
+            stretches,
             targets,
         })
     }

@@ -8,7 +8,7 @@ ghost use Rattle.kq_history.specs.Traced.{event_at};
 ghost use Rattle.kq_replay.specs.Alone.{after_item, after_items, arrived, called, gone_on, heard, unborn};
 ghost use Rattle.kq_replay.specs.Recorded.{IsCallOf, IsClockOf, IsRecorded};
 
-use kq_history::{Item, Looking, Split, What};
+use kq_history::{Item, ItemList, Looking, Split, What};
 use kq_kevent::Kq;
 use kq_model::{Event, Hint, Memory, Reply, Row, Series, Target};
 use std::marker::Model;
@@ -56,21 +56,22 @@ impl<'s, 'a> Model for Alone<'s, 'a> {
 impl<'s, 'a> Alone<'s, 'a> {
     /// A kqueue of this process, before the first record, which goes over these items later. A look at one of these
     /// targets searches nothing, while it does.
-    pub fn new(
+    pub fn new<L: ItemList>(
         split: &'s Split<'a>,
         owner: u32,
-        items: &[Item],
+        items: &L,
         targets: &[Target],
     ) -> Result<Self, Memory>
         ensures { IfOk result (λ a. a ≡ unborn split.now owner) }
     {
         let alloc = split.allocator();
         let version = split.version();
+        let count = items.count();
         let looking = Looking::new(
             split,
-            with_slots(items, targets),
-            place_of(items.first()),
-            place_of(items.last()),
+            with_slots(count, targets),
+            first_place(items),
+            last_place(items),
         )?;
         Ok(Alone {
             split,
@@ -83,27 +84,25 @@ impl<'s, 'a> Alone<'s, 'a> {
     }
 
     /// The kqueue after these items more.
-    pub fn go_over(&mut self, items: &[Item]) -> Result<(), Memory>
-        requires { All (IsRecorded self.old.trace) items.now }
-        ensures { OnOk result (self.new ≡ after_items items.now self.old) }
+    pub fn go_over<L: ItemList>(&mut self, items: &L) -> Result<(), Memory>
+        requires { All (IsRecorded self.old.trace) (L.list items.now) }
+        ensures { OnOk result (self.new ≡ after_items (L.list items.now) self.old) }
     {
-        for (index, item) in items.iter().enumerate() {
-            self.look_ahead(items, index)?;
-            self.go_on(*item)?;
+        for number in 0..items.count() {
+            self.look_ahead(items, number)?;
+            self.go_on(items.item(number))?;
         }
         Ok(())
     }
 
     /// From time to time makes room for the rows of the items that come next.
-    fn look_ahead(&mut self, items: &[Item], index: usize) -> Result<(), Memory>
-        requires { index ≤ length items.now }
+    fn look_ahead<L: ItemList>(&mut self, items: &L, number: usize) -> Result<(), Memory>
         ensures { OnOk result (self.new ≡ self.old) }
     {
-        if index % AHEAD != 0 {
+        if number % AHEAD != 0 {
             return Ok(());
         }
-        let (_, next) = items.split_at(index);
-        Ok(self.rows.reserve(calls_ahead(self.split, next))?)
+        Ok(self.rows.reserve(calls_ahead(self.split, items, number))?)
     }
 
     /// Its rows so far.
@@ -230,14 +229,14 @@ impl<'s, 'a> Alone<'s, 'a> {
 
 /// The rows that a kqueue of this process gives alone, from these items. A look at one of these targets searches
 /// nothing.
-pub fn rows_alone(
+pub fn rows_alone<L: ItemList>(
     split: &Split,
     owner: u32,
-    items: &[Item],
+    items: &L,
     targets: &[Target],
 ) -> Result<Series<Row>, Memory>
-    requires { All (IsRecorded split.now) items.now }
-    ensures { IfOk result (λ rows. rows ≡ (after_items items.now (unborn split.now owner)).rows) }
+    requires { All (IsRecorded split.now) (L.list items.now) }
+    ensures { IfOk result (λ rows. rows ≡ (after_items (L.list items.now) (unborn split.now owner)).rows) }
 {
     let mut alone = Alone::new(split, owner, items, targets)?;
     alone.go_over(items)?;
@@ -245,27 +244,45 @@ pub fn rows_alone(
 }
 
 /// Of these targets those that get slots: none, where there are so few items that searches cost less.
-fn with_slots<'t>(items: &[Item], targets: &'t [Target]) -> &'t [Target] {
-    if items.len() < FEW_ITEMS {
+fn with_slots(count: usize, targets: &[Target]) -> &[Target] {
+    if count < FEW_ITEMS {
         return &[];
     }
     targets
 }
 
-/// The place of an item, or 0 where there is none.
-fn place_of(item: Option<&Item>) -> u64 {
-    item.map_or(0, |item| item.place)
+/// The place of the first item, or 0 where there is none.
+fn first_place<L: ItemList>(items: &L) -> u64 {
+    if items.count() == 0 {
+        return 0;
+    }
+    items.item(0).place
 }
 
-/// How many of the items that come next are calls. Their records are looked at one right after the other, so that they
-/// come from memory together, and each is at hand at its call.
-fn calls_ahead(split: &Split, items: &[Item]) -> usize {
-    let next = items.iter().take(AHEAD);
-    next.filter(|item| is_call(split, item)).count()
+/// The place of the last item, or 0 where there is none.
+fn last_place<L: ItemList>(items: &L) -> u64 {
+    let count = items.count();
+    if count == 0 {
+        return 0;
+    }
+    items.item(count - 1).place
+}
+
+/// How many of the items that come next, from a number on, are calls. Their records are looked at one right after the
+/// other, so that they come from memory together, and each is at hand at its call.
+fn calls_ahead<L: ItemList>(split: &Split, items: &L, number: usize) -> usize {
+    let count = items.count();
+    let mut calls = 0usize;
+    for next in number..count.min(number.saturating_add(AHEAD)) {
+        if is_call(split, items.item(next)) {
+            calls = calls.saturating_add(1);
+        }
+    }
+    calls
 }
 
 /// Whether an item is a call. It looks at its record.
-fn is_call(split: &Split, item: &Item) -> bool {
+fn is_call(split: &Split, item: Item) -> bool {
     match item.what {
         What::Called { .. } => matches!(split.event(item.place), Some(Event::Kevent { .. })),
         _ => false,

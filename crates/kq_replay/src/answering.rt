@@ -11,7 +11,7 @@ impl<'s, 'a> Replay for Answering<'s, 'a> {
     /// The same rows, from what of the private list can show in them. The cost is that of these items and of what the
     /// kqueue does.
     fn replay(&self) -> Result<Rows, Memory> {
-        let rows = rows_alone(self.split(), self.owner(), self.items(), self.targets())?;
+        let rows = rows_alone(self.split(), self.owner(), self, self.targets())?;
         Ok(Rows {
             kqueue: self.kqueue(),
             rows,

@@ -1,22 +1,23 @@
-use Rattle.std.proofs.Common.{◌≡◌, ◌<◌, ◌∙◌, ◌-◌, All, List, [], ℕ, false, length, get_or, refl, sym, ap, subst}
+use Rattle.std.proofs.Common.{◌≡◌, ◌<◌, ◌∙◌, ◌-◌, All, List, [], ℕ, false, length, get_or, map, refl, sym, ap, subst}
 use Rattle.std.specs.List.Sorted.{IsNonDecreasing, IsPermutation}
 use Rattle.std.proofs.lemmas.Result.{IfOk-weaker}
 use Rattle.kq_history.specs.contracts.item.SourceEq.TheImpl.Laws.{laws-law}
 use Rattle.kq_history.specs.Log.{comes_from, is_step, standing, AreSteps}
 use Rattle.kq_history.specs.Steps.{joined}
+use Rattle.kq_history.specs.Stretches.{stretch_item}
 use Rattle.kq_history.proofs.Between.{empty-is, read-between, read-none, some-is}
 use Rattle.kq_history.proofs.Parted.{are-steps, in-order, numbers, others-fail, others-inside, sorted-others, steps-are, steps-rise}
 use Rattle.kq_history.proofs.Rising.{do_not_fall}
 use Rattle.kq_history.proofs.log.Log.pick_between.Goals as goal
 
-pub returns-then-is_empty : goal.returns-then-is_empty
+pub returns-then-is_empty-clause-picked : goal.returns-then-is_empty-clause-picked
 unfolding joined
-returns-then-is_empty c =
+returns-then-is_empty-clause-picked c =
     let items = c.args.self.now.items in
     let source = c.args.source in
     let none : standing (comes_from source) 0 items ≡ [] =
     sym (c.at-standing.ensures) ∙ empty-is c.at-standing.result.now c.if-is_empty.ensures in
-    c.new.ensures.items ∙ sym (ap joined (read-none laws-law items c.args.sources.now c.requires.distinct source c.requires.there none))
+    ap (map (stretch_item items)) c.new.ensures.items ∙ sym (ap joined (read-none laws-law items c.args.sources.now c.requires.distinct source c.requires.there none))
 
 pub woven-requires-clause-there : goal.woven-requires-clause-there
 woven-requires-clause-there c =
@@ -64,8 +65,8 @@ woven-requires-clause-rising c =
     let steps_is = c.steps_within-steps.ensures ∙ steps-are laws-law items sources c.requires.distinct first last in
     subst (λ (ms : List ℕ). IsNonDecreasing ms) (sym steps_is) (steps-rise laws-law items sources c.requires.distinct first last)
 
-pub returns : goal.returns
-returns c =
+pub returns-clause-picked : goal.returns-clause-picked
+returns-clause-picked c =
     let items = c.args.self.now.items in
     let sources = c.args.sources.now in
     let ns = c.at-standing.result.now in
@@ -82,4 +83,4 @@ returns c =
     IfOk-weaker c.woven.result _ _
     (λ picked has.
     has whole (in-order laws-law items sources c.requires.distinct first last) chosen_is steps_is
-    ∙ ap joined (read-between laws-law items sources c.requires.distinct c.args.source c.requires.there first last ns standing_is some refl refl)) c.woven.ensures
+    ∙ ap joined (read-between laws-law items sources c.requires.distinct c.args.source c.requires.there first last ns standing_is some refl refl)) c.woven.ensures.woven

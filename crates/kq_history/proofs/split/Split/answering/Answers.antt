@@ -1,10 +1,12 @@
-use Rattle.std.proofs.Common.{◌≡◌, ◌∙◌, List, ℕ, true, sym, subst, rules}
+use Rattle.std.proofs.Common.{◌≡◌, ◌∙◌, List, ℕ, true, map, sym, subst, rules}
 use Rattle.std.specs.List.{Contains, IsDistinct}
+use Rattle.kq_history.specs.declared.item.Item.{Item}
 use Rattle.kq_history.specs.declared.item.Source.{Source}
 use Rattle.kq_history.specs.declared.item.Source.TheVariants.{Kqueue}
 use Rattle.kq_history.specs.Items.{has_source, source_eq}
 use Rattle.kq_history.specs.Children.{AreReached}
 use Rattle.kq_history.specs.Private.{IsAnswering}
+use Rattle.kq_history.specs.Stretches.{stretch_item}
 use Rattle.kq_history.specs.Traced.{Traced, places_of}
 use Rattle.kq_history.proofs.AnsweringOf.{calls-named, is-answering}
 use Rattle.kq_history.proofs.PrivateOf.{known-there}
@@ -37,13 +39,16 @@ invariant_of-result c =
     let t : Traced = record { version = c.self.inside.version; events = c.self.inside.events.now } in
     let same : t ≡ c.args.self.now = search rules in
     let concerned = c.of-concerned.result.now in
+    let log = c.self.inside.said.log.items in
+    let items : List Item = map (stretch_item log) c.in_ok-stretches.stretches.items in
+    let picked = c.in_ok-stretches.ensures.picked in
     record {
-      own = subst (λ (x : Traced). IsAnswering x c.args.kqueue concerned.owner c.in_ok-items.items.items) same
-          (is-answering t c.self.inside.said c.self.invariant.said c.args.kqueue concerned c.of-concerned.ensures c.in_ok-items.items.items
-          c.in_ok-items.ensures.0
-          (subst (λ children. AreReached children c.self.inside.said.log.items concerned.sources.list.items c.in_ok-items.ensures.0)
+      own = subst (λ (x : Traced). IsAnswering x c.args.kqueue concerned.owner items) same
+          (is-answering t c.self.inside.said c.self.invariant.said c.args.kqueue concerned c.of-concerned.ensures items picked.0
+          (subst (λ children. AreReached children log concerned.sources.list.items picked.0)
           c.follows_in-children.ensures
-          (subst (λ ss. AreReached c.follows_in-children.result c.self.inside.said.log.items ss c.in_ok-items.ensures.0)
-          c.as_slice-sources.ensures c.in_ok-items.ensures.1))
-          c.in_ok-items.ensures.2);
+          (subst (λ ss. AreReached c.follows_in-children.result log ss picked.0)
+          c.as_slice-sources.ensures picked.1))
+          picked.2);
+      within = c.in_ok-stretches.ensures.within;
     }

@@ -10,9 +10,8 @@ use Rattle.kq_replay.proofs.replay.PrivateReplay.replay.Goals as goal
 pub rows_alone-requires : goal.rows_alone-requires
 rows_alone-requires c =
     let p = c.args.self.now in
-    subst (λ (t : Traced). All (IsRecorded t) c.items.result.now) (sym c.split.ensures)
-    (subst (All (IsRecorded p.split.now)) (sym c.items.ensures)
-    (private-recorded p.split.now p.kqueue p.owner p.items.items p.own))
+    subst (λ (t : Traced). All (IsRecorded t) p.items.items) (sym c.split.ensures)
+    (private-recorded p.split.now p.kqueue p.owner p.items.items p.own)
 
 pub returns : goal.returns
 returns c =
@@ -21,4 +20,4 @@ returns c =
     ap₂ (λ (t : Traced) (owner : ℕ). unborn t owner) c.split.ensures c.owner.ensures in
     subst (λ (place : ℕ). IsReplayed p.split.now p.kqueue (record { kqueue = place; rows = c.in_ok-rows.rows })) (sym c.kqueue.ensures)
     (private-replayed p.split.now p.kqueue p.owner p.items.items p.own c.in_ok-rows.rows
-    (c.in_ok-rows.ensures ∙ ap (λ (a : LoneKqueue). a.rows) (ap₂ after_items c.items.ensures start)))
+    (c.in_ok-rows.ensures ∙ ap (λ (a : LoneKqueue). a.rows) (ap (after_items p.items.items) start)))
