@@ -14,8 +14,10 @@ mod SameSource
 mod LineLemmas
 mod Filing
 mod Briefs
-mod Glances
+mod GlanceLemmas
 mod Sighted
+mod OwnGlances
+mod SlotsOf
 mod PickedPrivate
 mod Descending
 mod Worklist
@@ -36,8 +38,6 @@ mod SlotLemmas
 mod TouchedNumbers
 mod NotedKeys
 mod SightLemmas
-mod TakenSights
-mod LookingLemmas
 mod NotedMarks
 mod SameValues
 mod ListedRecords

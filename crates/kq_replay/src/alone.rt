@@ -70,7 +70,6 @@ impl<'s, 'a> Alone<'s, 'a> {
             split,
             with_slots(items, targets),
             place_of(items.first()),
-            place_of(items.last()),
         )?;
         Ok(Alone {
             split,
@@ -153,6 +152,7 @@ impl<'s, 'a> Alone<'s, 'a> {
             return Ok(());
         }
         self.looking.go_to(self.place);
+        self.looking.advance(self.told.as_slice());
         self.kq.reserve_to_follow(self.told.as_slice())?;
         self.kq.notify(self.told.as_slice(), &self.looking);
         self.told.clear();
