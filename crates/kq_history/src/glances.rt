@@ -25,6 +25,9 @@ pub(crate) fn count_near(glances: &[Glance], place: u64, come: usize) -> usize
     ensures within { result ≤ length glances.now }
     ensures begun { HaveBegun place result glances.now }
 {
+    if have_begun(glances, place, come) {
+        return come;
+    }
     let count = sought_from(glances, place, come);
     if have_begun(glances, place, count) {
         return count;
@@ -44,8 +47,8 @@ fn have_begun(glances: &[Glance], place: u64, count: usize) -> bool
     count == glances.len() || is_later(glances, place, count)
 }
 
-/// How many glances may be at the place or before it, if so many are: first in steps that double, and then in steps that
-/// halve. It claims nothing.
+/// How many glances may be at the place or before it, if so many are: first in steps that double, and then in steps
+/// that halve. It claims nothing.
 pub(crate) fn sought_from(glances: &[Glance], place: u64, come: usize) -> usize {
     let mut count = come;
     let mut step = 1usize;

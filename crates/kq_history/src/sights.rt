@@ -10,8 +10,8 @@ use kq_index::Grouped;
 use kq_model::{Target, View};
 use std::marker::Model;
 
-/// What was seen of targets from place to place, once all records came. Contracts see the glances of each target, and the
-/// views that stand for what does not fit into these.
+/// What was seen of targets from place to place, once all records came. Contracts see the glances of each target, and
+/// the views that did not fit into these.
 #[derive(Drop)]
 pub struct Sights {
     /// The line of each target.
@@ -54,8 +54,8 @@ impl Sights {
         self.behind(glances, count_at(glances, place))
     }
 
-    /// What these glances show at a place. It costs a constant where so many of them, or a few more, are at the place or
-    /// before it.
+    /// What these glances show at a place. It costs a constant where so many of them, or a few more, are at the place
+    /// or before it.
     pub fn near(&self, glances: &[Glance], place: u64, come: usize) -> Option<View>
         requires { AreRising glances.now }
         ensures { result ≡ value_at place None (marks_in self.now.wholes glances.now) }

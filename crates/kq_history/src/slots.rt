@@ -51,6 +51,7 @@ impl<'s> Slots<'s> {
     }
 
     /// Where the slot of a target stands, and its glances, if a guess for the target leads there.
+    #[inline(always)]
     fn find(&self, target: Target) -> Option<(usize, &'s [Glance])>
         ensures { IfSome result (λ r. HasSlot self.now.looks.items target r.1) }
     {
@@ -106,6 +107,7 @@ impl<'s> Slots<'s> {
     }
 
     /// The guess that stands there.
+    #[inline(always)]
     fn guess(&self, spot: usize) -> Option<usize> {
         match self.guesses.get(spot) {
             Some(guess) if *guess != NO_GUESS => Some(*guess as usize),
@@ -131,6 +133,7 @@ impl<'s> Slots<'s> {
 }
 
 /// The glances that stand there, if they are those of the target.
+#[inline(always)]
 fn glances_at<'s>(
     looks: &[(Target, &'s [Glance])],
     index: usize,
