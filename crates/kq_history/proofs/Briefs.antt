@@ -1,5 +1,5 @@
 -- Briefs of views that do not fit, as one more is put behind their list.
-use Rattle.std.proofs.Common.{◌≡◌, ◌∙◌, zero, suc, ℕ, length, List, [], ◌∷◌, ◌++◌, Option, None, Some, slice_get, refl, sym, ap}
+use Rattle.std.proofs.Common.{◌≡◌, ◌∙◌, length, List, [], ◌∷◌, ◌++◌, Option, Some, slice_get, refl, sym, ap}
 use Rattle.std.proofs.lemmas.List.{append_assoc}
 use Rattle.kq_model.specs.declared.object.View.{View}
 use Rattle.kq_history.specs.declared.brief.Brief.{Brief}

@@ -15,13 +15,12 @@ use Rattle.kq_model.proofs.ListedWorld.{listed-empty}
 use Rattle.kq_process.specs.declared.world.World.{World}
 use Rattle.kq_process.specs.World.{last_of, world_of}
 use Rattle.kq_history.specs.declared.seen.Seen.{Seen}
-use Rattle.kq_history.specs.declared.sights.Sight.{Sight}
 use Rattle.kq_history.specs.declared.timeline.Mark.{Mark}
 use Rattle.kq_history.specs.Keys.{pair_eq}
 use Rattle.kq_history.specs.Numbers.{later, no_mark, no_table}
 use Rattle.kq_history.specs.Seen.{IsBlank}
 use Rattle.kq_history.specs.Sights as sights
-use Rattle.kq_history.specs.Sights.{view_at}
+use Rattle.kq_history.specs.Sights.{view_at, Sight}
 use Rattle.kq_history.specs.Timeline.{mark_at, value_at, IsUpTo}
 use Rattle.kq_history.specs.Timelines.{marks_at}
 use Rattle.kq_history.specs.Traced.{plain_rows_of}

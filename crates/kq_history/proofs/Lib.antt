@@ -15,8 +15,10 @@ mod SameSource
 mod LineLemmas
 mod Briefs
 mod NotedItems
-mod Glances
+mod GlanceLemmas
 mod Sighted
+mod OwnGlances
+mod SlotsOf
 mod PickedPrivate
 mod Descending
 mod Worklist
@@ -37,8 +39,6 @@ mod SlotLemmas
 mod TouchedNumbers
 mod NotedKeys
 mod SightLemmas
-mod TakenSights
-mod LookingLemmas
 mod NotedMarks
 mod SameValues
 mod ListedRecords

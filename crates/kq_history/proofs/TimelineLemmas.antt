@@ -1,6 +1,6 @@
 -- The value at a place is that of the mark before the first one that is later.
 use Rattle.std.proofs.Common.{◌≡◌, ℕ, zero, suc, ◌+◌, ◌-◌, ◌<◌, ◌≤◌, Bool, true, false, cond, leb, length, get_or, List, [], ◌∷◌, None, Some, refl, sym, ap, ◌∙◌, arith}
-use Rattle.std.specs.List.Sorted.{IsNonDecreasingBy}
+use Rattle.std.specs.List.Sorted.{IsNonDecreasingBy, IsPartitionPoint}
 use Rattle.std.proofs.lemmas.Bool.{both_ways, false_from_ne_true}
 use Rattle.std.proofs.lemmas.List.Sorted.{IsPartitionedBy-leb}
 use Rattle.std.specs.List.{slice_get}
@@ -47,9 +47,6 @@ module _ {V : Type 0} (place : ℕ) where
 
   -- ---- so many marks are at the place or before it
 
-  abbrev rise : List (Mark V) → Type 0
-  rise ms = IsNonDecreasingBy (λ (m : Mark V). m.place) ms
-
   pub mark-none : (ms : List (Mark V)) (before : Mark V) → HaveBegun place 0 ms → mark_at place before ms ≡ before
   mark-none ms before begun = mark_before ms before (λ k d within. begun.1 k d (omega arith) within)
 
@@ -69,17 +66,17 @@ module _ {V : Type 0} (place : ℕ) where
   value-behind ms count before d some within begun =
       sym (value-is ms (mark 0 before) ∙ ap (λ (m : Mark V). m.value) (mark-behind ms count (mark 0 before) d some within begun))
 
-  -- the last of so many has begun, and the next one has not
-  pub begun-between : (ms : List (Mark V)) (count : ℕ) → rise ms → count ≤ length ms
-      → ((d : Mark V) → 1 ≤ count → has_begun (get_or ms (count - 1) d) ≡ true)
-      → ((d : Mark V) → count < length ms → has_begun (get_or ms count d) ≡ false)
-      → HaveBegun place count ms
-  begun-between ms count rises within last next =
-      let parted = IsPartitionedBy-leb (λ (m : Mark V). m.place) ms place rises in (
-        (λ k d from below. parted k (count - 1) d (omega (arith, below)) (omega (arith, below, within)) (last d (omega (arith, below)))),
-        (λ k d from inside. false_from_ne_true (has_begun (get_or ms k d)) (λ begun.
-            both_ways (has_begun (get_or ms count d)) (next d (omega (arith, from, inside))) (parted count k d from inside begun))),
-      )
+-- the last of so many has begun, and the next one has not
+pub begun-between : {X : Type 0} (at : X → ℕ) (place : ℕ) (xs : List X) (count : ℕ) → IsNonDecreasingBy at xs → count ≤ length xs
+    → ((d : X) → 1 ≤ count → leb (at (get_or xs (count - 1) d)) place ≡ true)
+    → ((d : X) → count < length xs → leb (at (get_or xs count d)) place ≡ false)
+    → IsPartitionPoint (λ x. leb (at x) place ≡ true) (λ x. leb (at x) place ≡ false) xs count
+begun-between at place xs count rises within last next =
+    let parted = IsPartitionedBy-leb at xs place rises in (
+      (λ k d from below. parted k (count - 1) d (omega (arith, below)) (omega (arith, below, within)) (last d (omega (arith, below)))),
+      (λ k d from inside. false_from_ne_true (leb (at (get_or xs k d)) place) (λ begun.
+          both_ways (leb (at (get_or xs count d)) place) (next d (omega (arith, from, inside))) (parted count k d from inside begun))),
+    )
 
 -- ---- behind all marks
 

@@ -17,8 +17,8 @@ use Rattle.kq_process.specs.Effects.{IsEffectOf, world_after}
 use Rattle.kq_process.specs.World.{last_of, world_of, IsEffectBy, IsNext}
 use Rattle.kq_process.proofs.Applied.{counted-now}
 use Rattle.kq_history.specs.declared.seen.Seen.{Seen}
-use Rattle.kq_history.specs.declared.sights.Sight.{Sight}
 use Rattle.kq_history.specs.Noted.{AreAllBefore, AreAllUpTo, IsNextWorld}
+use Rattle.kq_history.specs.Sights.{Sight}
 use Rattle.kq_history.specs.Seen.{seen_by, Shows}
 use Rattle.kq_history.specs.Touched.{touched_targets, touches}
 use Rattle.kq_history.specs.Traced.{Traced, longer, seen_at}

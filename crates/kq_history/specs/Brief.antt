@@ -1,5 +1,5 @@
 -- What is seen of a target, in little room.
-use Rattle.std.specs.Prelude.{◌≡◌, ◌++◌, ℕ, List, Option, None, Some, slice_get, pos}
+use Rattle.std.specs.Prelude.{◌≡◌, ◌++◌, List, Option, None, Some, slice_get, pos}
 use Rattle.kq_model.specs.declared.object.View.{View}
 use Rattle.kq_model.specs.declared.object.View.TheVariants as view
 use Rattle.kq_history.specs.declared.brief.Brief.{Brief}

@@ -1,21 +1,75 @@
--- The sights of a log that keeps their targets by their lines, and their views in little room.
-use Rattle.std.specs.Prelude.{ℕ, List, map}
+-- What was seen of each target from place to place, in little room: as a log keeps it, and target by target.
+use Rattle.std.specs.Prelude.{◌≡◌, ℕ, true, false, List, [], ◌∷◌, map, Option, None, nat_le, slice_index_or}
+use Rattle.std.specs.Prelude.{if◌then◌else◌}
+use Rattle.std.specs.List.Sorted.{IsNonDecreasingBy, IsPartitionPoint}
+use Rattle.kq_model.specs.declared.object.Target.{Target}
 use Rattle.kq_model.specs.declared.object.View.{View}
 use Rattle.kq_history.specs.declared.brief.Brief.{Brief}
+use Rattle.kq_history.specs.declared.glances.Glance.{Glance}
 use Rattle.kq_history.specs.declared.item.Source.{Source}
-use Rattle.kq_history.specs.declared.sights.Glance.{Glance}
-use Rattle.kq_history.specs.declared.sights.Sight.{Sight}
+use Rattle.kq_history.specs.declared.item.Source.TheVariants.{Of}
+use Rattle.kq_history.specs.declared.sighting.Entry.{Entry}
+use Rattle.kq_history.specs.declared.timeline.Mark.{Mark}
 use Rattle.kq_history.specs.Brief.{view_in}
+use Rattle.kq_history.specs.Items.{source_eq}
 use Rattle.kq_history.specs.Lines.{target_on}
+use Rattle.kq_history.specs.Sights.{Sight}
+use Rattle.kq_history.specs.Timeline.{mark, value_at}
 
-abbrev pub glance : ℕ → ℕ → Brief → Glance
-glance place line brief = record { place = place; line = line; brief = brief }
+-- ---- a log
 
-abbrev pub sight_in : List Source → List View → Glance → Sight
-sight_in names wholes g = record { target = target_on names g.line; place = g.place; view = view_in wholes g.brief }
+abbrev pub entry : ℕ → ℕ → Brief → Entry
+entry place line brief = record { line = line; glance = record { place = place; brief = brief } }
 
-abbrev pub sights_in : List Source → List View → List Glance → List Sight
-sights_in names wholes gs = map (sight_in names wholes) gs
+abbrev pub sight_in : List Source → List View → Entry → Sight
+sight_in names wholes e =
+    record { target = target_on names e.line; place = e.glance.place; view = view_in wholes e.glance.brief }
 
-abbrev pub lines_of : List Glance → List ℕ
-lines_of gs = map (λ (g : Glance). g.line) gs
+abbrev pub sights_in : List Source → List View → List Entry → List Sight
+sights_in names wholes es = map (sight_in names wholes) es
+
+abbrev pub lines_of : List Entry → List ℕ
+lines_of es = map (λ (e : Entry). e.line) es
+
+abbrev pub all_glances : List Entry → List Glance
+all_glances es = map (λ (e : Entry). e.glance) es
+
+-- ---- the glances of one target
+
+-- its timeline, where these are the views that did not fit
+abbrev pub marks_in : List View → List Glance → List (Mark (Option View))
+marks_in wholes gs = map (λ (g : Glance). mark g.place (view_in wholes g.brief)) gs
+
+-- none is earlier than one before it
+abbrev pub AreRising : List Glance → Type 0
+AreRising gs = IsNonDecreasingBy (λ (g : Glance). g.place) gs
+
+-- so many are at the place or before it
+abbrev pub HaveBegun : ℕ → ℕ → List Glance → Type 0
+HaveBegun place count gs =
+    IsPartitionPoint (λ (g : Glance). nat_le g.place place ≡ true) (λ (g : Glance). nat_le g.place place ≡ false) gs
+    count
+
+-- ---- target by target
+
+-- what stands by the first line of a source
+abbrev pub by_source : List Source → List (List Glance) → Source → List Glance
+by_source [] gss s = []
+by_source (x ∷ xs) [] s = []
+by_source (x ∷ xs) (gs ∷ gss) s = if source_eq x s then gs else by_source xs gss s
+
+abbrev pub AreAllRising : List (List Glance) → Type 0
+AreAllRising gss = (line : ℕ) → AreRising (slice_index_or gss line [])
+
+-- the glances of sources, line by line, and the views that did not fit
+pub record Sighted : Type 0 where
+  pub names : List Source
+  pub glances : List (List Glance)
+  pub wholes : List View
+
+abbrev pub glances_of : Sighted → Target → List Glance
+glances_of s t = by_source s.names s.glances (Of t)
+
+-- what is seen of a target at a place; before all glances nothing is
+abbrev pub seen_of : Sighted → Target → ℕ → Option View
+seen_of s t place = value_at place None (marks_in s.wholes (glances_of s t))

@@ -20,8 +20,8 @@ pub mod Accounts
 pub mod Within
 pub mod Keys
 pub mod Brief
-pub mod Glances
 pub mod Sights
+pub mod Glances
 pub mod Sighting
 pub mod Numbers
 pub mod Slots
@@ -34,7 +34,6 @@ pub mod Sayings
 pub mod Plain
 pub mod Split
 pub mod NumberSets
-pub mod Showing
 pub mod Said
 pub mod BetweenCalls
 pub mod Private

@@ -1,12 +1,9 @@
 -- The world as one kqueue sees it that goes from place to place.
-use Rattle.std.specs.Prelude.{◌≡◌, ◌≤◌, ◌<◌, ℕ, Bool, All, List, Option, Some, is_some, true, length, take, drop}
-use Rattle.std.specs.HashMap.{HashMap, get}
+use Rattle.std.specs.Prelude.{◌≡◌, ℕ, All, List, Some, slice_get}
+use Rattle.std.specs.Borrow.{Bor}
 use Rattle.kq_model.specs.declared.object.Target.{Target}
-use Rattle.kq_model.specs.declared.object.View.{View}
-use Rattle.kq_history.specs.declared.sights.Sight.{Sight}
-use Rattle.kq_history.specs.Keys.{target_key}
-use Rattle.kq_history.specs.Log.{standing}
-use Rattle.kq_history.specs.Sights.{last_view, view_at, AreInOrder, AreUpTo}
+use Rattle.kq_history.specs.declared.glances.Glance.{Glance}
+use Rattle.kq_history.specs.Glances.{glances_of, seen_of, AreRising, Sighted}
 use Rattle.kq_history.specs.Traced.{Traced, seen_at}
 
 -- after the record of a place of a trace
@@ -14,39 +11,15 @@ pub record Outlook : Type 0 where
   pub trace : Traced
   pub place : ℕ
 
--- up to the last place these are the sights of a trace's worlds
-pub record Tells (t : Traced) (last : ℕ) (log : List Sight) : Type 0 where
-  pub in_order : AreInOrder log
-  pub tells : (place : ℕ) (target : Target) → place ≤ last → (seen_at t place).view target ≡ view_at log place target
+-- these glances stand in a slot of the target
+abbrev pub HasSlot : List (Target × Bor (List Glance)) → Target → Bor (List Glance) → Type 0
+HasSlot slots t gs = (index : ℕ) × (slice_get slots index ≡ Some (t, gs))
 
-module _ {S : Type 0} where
-  -- there is a slot for what is seen
-  abbrev pub has_slot : HashMap Target (Option View) S → Sight → Bool
-  has_slot slots s = is_some (get target_key slots s.target)
+-- in a slot are the glances of its target
+abbrev pub HasOwn : Sighted → Target × Bor (List Glance) → Type 0
+HasOwn s slot = (slot.1.now ≡ glances_of s slot.0) × AreRising slot.1.now
 
-  -- the slots show what is seen behind so many sights
-  abbrev pub Show : List Sight → ℕ → HashMap Target (Option View) S → Type 0
-  Show log gone slots =
-      (t : Target) (v : Option View) → get target_key slots t ≡ Some v → v ≡ last_view t (take gone log)
-
-  -- a sight that is to be shown is later than the place
-  abbrev pub AreShownLater : ℕ → HashMap Target (Option View) S → List Sight → Type 0
-  AreShownLater place slots ss = All (λ (s : Sight). has_slot slots s ≡ true → place < s.place) ss
-
-  -- the slots show what is seen at a place, behind so many sights; and these stand where the rest does that they will
-  -- show
-  pub record Follow (place : ℕ) (log : List Sight) (gone : ℕ) (left : List ℕ)
-      (slots : HashMap Target (Option View) S) : Type 0 where
-    pub within : gone ≤ length log
-    pub up_to : AreUpTo place (take gone log)
-    pub later : AreShownLater place slots (drop gone log)
-    pub left_is : left ≡ standing (has_slot slots) gone (drop gone log)
-    pub shown : Show log gone slots
-
-  -- the slots follow the sights of a trace up to the last place, and of those that come to them so many came
-  pub record IsLooking (t : Traced) (place last : ℕ) (log : List Sight) (gone : ℕ) (numbers : List ℕ) (taken : ℕ)
-      (slots : HashMap Target (Option View) S) : Type 0 where
-    pub up_to : place ≤ last
-    pub came : taken ≤ length numbers
-    pub tells : Tells t last log
-    pub follow : Follow place log gone (drop taken numbers) slots
+-- the worlds of a trace show what was seen, and of that each slot has its own
+pub record IsLooking (t : Traced) (s : Sighted) (slots : List (Target × Bor (List Glance))) : Type 0 where
+  pub tells : (place : ℕ) (target : Target) → (seen_at t place).view target ≡ seen_of s target place
+  pub own : All (HasOwn s) slots

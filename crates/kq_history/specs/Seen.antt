@@ -6,6 +6,7 @@ use Rattle.kq_model.specs.Views.{Views}
 use Rattle.kq_history.specs.declared.numbers.Numbers.{Numbers}
 use Rattle.kq_history.specs.declared.seen.Seen.{Seen}
 use Rattle.kq_history.specs.declared.shown.Shown.{Shown}
+use Rattle.kq_history.specs.Glances.{seen_of}
 use Rattle.kq_history.specs.Numbers.{IsBlankOf, named_at}
 use Rattle.kq_history.specs.Sights.{view_at}
 use Rattle.kq_history.specs.Timeline.{value_at}
@@ -22,7 +23,7 @@ seen_by s place = record {
 -- the same once all records came
 abbrev pub shown_by : Shown → ℕ → Views
 shown_by s place = record {
-  view = λ t. view_at s.views place t;
+  view = λ t. seen_of s.views t place;
   descriptor = λ pid number. named_at s.numbers place pid number;
   now = value_at place 0 s.clock;
 }

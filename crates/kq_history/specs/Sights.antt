@@ -1,14 +1,15 @@
 -- What was seen of targets from place to place: sights in the order in which they came.
-use Rattle.std.specs.Prelude.{◌≡◌, ◌≤◌, ◌<◌, ◌&&◌, ℕ, Bool, All, nat_le, List, [], ◌∷◌, Option, None, if◌then◌else◌}
+use Rattle.std.specs.Prelude.{◌≤◌, ◌&&◌, ℕ, Bool, All, nat_le, List, [], ◌∷◌, Option, None, if◌then◌else◌}
 use Rattle.std.specs.List.Sorted.{IsNonDecreasingBy}
 use Rattle.kq_model.specs.declared.object.Target.{Target}
 use Rattle.kq_model.specs.declared.object.View.{View}
-use Rattle.kq_history.specs.declared.sights.Sight.{Sight}
 use Rattle.kq_history.specs.Keys.{target_key}
-use Rattle.kq_index.specs.Index.{standing}
-use Rattle.kq_history.specs.declared.filed.Filed.{Filed}
-use Rattle.kq_history.specs.declared.item.Source.TheVariants.{Of}
-use Rattle.kq_history.specs.Filed.{filed_at}
+
+-- from this place on this is seen of a target
+pub record Sight : Type 0 where
+  pub target : Target
+  pub place : ℕ
+  pub view : Option View
 
 abbrev pub sight : Target → ℕ → Option View → Sight
 sight target place view = record { target = target; place = place; view = view }
@@ -37,14 +38,6 @@ last_view t ss = last_from t None ss
 abbrev pub AreUpTo : ℕ → List Sight → Type 0
 AreUpTo place ss = All (λ (s : Sight). s.place ≤ place) ss
 
--- all are later
-abbrev pub AreLater : ℕ → List Sight → Type 0
-AreLater place ss = All (λ (s : Sight). place < s.place) ss
-
 -- none is earlier than one before it
 abbrev pub AreInOrder : List Sight → Type 0
 AreInOrder ss = IsNonDecreasingBy (λ (s : Sight). s.place) ss
-
--- the sights of each target are found where they stand
-abbrev pub AreFoundIn : {V : Type 0} → Filed V → List Sight → Type 0
-AreFoundIn filed ss = (t : Target) → filed_at filed (Of t) ≡ standing (is_of t) 0 ss

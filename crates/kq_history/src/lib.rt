@@ -6,6 +6,7 @@ mod answering;
 mod at;
 mod brief;
 mod filed;
+mod glances;
 mod guesses;
 mod hearing;
 mod item;

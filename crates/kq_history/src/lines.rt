@@ -31,7 +31,8 @@ impl<V: Copy + Drop> Lines<V> {
 
     /// How many lines there are.
     pub fn count(&self) -> usize
-        ensures { result ≡ length (keys self.now.table) }
+        ensures unique { IsUnique source_eq self.now.table }
+        ensures count { result ≡ length (keys self.now.table) }
     {
         self.table.len()
     }

@@ -4,6 +4,7 @@ ghost use Rattle.kq_model.specs.Ticks.{last_moment};
 ghost use Rattle.kq_model.specs.Views as model;
 ghost use Rattle.kq_model.specs.World.{views_of};
 ghost use Rattle.kq_process.specs.World.{world_of};
+ghost use Rattle.kq_history.specs.Glances.{seen_of};
 ghost use Rattle.kq_history.specs.Noted.{AreAllBefore, AreAllUpTo, IsNextWorld};
 ghost use Rattle.kq_history.specs.Numbers.{named_at, AreNumbersBefore, AreNumbersUpTo};
 ghost use Rattle.kq_history.specs.Seen.{left_at, IsBlank, seen_by, Shows};
@@ -78,7 +79,8 @@ impl Seen {
     /// was refused.
     pub fn end(self) -> Result<Shown, Memory>
         ensures numbers { IfOk result (λ shown. shown.numbers ≡ self.numbers) }
-        ensures views { IfOk result (λ shown. shown.views ≡ self.views) }
+        ensures views { IfOk result (λ shown. (t : Target) (place : ℕ)
+            → seen_of shown.views t place ≡ view_at self.views place t) }
         ensures clock { IfOk result (λ shown. shown.clock ≡ self.clock) }
     {
         let Seen {

@@ -1,23 +1,30 @@
 ghost use Rattle.std.specs.Prelude.{◌≡◌, ◌&&◌, [], ℕ, nat_le, OnOk, IfOk, if◌then◌else◌};
-ghost use Rattle.kq_history.specs.Glances.{glance, lines_of};
+ghost use Rattle.kq_history.specs.Glances.{all_glances, entry, lines_of, seen_of};
 ghost use Rattle.kq_history.specs.Keys.{target_key};
 ghost use Rattle.kq_history.specs.Sights.{view_at, AreUpTo};
 
 use crate::brief::{Brief, brief_of};
-use crate::filed::Filed;
+use crate::glances::Glance;
 use crate::item::Source;
 use crate::lines::Lines;
-use crate::sights::{Glance, Sights};
-use kq_index::Index;
+use crate::sights::Sights;
+use kq_index::Grouped;
 use kq_model::{Memory, Target, View};
 use std::alloc::Global;
 use std::marker::Model;
+
+/// A sight as the log keeps it: its target is the one that has the line.
+#[derive(Debug, Drop, Clone, Copy)]
+pub struct Entry {
+    pub line: u32,
+    pub glance: Glance,
+}
 
 /// What is seen of targets from place to place, while the records come: one log, which is written at its end. Contracts
 /// see the list of its sights.
 #[derive(Drop)]
 pub struct Sighting {
-    log: Vec<Glance>,
+    log: Vec<Entry>,
     /// The views that do not fit into the log.
     wholes: Vec<View>,
     /// The line of each target, and beside it what is seen of the target.
@@ -27,12 +34,11 @@ pub struct Sighting {
 impl Model for Sighting {
     ghost use Rattle.std.specs.Prelude.{List};
     ghost use Rattle.std.specs.HashMap.{keys};
-    ghost use Rattle.kq_history.specs.declared.sights.Sight.{Sight as Declared};
     ghost use Rattle.kq_history.specs.Glances.{sights_in};
     ghost use Rattle.kq_history.specs.Sighting.{IsNumbered};
-    ghost use Rattle.kq_history.specs.Sights.{AreInOrder};
+    ghost use Rattle.kq_history.specs.Sights.{AreInOrder, Sight};
 
-    ghost Value = { List Declared };
+    ghost Value = { List Sight };
 
     ghost view = { λ s. sights_in (keys s.lines.table) s.wholes.items s.log.items };
 
@@ -66,8 +72,8 @@ impl Sighting {
             return Ok(());
         }
         let brief = brief_of(&mut self.wholes, view)?;
-        let glance = glance_of(place, line, brief)?;
-        self.log.push(glance)?;
+        let entry = entry_of(place, line, brief)?;
+        self.log.push(entry)?;
         self.lines.set(line, brief);
         Ok(())
     }
@@ -75,19 +81,24 @@ impl Sighting {
     /// The sights, of which those of each target can be found. Its cost is that of the sights. Memory: a growth was
     /// refused.
     pub fn end(self) -> Result<Sights, Memory>
-        ensures { IfOk result (λ s. s ≡ self) }
+        ensures { IfOk result (λ s. (t : Target) (place : ℕ) → seen_of s t place ≡ view_at self place t) }
     {
         let Sighting { log, wholes, lines } = self;
         let alloc = *log.allocator();
-        let index = Index::of(alloc, lines_of(alloc, log.as_slice())?, lines.count())?;
-        let filed = Filed { lines, index };
-        Ok(Sights { log, wholes, filed })
+        let (line_of, glances) = parted(alloc, log.as_slice())?;
+        drop(log);
+        let glances = Grouped::of(alloc, line_of.as_slice(), glances.as_slice(), lines.count())?;
+        Ok(Sights {
+            lines,
+            glances,
+            wholes,
+        })
     }
 }
 
 /// A sight as the log keeps it. Memory if the place or the line is above 2^32.
-fn glance_of(place: u64, line: usize, brief: Brief) -> Result<Glance, Memory>
-    ensures { IfOk result (λ g. g ≡ glance place line brief) }
+fn entry_of(place: u64, line: usize, brief: Brief) -> Result<Entry, Memory>
+    ensures { IfOk result (λ e. e ≡ entry place line brief) }
 {
     let Ok(place) = u32::try_from(place) else {
         return Err(Memory);
@@ -95,16 +106,20 @@ fn glance_of(place: u64, line: usize, brief: Brief) -> Result<Glance, Memory>
     let Ok(line) = u32::try_from(line) else {
         return Err(Memory);
     };
-    Ok(Glance { place, line, brief })
+    let glance = Glance { place, brief };
+    Ok(Entry { line, glance })
 }
 
-/// The line of each sight's target.
-fn lines_of(alloc: Global, log: &[Glance]) -> Result<Vec<u32>, Memory>
-    ensures { IfOk result (λ lines. lines.items ≡ lines_of log.now) }
+/// The lines of a log, and its glances.
+fn parted(alloc: Global, log: &[Entry]) -> Result<(Vec<u32>, Vec<Glance>), Memory>
+    ensures lines { IfOk result (λ p. p.0.items ≡ lines_of log.now) }
+    ensures glances { IfOk result (λ p. p.1.items ≡ all_glances log.now) }
 {
     let mut lines = Vec::with_capacity(alloc, log.len())?;
-    for glance in log {
-        lines.push(glance.line)?;
+    let mut glances = Vec::with_capacity(alloc, log.len())?;
+    for entry in log {
+        lines.push(entry.line)?;
+        glances.push(entry.glance)?;
     }
-    Ok(lines)
+    Ok((lines, glances))
 }

@@ -1,5 +1,5 @@
 ghost use Rattle.std.specs.Prelude.{◌≡◌, ℕ, pos, IfOk};
-ghost use Rattle.kq_history.specs.Sights.{view_at};
+ghost use Rattle.kq_history.specs.Glances.{seen_of};
 
 use crate::answering::Answering;
 use crate::at::HistoryAt;
@@ -146,7 +146,7 @@ impl<'a> Split<'a> {
 
     /// All that was seen of targets.
     pub(crate) fn sights(&self) -> &Sights
-        ensures { (place : ℕ) (t : Target) → (seen_at self.now place).view t ≡ view_at result.now place t }
+        ensures { (place : ℕ) (t : Target) → (seen_at self.now place).view t ≡ seen_of result.now t place }
     {
         &self.seen.views
     }

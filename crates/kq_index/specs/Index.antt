@@ -1,7 +1,6 @@
--- Where each of some numbers stands in a list of them, and how an index of that is laid out.
-use Rattle.std.specs.Prelude.{◌≡◌, ◌==◌, ℕ, ◌+◌, ◌<◌, Bool, true, All, List, [], ◌∷◌, ◌++◌, length, take, nat_lt}
-use Rattle.std.specs.Prelude.{slice_index, if◌then◌else◌}
-use Rattle.std.specs.List.{count_by}
+-- Where each of some numbers stands in a list of them.
+use Rattle.std.specs.Prelude.{◌≡◌, ◌==◌, ℕ, ◌+◌, ◌<◌, Bool, List, [], ◌∷◌, ◌++◌, length, slice_index, slice_index_or}
+use Rattle.std.specs.Prelude.{if◌then◌else◌}
 
 -- the number, where it passes
 abbrev pub shelved : Bool → ℕ → List ℕ
@@ -12,26 +11,10 @@ abbrev pub standing : {X : Type 0} → (X → Bool) → ℕ → List X → List 
 standing test from [] = []
 standing test from (x ∷ xs) = shelved (test x) from ++ standing test (from + 1) xs
 
--- how many of them are the key
-abbrev pub count_of : ℕ → List ℕ → ℕ
-count_of key keys = count_by (λ k. k == key) keys
+-- one after the other, from this one on
+abbrev pub AreNumbers : ℕ → List ℕ → Type 0
+AreNumbers from numbers = (at : ℕ) → at < length numbers → slice_index numbers at ≡ from + at
 
--- how many are below it
-abbrev pub below : ℕ → List ℕ → ℕ
-below key keys = count_by (λ k. nat_lt k key) keys
-
--- of each key how many there are
-abbrev pub AreCounts : List ℕ → List ℕ → Type 0
-AreCounts keys counts = (key : ℕ) → key < length counts → slice_index counts key ≡ count_of key keys
-
--- of each key how many are below it
-abbrev pub AreStarts : List ℕ → List ℕ → Type 0
-AreStarts keys starts = (key : ℕ) → key < length starts → slice_index starts key ≡ below key keys
-
--- where a key stands is noted behind where lesser keys stand, in rising order
-pub record IsIndex (keys ends numbers : List ℕ) : Type 0 where
-  pub few : All (λ key. key < length ends) keys
-  pub ends_are : (key : ℕ) → key < length ends → slice_index ends key ≡ below key keys + count_of key keys
-  pub long : length numbers ≡ length keys
-  pub put : (key at : ℕ) → at < length keys → (slice_index keys at == key) ≡ true
-      → slice_index numbers (below key keys + count_of key (take at keys)) ≡ at
+-- by each key is where it stands
+abbrev pub IsIndex : List ℕ → List (List ℕ) → Type 0
+IsIndex keys numbers = (key : ℕ) → slice_index_or numbers key [] ≡ standing (λ k. k == key) 0 keys

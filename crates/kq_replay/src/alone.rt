@@ -66,12 +66,10 @@ impl<'s, 'a> Alone<'s, 'a> {
     {
         let alloc = split.allocator();
         let version = split.version();
-        let count = items.count();
         let looking = Looking::new(
             split,
-            with_slots(count, targets),
+            with_slots(items.count(), targets),
             first_place(items),
-            last_place(items),
         )?;
         Ok(Alone {
             split,
@@ -152,6 +150,7 @@ impl<'s, 'a> Alone<'s, 'a> {
             return Ok(());
         }
         self.looking.go_to(self.place);
+        self.looking.advance(self.told.as_slice());
         self.kq.reserve_to_follow(self.told.as_slice())?;
         self.kq.notify(self.told.as_slice(), &self.looking);
         self.told.clear();
@@ -257,15 +256,6 @@ fn first_place<L: ItemList>(items: &L) -> u64 {
         return 0;
     }
     items.item(0).place
-}
-
-/// The place of the last item, or 0 where there is none.
-fn last_place<L: ItemList>(items: &L) -> u64 {
-    let count = items.count();
-    if count == 0 {
-        return 0;
-    }
-    items.item(count - 1).place
 }
 
 /// How many of the items that come next, from a number on, are calls. Their records are looked at one right after the

@@ -1,4 +1,4 @@
-use Rattle.std.proofs.Common.{◌≡◌, ◌∙◌, ℕ, length, List, [], ◌∷◌, ◌++◌, Some, slice_get, sym, subst, ap, ap₂, rules}
+use Rattle.std.proofs.Common.{◌≡◌, ◌∙◌, ℕ, length, List, [], ◌∷◌, ◌++◌, slice_get, sym, ap₂, rules}
 use Rattle.kq_model.specs.declared.object.View.{View}
 use Rattle.kq_history.proofs.Briefs.{put-there, stays-put}
 use Rattle.kq_history.proofs.brief.whole.Goals as goal

@@ -7,8 +7,7 @@ use Rattle.kq_model.specs.Views.{Views}
 use Rattle.kq_model.specs.World.{views_of}
 use Rattle.kq_model.proofs.SameTarget.{same_target}
 use Rattle.kq_process.specs.World.{world_of}
-use Rattle.kq_history.specs.declared.sights.Sight.{Sight}
-use Rattle.kq_history.specs.Sights.{view_at}
+use Rattle.kq_history.specs.Sights.{view_at, Sight}
 use Rattle.kq_history.specs.Touched.{has_target}
 use Rattle.kq_history.proofs.Following.{marked-more}
 use Rattle.kq_history.proofs.NotedKeys.{any-more, as_target}

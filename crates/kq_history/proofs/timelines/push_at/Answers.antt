@@ -6,7 +6,7 @@ use Rattle.indexmap.specs.IndexMap.{with_value_at}
 use Rattle.indexmap.proofs.CallerLemmas.{updates-with_value_at}
 use Rattle.kq_history.specs.declared.timeline.Mark.{Mark}
 use Rattle.kq_history.specs.Timeline.{marked, IsUpTo}
-use Rattle.kq_history.specs.Timelines.{marks_at, or_none}
+use Rattle.kq_history.specs.Timelines.{or_none}
 use Rattle.kq_history.proofs.NotedMarks.{marks-there, one-more-at}
 use Rattle.kq_history.proofs.timelines.push_at.Goals as goal
 

@@ -11,7 +11,7 @@ pub of-requires : goal.of-requires
 of-requires g c =
     let below : All (λ n. n < length (keys c.args.lines.table)) c.args.line_of.items =
     lined-below (keys c.args.lines.table) c.args.line_of.items c.requires.0 c.requires.1 in
-    subst (λ (count : ℕ). All (λ n. n < count) c.args.line_of.items) (sym c.count-count.ensures) below
+    subst (λ (count : ℕ). All (λ n. n < count) c.args.line_of.items) (sym c.count-count.ensures.count) below
 
 pub returns-clause-filed : goal.returns-clause-filed
 returns-clause-filed g c = λ (sources : List Source) lined (s : Source).

@@ -1,23 +1,26 @@
-use Rattle.std.proofs.Common.{◌≤◌, List, rules}
-use Rattle.kq_history.specs.declared.sights.Sight.{Sight}
-use Rattle.kq_history.proofs.LookingLemmas.{counts-rise, looks-first}
+use Rattle.std.proofs.Common.{◌≡◌, ◌++◌, ◌∷◌, [], List, get_or, sym, subst, rules}
+use Rattle.std.specs.Borrow.{Bor}
+use Rattle.std.specs.Prelude.{All}
+use Rattle.std.proofs.lemmas.List.Elements.{All-append, All-cons, All-nil}
+use Rattle.kq_model.specs.declared.object.Target.{Target}
+use Rattle.kq_model.specs.declared.object.Target.TheVariants.{Socket}
+use Rattle.kq_history.specs.declared.glances.Glance.{Glance}
+use Rattle.kq_history.specs.Looking.{HasOwn}
 use Rattle.kq_history.proofs.looking.Looking.new.Goals as goal
 
-pub slots_for-requires-clause-gone : goal.slots_for-requires-clause-gone
-slots_for-requires-clause-gone c =
-    let later : c.args.from ≤ c.max-last.result = search rules in
-    counts-rise c.args.from c.max-last.result c.count_at-gone.result c.count_at-end.result c.sights-sights.result.now later
-    c.count_at-gone.ensures.within c.count_at-gone.ensures.up_to c.count_at-end.ensures.later
+pub loop-target-init : goal.loop-target-init
+loop-target-init c =
+    let s = c.sights-sights.result.now in
+    let none : c.in_ok-slots.slots.looks.items ≡ [] = c.in_ok-slots.ensures in
+    subst (All (HasOwn s)) (sym none) (All-nil (HasOwn s))
 
-pub invariant_of-result : goal.invariant_of-result
-invariant_of-result c =
-    let t = c.args.split.now in
-    let all : List Sight = c.sights-sights.result.now in
-    let gone = c.count_at-gone.result in
-    let end = c.count_at-end.result in
-    let last = c.max-last.result in
-    let later : c.args.from ≤ last = search rules in
-    λ _.
-    looks-first t c.args.from last gone end all c.in_ok-slots.numbers.items c.in_ok-slots.slots.views later
-    c.count_at-gone.ensures.within c.count_at-end.ensures.within c.count_at-gone.ensures.up_to c.count_at-gone.ensures.later c.count_at-end.ensures.later
-    c.count_at-gone.ensures.in_order c.sights-sights.ensures c.in_ok-slots.ensures.shown c.in_ok-slots.ensures.left
+pub loop-target-preserved : goal.loop-target-preserved
+loop-target-preserved c =
+    let s = c.sights-sights.result.now in
+    let old = c.loop-target.slots.looks.items in
+    let gs : Bor (List Glance) = c.of-glances.result in
+    let t : Target = get_or c.args.targets.now c.loop-target.target-index (Socket 0) in
+    let pushed : c.push.new.self.looks.items ≡ old ++ (t, gs) ∷ [] = search rules in
+    subst (All (HasOwn s)) (sym pushed)
+    (All-append (HasOwn s) old ((t, gs) ∷ []) c.loop-target.invariant
+    (All-cons (HasOwn s) (t, gs) [] (c.of-glances.ensures.glances, c.of-glances.ensures.rising) (All-nil (HasOwn s))))

@@ -1,12 +1,15 @@
-use Rattle.std.proofs.Common.{◌≡◌, Some, take, rules}
-use Rattle.std.specs.HashMap.{get}
-use Rattle.kq_history.specs.Keys.{target_key}
-use Rattle.kq_history.proofs.LookingLemmas.{look-shows}
+use Rattle.std.proofs.Common.{◌∙◌, None, sym, ap, rules}
+use Rattle.kq_history.specs.Glances.{marks_in}
+use Rattle.kq_history.specs.Timeline.{value_at}
+use Rattle.kq_history.proofs.SlotsOf.{own-slot}
 use Rattle.kq_history.proofs.looking.LookingViews.view.Goals as goal
+
+pub near-requires : goal.near-requires
+near-requires c = (own-slot c.self.inside.sights.now c.self.inside.slots.looks.items c.args.target c.in-Some.glances c.self.invariant.own c.in-Some.ensures).1
 
 pub returns-in-Some : goal.returns-in-Some
 returns-in-Some c =
     let l = c.self.inside in
-    let found : get target_key l.slots.views c.args.target ≡ Some c.in-Some.view = search rules in
-    let shown = look-shows l.split.now l.place l.last (take l.end l.sights.now) l.gone l.numbers.items l.taken l.slots.views (c.self.invariant c.if-self.true) c.args.target c.in-Some.view found in
+    let own = (own-slot c.self.inside.sights.now c.self.inside.slots.looks.items c.args.target c.in-Some.glances c.self.invariant.own c.in-Some.ensures).0 in
+    let shown = c.near.ensures ∙ ap (λ gs. value_at l.place None (marks_in l.sights.now.wholes gs)) own ∙ sym (c.self.invariant.tells l.place c.args.target) in
     search rules

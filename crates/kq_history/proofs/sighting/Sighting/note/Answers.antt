@@ -5,13 +5,12 @@ use Rattle.std.proofs.lemmas.List.Sorted.{IsNonDecreasingBy-push}
 use Rattle.kq_model.specs.declared.object.Target.{Target}
 use Rattle.kq_history.specs.declared.brief.Brief.TheVariants.{Nothing}
 use Rattle.kq_history.specs.declared.item.Source.TheVariants.{Of}
-use Rattle.kq_history.specs.declared.sights.Glance.{Glance}
-use Rattle.kq_history.specs.declared.sights.Sight.{Sight}
+use Rattle.kq_history.specs.declared.sighting.Entry.{Entry}
 use Rattle.kq_history.specs.Brief.{view_in}
-use Rattle.kq_history.specs.Glances.{glance, sights_in}
+use Rattle.kq_history.specs.Glances.{entry, sights_in}
 use Rattle.kq_history.specs.Sighting.{IsNumbered}
-use Rattle.kq_history.specs.Sights.{last_view, sight, view_at, AreInOrder, AreUpTo}
-use Rattle.kq_history.proofs.Glances.{no-more}
+use Rattle.kq_history.specs.Sights.{last_view, sight, view_at, AreInOrder, AreUpTo, Sight}
+use Rattle.kq_history.proofs.GlanceLemmas.{no-more}
 use Rattle.kq_history.proofs.SameValues.{same_view, view_eq}
 use Rattle.kq_history.proofs.Sighted.{in-order-on, numbered-on, numbered-push, seen-push, sights-stay}
 use Rattle.kq_history.proofs.SightLemmas.{up_to-last, view-kept, view-push}
@@ -73,8 +72,8 @@ invariant_of-self-in_err-brief c =
       numbered-on table c.of.new.self.table ws vs log c.of.ensures.stay c.brief_of.ensures.grows c.self.invariant.1 c.of.ensures.values,
     )
 
-pub invariant_of-self-in_err-glance : goal.invariant_of-self-in_err-glance
-invariant_of-self-in_err-glance c =
+pub invariant_of-self-in_err-entry : goal.invariant_of-self-in_err-entry
+invariant_of-self-in_err-entry c =
     let table = c.self.inside.lines.table in
     let ws = c.self.inside.wholes.items in
     let vs = c.brief_of.new.wholes.items in
@@ -90,9 +89,9 @@ invariant_of-self-in_err-push c =
     let vs = c.brief_of.new.wholes.items in
     let log = c.self.inside.log.items in
     let same : c.push.new.self.items ≡ log = search rules in (
-      subst (λ (gs : List Glance). AreInOrder (sights_in (keys c.of.new.self.table) vs gs)) (sym same)
+      subst (λ (es : List Entry). AreInOrder (sights_in (keys c.of.new.self.table) vs es)) (sym same)
           (in-order-on table c.of.new.self.table ws vs log c.of.ensures.stay c.brief_of.ensures.grows c.self.invariant.1 c.self.invariant.0),
-      subst (λ (gs : List Glance). IsNumbered c.of.new.self.table vs gs) (sym same)
+      subst (λ (es : List Entry). IsNumbered c.of.new.self.table vs es) (sym same)
           (numbered-on table c.of.new.self.table ws vs log c.of.ensures.stay c.brief_of.ensures.grows c.self.invariant.1 c.of.ensures.values),
     )
 
@@ -105,14 +104,14 @@ returns-clause-noted c = λ (at : ℕ) (t : Target).
     let vs = c.brief_of.new.wholes.items in
     let log = c.self.inside.log.items in
     let old : List Sight = c.args.self.now in
-    let g : Glance = glance c.args.place c.in_ok-line.line c.in_ok-brief.brief in
+    let e : Entry = entry c.args.place c.in_ok-line.line c.in_ok-brief.brief in
     let inside : sights_in (keys c.self.inside.lines.table) ws log ≡ old = search rules in
     let stay = sights-stay c.self.inside.lines.table mid ws vs log c.of.ensures.stay c.brief_of.ensures.grows c.self.invariant.1 in
     let s : Sight = sight c.args.target c.args.place c.args.view in
-    let more : c.push.new.self.items ≡ log ++ g ∷ [] = search rules in
+    let more : c.push.new.self.items ≡ log ++ e ∷ [] = search rules in
     let pushed : sights_in (keys c.set.new.self.table) vs c.push.new.self.items ≡ old ++ s ∷ [] =
     ap (sights_in (keys c.set.new.self.table) vs) more
-    ∙ seen-push mid c.set.new.self.table vs log g c.args.target c.in_ok-line.ensures.line c.set.ensures.stay c.args.view c.in_ok-brief.ensures.brief
+    ∙ seen-push mid c.set.new.self.table vs log e c.args.target c.in_ok-line.ensures.line c.set.ensures.stay c.args.view c.in_ok-brief.ensures.brief
     ∙ ap (λ (ss : List Sight). ss ++ s ∷ []) (stay ∙ inside) in
     ap (λ (ss : List Sight). view_at ss at t) pushed ∙ view-push at t s old
 
@@ -123,14 +122,14 @@ returns-clause-up_to c =
     let vs = c.brief_of.new.wholes.items in
     let log = c.self.inside.log.items in
     let old : List Sight = c.args.self.now in
-    let g : Glance = glance c.args.place c.in_ok-line.line c.in_ok-brief.brief in
+    let e : Entry = entry c.args.place c.in_ok-line.line c.in_ok-brief.brief in
     let inside : sights_in (keys c.self.inside.lines.table) ws log ≡ old = search rules in
     let stay = sights-stay c.self.inside.lines.table mid ws vs log c.of.ensures.stay c.brief_of.ensures.grows c.self.invariant.1 in
     let s : Sight = sight c.args.target c.args.place c.args.view in
-    let more : c.push.new.self.items ≡ log ++ g ∷ [] = search rules in
+    let more : c.push.new.self.items ≡ log ++ e ∷ [] = search rules in
     let pushed : sights_in (keys c.set.new.self.table) vs c.push.new.self.items ≡ old ++ s ∷ [] =
     ap (sights_in (keys c.set.new.self.table) vs) more
-    ∙ seen-push mid c.set.new.self.table vs log g c.args.target c.in_ok-line.ensures.line c.set.ensures.stay c.args.view c.in_ok-brief.ensures.brief
+    ∙ seen-push mid c.set.new.self.table vs log e c.args.target c.in_ok-line.ensures.line c.set.ensures.stay c.args.view c.in_ok-brief.ensures.brief
     ∙ ap (λ (ss : List Sight). ss ++ s ∷ []) (stay ∙ inside) in
     subst (AreUpTo c.args.place) (sym pushed)
     (All-append (λ (x : Sight). x.place ≤ c.args.place) old (s ∷ []) c.requires
@@ -145,21 +144,21 @@ invariant_of-self-2 c =
     let vs = c.brief_of.new.wholes.items in
     let log = c.self.inside.log.items in
     let target = c.args.target in
-    let g : Glance = glance c.args.place c.in_ok-line.line c.in_ok-brief.brief in
+    let e : Entry = entry c.args.place c.in_ok-line.line c.in_ok-brief.brief in
     let inside : sights_in (keys table) ws log ≡ c.args.self.now = search rules in
     let stay = sights-stay table mid ws vs log c.of.ensures.stay c.brief_of.ensures.grows c.self.invariant.1 in
     let s : Sight = sight target c.args.place c.args.view in
-    let more : c.push.new.self.items ≡ log ++ g ∷ [] = search rules in
+    let more : c.push.new.self.items ≡ log ++ e ∷ [] = search rules in
     let before = numbered-on table mid ws vs log c.of.ensures.stay c.brief_of.ensures.grows c.self.invariant.1 c.of.ensures.values in
     let rise = in-order-on table mid ws vs log c.of.ensures.stay c.brief_of.ensures.grows c.self.invariant.1 c.self.invariant.0 in
     let pushed : sights_in (keys new) vs c.push.new.self.items ≡ sights_in (keys mid) vs log ++ s ∷ [] =
     ap (sights_in (keys new) vs) more
-    ∙ seen-push mid new vs log g target c.in_ok-line.ensures.line c.set.ensures.stay c.args.view c.in_ok-brief.ensures.brief in (
+    ∙ seen-push mid new vs log e target c.in_ok-line.ensures.line c.set.ensures.stay c.args.view c.in_ok-brief.ensures.brief in (
       subst AreInOrder (sym pushed)
           (IsNonDecreasingBy-push (λ (x : Sight). x.place) (sights_in (keys mid) vs log) s rise
           (λ d some. up_to-last s.place (sights_in (keys mid) vs log) d
           (subst (AreUpTo s.place) (sym (stay ∙ inside)) c.requires) some)),
-      subst (λ (gs : List Glance). IsNumbered new vs gs) (sym more)
-          (numbered-push mid new vs log g target c.in_ok-line.ensures.line c.set.ensures.stay
+      subst (λ (es : List Entry). IsNumbered new vs es) (sym more)
+          (numbered-push mid new vs log e target c.in_ok-line.ensures.line c.set.ensures.stay
           (c.set.ensures.values (Of target) c.in_ok-line.ensures.line) c.in_ok-brief.ensures.settled before),
     )

@@ -1,9 +1,7 @@
 use Rattle.std.proofs.Common.{List, ◌∙◌, sym, ap, subst}
 use Rattle.kq_model.specs.declared.event.Event.{Event}
 use Rattle.kq_history.specs.declared.numbers.Numbers.{Numbers}
-use Rattle.kq_history.specs.declared.sights.Sight.{Sight}
 use Rattle.kq_history.specs.Numbers.{named_at}
-use Rattle.kq_history.specs.Sights.{view_at}
 use Rattle.kq_history.specs.Split.{IsSplit}
 use Rattle.kq_history.specs.Timeline.{value_at}
 use Rattle.kq_history.specs.Traced.{traced}
@@ -20,7 +18,7 @@ invariant_of-result c =
     subst (λ (xs : List Event). IsSplit (record { version = c.args.trace.now.version; events = xs }) seen c.in_ok-said.said given.plain.items)
     (sym c.as_slice-events.ensures) (record {
       shows = record {
-        view = λ place t. ap (λ (ss : List Sight). view_at ss place t) c.in_ok-seen.ensures.views ∙ shows.view place t;
+        view = λ place t. c.in_ok-seen.ensures.views t place ∙ shows.view place t;
         descriptor = λ place pid number. ap (λ (n : Numbers). named_at n place pid number) c.in_ok-seen.ensures.numbers ∙ shows.descriptor place pid number;
         now = λ place. ap (value_at place 0) c.in_ok-seen.ensures.clock ∙ shows.now place;
         within = shows.within;

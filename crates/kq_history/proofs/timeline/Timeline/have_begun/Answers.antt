@@ -25,7 +25,7 @@ returns-else-count-marks-2-clause-begun g c = λ later.
       | else-count-gt0 w ↦ λ d some. absurd (omega (arith, some, w.if-count-gt0.false))
     ] in
     subst (HaveBegun place count) same
-    (begun-between place marks count
+    (begun-between (λ (m : Mark g.row.V.Denot). m.place) place marks count
     (subst (λ ms. IsNonDecreasingBy (λ (m : Mark g.row.V.Denot). m.place) ms) (sym c.as_slice-marks.ensures.value) c.self.invariant) within last
     (λ d inside. ap (λ (m : Mark g.row.V.Denot). leb m.place place) (get_or_default marks count d next inside)
     ∙ lt-leb (get_or marks count next).place place (ltb-true place (get_or marks count next).place later)))
