@@ -28,6 +28,10 @@ pub(crate) fn count_near(glances: &[Glance], place: u64, come: usize) -> usize
     if have_begun(glances, place, come) {
         return come;
     }
+    let next = come.saturating_add(1);
+    if have_begun(glances, place, next) {
+        return next;
+    }
     let count = sought_from(glances, place, come);
     if have_begun(glances, place, count) {
         return count;
