@@ -1,12 +1,11 @@
 -- Stretches: those of one item, and those of a run of steps of the clock.
-use Rattle.std.proofs.Common.{◌≡◌, ◌∙◌, ◌-◌, ◌<◌, ℕ, List, [], ◌∷◌, All, get_or, length, map, true, refl, sym, ap, ap₂, arith}
+use Rattle.std.proofs.Common.{◌≡◌, ◌∙◌, ◌-◌, ◌<◌, ℕ, List, [], ◌∷◌, get_or, length, true, refl, sym, ap, ap₂, arith}
 use Rattle.std.proofs.lemmas.List.Elements.{All-get_or}
 use Rattle.kq_history.specs.declared.item.Item.{Item}
 use Rattle.kq_history.specs.declared.item.What.{What}
 use Rattle.kq_history.specs.declared.item.What.TheVariants as what
-use Rattle.kq_history.specs.Log.{is_clocked, item_at, is_step, AreSteps}
+use Rattle.kq_history.specs.Log.{item_at, is_step, AreSteps}
 use Rattle.kq_history.specs.Stretches.{span, stretch, stretch_item}
-use Rattle.kq_history.specs.Steps.{joined}
 use Rattle.kq_history.proofs.Joined.{has-moments}
 use Rattle.kq_history.proofs.Weaving.{read, run-is}
 
