@@ -32,12 +32,6 @@ use Rattle.kq_history.proofs.TimelineLemmas.{value-behind, value-none}
 -- ---- what they show
 
 module _ (ws : List View) (gs : List Glance) (place : ℕ) where
-  mark_of : Glance → Mark (Option View)
-  mark_of g = mark g.place (view_in ws g.brief)
-
-  any-glance : Mark (Option View) → Glance → Glance
-  any-glance m g = record { place = m.place; brief = g.brief }
-
   marked : (k : ℕ) (d : Mark (Option View)) (g : Glance) → k < length gs
       → get_or (marks_in ws gs) k d ≡ mark (get_or gs k g).place (view_in ws (get_or gs k g).brief)
   marked k d g within = get_or-map (λ (x : Glance). mark x.place (view_in ws x.brief)) gs k g d within
