@@ -100,6 +100,7 @@ impl<'a> Split<'a> {
     /// are followed, nothing of the processes that descend from those that it names. Its cost is that of
     /// the items that are no steps of the clock, a search among the steps for each of these, and two
     /// searches for each source of what concerns the kqueue. Where it follows nobody, no fork is read.
+    /// Memory: a growth was refused, or an item stands behind 2^32 others.
     pub fn answering<'s>(&'s self, kqueue: u64) -> Result<Answering<'s, 'a>, Memory>
         requires { IsBorn kqueue self.now }
         ensures split { IfOk result (λ p. p.split.now ≡ self.now) }

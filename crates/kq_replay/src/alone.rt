@@ -54,8 +54,8 @@ impl<'s, 'a> Model for Alone<'s, 'a> {
 }
 
 impl<'s, 'a> Alone<'s, 'a> {
-    /// A kqueue of this process, before the first record, which goes over these items later. A look at one of these
-    /// targets searches nothing, while it does.
+    /// A kqueue of this process, before the first record, which goes over these items later. Then a look at one of
+    /// these targets begins where the kqueue was last told of it. Memory: a growth was refused.
     pub fn new<L: ItemList>(
         split: &'s Split<'a>,
         owner: u32,
@@ -226,8 +226,8 @@ impl<'s, 'a> Alone<'s, 'a> {
     }
 }
 
-/// The rows that a kqueue of this process gives alone, from these items. A look at one of these targets searches
-/// nothing.
+/// The rows that a kqueue of this process gives alone, from these items. A look at one of these targets begins where
+/// the kqueue was last told of it. Memory: a growth was refused.
 pub fn rows_alone<L: ItemList>(
     split: &Split,
     owner: u32,
