@@ -44,8 +44,8 @@ pub fn report_text(alloc: Global, rows: &[Row], records: u64) -> Result<Vec<u8>,
 /// events and records. No row is moved, and none copied.
 ///
 /// The lines are made in pieces of a bounded number of bytes, so many at once as there are threads, but no more than
-/// processors; 0 and 1 threads are the calling one. All memory is there before the first byte is written: where `rt` refuses it, nothing was. A thread
-/// that does not start is no error.
+/// processors; 0 and 1 threads are the calling one. All memory is there before the first byte is written: where `rt`
+/// refuses it, nothing was. A thread that does not start is no error.
 pub fn write_by_place<R: AllocGlobal + Threads + Sync, W: Write>(
     rt: &R,
     rows: &RowLists,
