@@ -3,3 +3,4 @@ pub mod Ready
 pub mod Notes
 pub mod Releasing
 pub mod Counted
+pub mod Unfolded

@@ -19,7 +19,7 @@ fn grows(size: u64, bytes: u32, end: u64) -> bool
 }
 
 impl Objects {
-    #[tactic(auto, unfolding(kq_model::specs::FilePlans::plan_seek, kq_model::specs::FilePlans::sought_in, kq_model::specs::FilePlans::sought, kq_model::specs::ObjectPlan::hints_for))]
+    #[tactic(auto, unfolding(crate::proofs::Unfolded::seeking))]
     #[inline(never)]
     pub(crate) fn plan_seek(&self, on: Named, offset: i64) -> Result<Plan, PlanError>
         ensures plan { IsPlanned result (plan_seek on offset (objects_of self.now)) }
@@ -45,7 +45,7 @@ impl Objects {
         Ok(Plan::of_one(self.alloc, doing, Target::Open(place), Some(Hint::Readable))?)
     }
 
-    #[tactic(auto, unfolding(kq_model::specs::FilePlans::read_file, kq_model::specs::FilePlans::noted, kq_model::specs::ObjectPlan::hints_for))]
+    #[tactic(auto, unfolding(crate::proofs::Unfolded::reading))]
     pub(crate) fn read_file(&self, place: u64, bytes: u32) -> Result<Plan, PlanError>
         ensures plan { IsPlanned result
             (read_file place bytes (object_at self.now.descriptions place) (objects_of self.now)) }

@@ -87,7 +87,7 @@ fn deletion(number: u32, note: Note) -> Option<Doing>
 }
 
 impl Objects {
-    #[tactic(auto, unfolding(kq_model::specs::FilePlans::plan_file, kq_model::specs::FilePlans::made_file, kq_model::specs::ObjectPlan::hints_for))]
+    #[tactic(auto, unfolding(crate::proofs::Unfolded::making_file))]
     #[inline(never)]
     pub(crate) fn plan_file(&mut self, number: u32, size: i64) -> Result<Plan, PlanError>
         ensures same { objects_of self.new ≡ objects_of self.old }
@@ -148,7 +148,7 @@ impl Objects {
         Ok(Plan::of_two(self.alloc, opened, listed, hint)?)
     }
 
-    #[tactic(auto, unfolding(kq_model::specs::FilePlans::plan_truncate, kq_model::specs::FilePlans::truncated, kq_model::specs::FilePlans::sized))]
+    #[tactic(auto, unfolding(crate::proofs::Unfolded::truncating))]
     #[inline(never)]
     pub(crate) fn plan_truncate(&self, number: u32, size: i64) -> Result<Plan, PlanError>
         ensures plan { IsPlanned result (plan_truncate number size (objects_of self.now)) }

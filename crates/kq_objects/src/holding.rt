@@ -18,7 +18,7 @@ use kq_model::{
 
 impl Objects {
     /// One more descriptor names the object, as after dup(2) and fork(2). Takes no memory.
-    #[tactic(auto, unfolding(kq_model::specs::Holding::hold, kq_model::specs::Holding::hold_doings, kq_model::specs::Holding::holders_of, kq_model::specs::Objects::all_done))]
+    #[tactic(auto, unfolding(crate::proofs::Unfolded::holding))]
     pub fn hold(&mut self, named: Named)
         requires { CanHold named (objects_of self.old) }
         ensures { objects_of self.new ≡ hold named (objects_of self.old) }
@@ -49,7 +49,7 @@ impl Objects {
 
     /// One descriptor no longer names the object, as after close(2). The last one ends the object,
     /// or its end of a pipe, and the hint says so to the knotes that are left. Takes no memory.
-    #[tactic(auto, unfolding(kq_model::specs::Holding::release, kq_model::specs::Holding::release_doings, kq_model::specs::Holding::release_hint, kq_model::specs::Holding::holders_of, kq_model::specs::Objects::all_done))]
+    #[tactic(auto, unfolding(crate::proofs::Unfolded::releasing_named))]
     pub fn release(&mut self, named: Named) -> Option<(Target, Hint)>
         requires { CanRelease named (objects_of self.old) }
         ensures done { objects_of self.new ≡ release named (objects_of self.old) }
@@ -64,7 +64,7 @@ impl Objects {
         }
     }
 
-    #[tactic(auto, unfolding(kq_model::specs::Holding::release, kq_model::specs::Holding::release_doings, kq_model::specs::Objects::all_done))]
+    #[tactic(auto, unfolding(crate::proofs::Unfolded::releasing))]
     fn release_socket(&mut self, place: u64) -> Option<(Target, Hint)>
         requires { pos 1 ≤ℤ socket_holders (object_at self.old.sockets place) }
         ensures done { objects_of self.new ≡ release (named.Socket place) (objects_of self.old) }
@@ -77,7 +77,7 @@ impl Objects {
         None
     }
 
-    #[tactic(auto, unfolding(kq_model::specs::Holding::release, kq_model::specs::Holding::release_doings, kq_model::specs::Holding::end_hint, kq_model::specs::Objects::all_done))]
+    #[tactic(auto, unfolding(crate::proofs::Unfolded::releasing_end))]
     fn release_reader(&mut self, place: u64) -> Option<(Target, Hint)>
         requires { pos 1 ≤ℤ readers (object_at self.old.pipes place) }
         ensures done { objects_of self.new ≡ release (named.PipeRead place) (objects_of self.old) }
@@ -95,7 +95,7 @@ impl Objects {
         }
     }
 
-    #[tactic(auto, unfolding(kq_model::specs::Holding::release, kq_model::specs::Holding::release_doings, kq_model::specs::Holding::end_hint, kq_model::specs::Objects::all_done))]
+    #[tactic(auto, unfolding(crate::proofs::Unfolded::releasing_end))]
     fn release_writer(&mut self, place: u64) -> Option<(Target, Hint)>
         requires { pos 1 ≤ℤ writers (object_at self.old.pipes place) }
         ensures done { objects_of self.new ≡ release (named.PipeWrite place) (objects_of self.old) }
@@ -113,7 +113,7 @@ impl Objects {
         }
     }
 
-    #[tactic(auto, unfolding(kq_model::specs::Holding::release, kq_model::specs::Holding::release_doings, kq_model::specs::Holding::left, kq_model::specs::Holding::leaving, kq_model::specs::Holding::close_hint, kq_model::specs::Objects::all_done))]
+    #[tactic(auto, unfolding(crate::proofs::Unfolded::releasing_description))]
     fn release_description(&mut self, place: u64) -> Option<(Target, Hint)>
         requires { pos 1 ≤ℤ description_holders (object_at self.old.descriptions place) }
         ensures done { (number : ℕ) → objects_of self.new ≡ release (named.Open place number) (objects_of self.old) }
