@@ -17,3 +17,4 @@ pub mod Acted
 pub mod Undone
 pub mod Still
 pub mod Applied
+pub mod Unfolded

@@ -49,7 +49,7 @@ impl State {
 
     /// A record about objects that gives no number a name: those of files by their numbers, and those
     /// whose descriptor is resolved. The reasons are those of the object.
-    #[tactic(auto, unfolding(kq_model::specs::ObjectRecordPlans::plan_act, kq_model::specs::ObjectRecordPlans::with_objects))]
+    #[tactic(auto, unfolding(crate::proofs::Unfolded::acting))]
     pub fn act(&mut self, place: u64, act: &Act, effect: &mut Effect) -> Result<(), Memory>
         requires earlier { IsCountedWorld place (state_of self.old) }
         requires none { made_names place act.now ≡ [] }
@@ -74,7 +74,7 @@ impl State {
     }
 
     // A record that makes an object, which the new number names.
-    #[tactic(auto, unfolding(kq_model::specs::ObjectRecordPlans::plan_act, kq_model::specs::ObjectRecordPlans::with_objects))]
+    #[tactic(auto, unfolding(crate::proofs::Unfolded::acting))]
     #[inline(never)]
     fn act_naming(
         &mut self,
@@ -119,7 +119,7 @@ impl State {
 
     /// A socket is made, under a number that is not open (socket(2)). NoProcess; UsedDescriptor: the
     /// number is open; TooMany: a size of a buffer.
-    #[tactic(auto, unfolding(kq_model::specs::Holding::made_names, kq_model::specs::ObjectRecordPlans::plan_socket, kq_model::specs::ObjectRecordPlans::if_live, kq_model::specs::ObjectRecordPlans::unless_open, kq_model::specs::World::named_by))]
+    #[tactic(auto, unfolding(crate::proofs::Unfolded::opening_socket))]
     #[inline(never)]
     pub fn socket(
         &mut self,
@@ -158,7 +158,7 @@ impl State {
     /// A connection that waits at a socket becomes a socket of its own, under a number that is not open
     /// (accept(2)). NoProcess; NoDescriptor: `fd` is not open; UsedDescriptor: `to` is; then WrongKind,
     /// Absent: no connection waits; TooMany: a size of a buffer.
-    #[tactic(auto, unfolding(kq_model::specs::Holding::made_names, kq_model::specs::ObjectRecordPlans::plan_accept, kq_model::specs::ObjectRecordPlans::unless_open, kq_model::specs::DescriptorPlans::on_descriptor, kq_model::specs::DescriptorPlans::on_named, kq_model::specs::World::named_by))]
+    #[tactic(auto, unfolding(crate::proofs::Unfolded::opening_accepted))]
     #[inline(never)]
     pub fn accept(
         &mut self,
@@ -201,7 +201,7 @@ impl State {
 
     /// A file is opened, under a number that is not open (open(2)). NoProcess; UsedDescriptor: the
     /// number is open; then Absent: there is no such file.
-    #[tactic(auto, unfolding(kq_model::specs::Holding::made_names, kq_model::specs::ObjectRecordPlans::plan_open, kq_model::specs::ObjectRecordPlans::if_live, kq_model::specs::ObjectRecordPlans::unless_open, kq_model::specs::World::named_by))]
+    #[tactic(auto, unfolding(crate::proofs::Unfolded::opening_file))]
     #[inline(never)]
     pub fn open(
         &mut self,
@@ -236,7 +236,7 @@ impl State {
 
     /// A pipe is made, under two numbers that are not open (pipe(2)). NoProcess; UsedDescriptor: one of
     /// them is open, or both are the same; TooMany: its capacity.
-    #[tactic(auto, unfolding(kq_model::specs::ObjectRecordPlans::plan_pipe, kq_model::specs::ObjectRecordPlans::if_live, kq_model::specs::ObjectRecordPlans::unless_open, kq_model::specs::World::named_by))]
+    #[tactic(auto, unfolding(crate::proofs::Unfolded::opening_pipe))]
     #[inline(never)]
     pub fn pipe(
         &mut self,
@@ -274,7 +274,7 @@ impl State {
     }
 
     // A pipe, whose ends these two new numbers name.
-    #[tactic(auto, unfolding(kq_model::specs::ObjectRecordPlans::plan_act, kq_model::specs::ObjectRecordPlans::with_objects))]
+    #[tactic(auto, unfolding(crate::proofs::Unfolded::acting))]
     fn make_pipe(
         &mut self,
         place: u64,

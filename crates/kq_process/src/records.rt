@@ -98,7 +98,7 @@ impl Processes {
     /// The kqueue of a kevent call, by the place of the record that made it. It takes no memory.
     /// NoProcess; NoDescriptor: the number is not open; WrongKind: it names no kqueue; TooMany:
     /// more than 1,024 changes, or room for more than 65,536 events.
-    #[tactic(auto, unfolding(kq_model::specs::DescriptorPlans::plan_kevent, kq_model::specs::DescriptorPlans::plan_call))]
+    #[tactic(auto, unfolding(crate::proofs::Unfolded::calling))]
     pub fn call(&self, pid: u32, fd: u32, changes: &[Change], room: u32) -> Result<u64, Why>
         ensures { IsCallBy (plan_kevent pid fd changes.now room) self.now changes.now room result }
     {
