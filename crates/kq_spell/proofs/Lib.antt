@@ -1,3 +1,4 @@
+pub mod Unfolded
 pub mod Lines
 pub mod FlagBits
 pub mod Words

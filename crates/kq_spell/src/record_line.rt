@@ -81,7 +81,7 @@ fn put_amount(out: &mut Vec<u8>, op: &str, pid: u32, fd: u32, n: u32) -> Result<
 }
 
 /// Adds the line of a record of a process, its signals or its kqueues, or of the clock.
-#[tactic(auto, unfolding(kq_model::specs::Spelling::record_data, kq_model::specs::Spelling::members_of, crate::specs::Again::FitsRecord))]
+#[tactic(auto, unfolding(crate::proofs::Unfolded::spelling))]
 fn put_process_record(out: &mut Vec<u8>, event: &Event) -> Result<(), Memory>
     requires { is_of_process event.now ≡ true }
     ensures text { OnOk result (Adds out.old.items (line_text (record_data event.now)) out.new.items) }
@@ -145,7 +145,7 @@ fn put_process_record(out: &mut Vec<u8>, event: &Event) -> Result<(), Memory>
 }
 
 /// Adds the line of a record of a descriptor or a socket.
-#[tactic(auto, unfolding(kq_model::specs::Spelling::record_data, kq_model::specs::Spelling::members_of, crate::specs::Again::FitsRecord))]
+#[tactic(auto, unfolding(crate::proofs::Unfolded::spelling))]
 fn put_descriptor_record(out: &mut Vec<u8>, event: &Event) -> Result<(), Memory>
     requires { is_of_descriptor event.now ≡ true }
     ensures text { OnOk result (Adds out.old.items (line_text (record_data event.now)) out.new.items) }
@@ -232,7 +232,7 @@ fn put_descriptor_record(out: &mut Vec<u8>, event: &Event) -> Result<(), Memory>
 }
 
 /// Adds the line of a record of a pipe or a file.
-#[tactic(auto, unfolding(kq_model::specs::Spelling::record_data, kq_model::specs::Spelling::members_of, crate::specs::Again::FitsRecord))]
+#[tactic(auto, unfolding(crate::proofs::Unfolded::spelling))]
 fn put_file_record(out: &mut Vec<u8>, event: &Event) -> Result<(), Memory>
     requires { is_of_file event.now ≡ true }
     ensures text { OnOk result (Adds out.old.items (line_text (record_data event.now)) out.new.items) }
