@@ -14,7 +14,7 @@ use Rattle.kq_history.specs.declared.item.Source.{Source}
 use Rattle.kq_history.specs.BetweenCalls.{between, from_first, to_last}
 use Rattle.kq_history.specs.Items.{has_source, is_from, source_eq, source_of}
 use Rattle.kq_history.specs.Log.{all_standing, comes_from, is_within, item_at, standing, within_of}
-use Rattle.kq_index.specs.Index.{shelved}
+use Rattle.kq_index.specs.Standing.{shelved}
 use Rattle.kq_history.proofs.Picked.{standing-from, standing-rises}
 use Rattle.kq_history.proofs.Rising.{AreFrom, DoNotFall}
 

@@ -1,3 +1,4 @@
+pub mod Unfolded
 mod TimelineLemmas
 mod Rising
 mod NumberSetLemmas
@@ -17,6 +18,7 @@ mod Briefs
 mod NotedItems
 mod GlanceLemmas
 mod Sighted
+mod FiledLemmas
 mod OwnGlances
 mod SlotsOf
 mod PickedPrivate

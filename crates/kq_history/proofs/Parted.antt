@@ -15,7 +15,7 @@ use Rattle.kq_history.specs.declared.item.What.{What}
 use Rattle.kq_history.specs.declared.item.What.TheVariants as what
 use Rattle.kq_history.specs.Items.{has_source, is_from, source_eq, source_of}
 use Rattle.kq_history.specs.Log.{all_standing, comes_from, is_clocked, is_step, is_within, item_at, others_within, standing, steps_within, within_of, AreSteps}
-use Rattle.kq_index.specs.Index.{shelved}
+use Rattle.kq_index.specs.Standing.{shelved}
 use Rattle.kq_history.proofs.Between.{all_within, all_within-is, filter-rises, of-all, rises-along, sum-filter}
 use Rattle.kq_history.proofs.Picked.{sources_merged, standing-inside, standing-none, standing-rises}
 use Rattle.kq_history.proofs.Rising.{DoNotFall, one_order}

@@ -7,7 +7,7 @@ use Rattle.kq_model.specs.declared.object.View.{View}
 use Rattle.kq_model.proofs.KnoteLaws.{by_test}
 use Rattle.kq_model.proofs.SameTarget.{same_target}
 use Rattle.kq_history.specs.Keys.{target_key}
-use Rattle.kq_index.specs.Index.{shelved, standing}
+use Rattle.kq_index.specs.Standing.{shelved, standing}
 use Rattle.kq_history.specs.Sights.{is_of, last_from, last_view, view_at, view_from, AreUpTo, Sight}
 use Rattle.kq_history.proofs.NotedKeys.{as_target}
 

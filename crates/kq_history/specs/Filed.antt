@@ -1,15 +1,15 @@
--- Where the things of each source stand in a list.
-use Rattle.std.specs.Prelude.{◌≡◌, ℕ, List}
+-- The things of each source, line by line.
+use Rattle.std.specs.Prelude.{List, [], ◌∷◌, if◌then◌else◌}
 use Rattle.std.specs.HashMap.{keys}
-use Rattle.kq_index.specs.Index.{standing}
 use Rattle.kq_history.specs.declared.filed.Filed.{Filed}
 use Rattle.kq_history.specs.declared.item.Source.{Source}
 use Rattle.kq_history.specs.Items.{source_eq}
-use Rattle.kq_history.specs.Lines.{is_line}
 
-abbrev pub filed_at : {V : Type 0} → Filed V → Source → List ℕ
-filed_at f s = standing (is_line (keys f.lines.table) s) 0 f.index
+-- what stands by the first line of a source
+abbrev pub by_source : {T : Type 0} → List Source → List (List T) → Source → List T
+by_source [] ts s = []
+by_source (x ∷ xs) [] s = []
+by_source (x ∷ xs) (own ∷ ts) s = if source_eq x s then own else by_source xs ts s
 
--- the things are of these sources
-abbrev pub AreFiled : {V : Type 0} → List Source → Filed V → Type 0
-AreFiled sources f = (s : Source) → filed_at f s ≡ standing (λ x. source_eq x s) 0 sources
+abbrev pub filed_at : {V T : Type 0} → Filed V T → Source → List T
+filed_at f s = by_source (keys f.lines.table) f.things s

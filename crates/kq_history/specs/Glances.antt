@@ -1,6 +1,5 @@
 -- What was seen of each target from place to place, in little room: as a log keeps it, and target by target.
-use Rattle.std.specs.Prelude.{◌≡◌, ℕ, true, false, List, [], ◌∷◌, map, Option, None, nat_le, slice_index_or}
-use Rattle.std.specs.Prelude.{if◌then◌else◌}
+use Rattle.std.specs.Prelude.{◌≡◌, ℕ, true, false, List, map, Option, None, nat_le}
 use Rattle.std.specs.List.Sorted.{IsNonDecreasingBy, IsPartitionPoint}
 use Rattle.kq_model.specs.declared.object.Target.{Target}
 use Rattle.kq_model.specs.declared.object.View.{View}
@@ -11,7 +10,7 @@ use Rattle.kq_history.specs.declared.item.Source.TheVariants.{Of}
 use Rattle.kq_history.specs.declared.sighting.Entry.{Entry}
 use Rattle.kq_history.specs.declared.timeline.Mark.{Mark}
 use Rattle.kq_history.specs.Brief.{view_in}
-use Rattle.kq_history.specs.Items.{source_eq}
+use Rattle.kq_history.specs.Filed.{by_source}
 use Rattle.kq_history.specs.Lines.{target_on}
 use Rattle.kq_history.specs.Sights.{Sight}
 use Rattle.kq_history.specs.Timeline.{mark, value_at}
@@ -52,14 +51,9 @@ HaveBegun place count gs =
 
 -- ---- target by target
 
--- what stands by the first line of a source
-abbrev pub by_source : List Source → List (List Glance) → Source → List Glance
-by_source [] gss s = []
-by_source (x ∷ xs) [] s = []
-by_source (x ∷ xs) (gs ∷ gss) s = if source_eq x s then gs else by_source xs gss s
-
-abbrev pub AreAllRising : List (List Glance) → Type 0
-AreAllRising gss = (line : ℕ) → AreRising (slice_index_or gss line [])
+-- those of each source
+abbrev pub AreAllRising : (Source → List Glance) → Type 0
+AreAllRising glances = (s : Source) → AreRising (glances s)
 
 -- the glances of sources, line by line, and the views that did not fit
 pub record Sighted : Type 0 where

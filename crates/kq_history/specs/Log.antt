@@ -3,7 +3,7 @@ use Rattle.std.specs.Prelude.{◌≡◌, ℕ, ◌<◌, Bool, true, false, not, �
 use Rattle.std.specs.Prelude.{filter, slice_index_or, if◌then◌else◌}
 use Rattle.std.specs.List.{flat_map}
 use Rattle.std.specs.List.Sorted.{IsNonDecreasing}
-pub use Rattle.kq_index.specs.Index.{standing}
+pub use Rattle.kq_index.specs.Standing.{standing}
 use Rattle.kq_history.specs.declared.filed.Filed.{Filed}
 use Rattle.kq_history.specs.declared.item.Item.{Item}
 use Rattle.kq_history.specs.declared.item.Source.{Source}
@@ -18,7 +18,7 @@ abbrev pub comes_from : Source → Item → Bool
 comes_from s i = source_eq (source_of i.what) s
 
 -- the shelf of each source has where its items stand
-abbrev pub AreShelved : {V : Type 0} → List Item → Filed V → Type 0
+abbrev pub AreShelved : {V : Type 0} → List Item → Filed V ℕ → Type 0
 AreShelved items shelves = (s : Source) → filed_at shelves s ≡ standing (comes_from s) 0 items
 
 -- where those of these sources stand, source by source

@@ -1,9 +1,13 @@
 -- The world as one kqueue sees it that goes from place to place.
-use Rattle.std.specs.Prelude.{◌≡◌, ℕ, All, List, Some, slice_get}
-use Rattle.std.specs.Borrow.{Bor}
+use Rattle.std.specs.Prelude.{◌≡◌, ◌≤◌, ◌<◌, ℕ, All, List, None, Some, slice_get}
 use Rattle.kq_model.specs.declared.object.Target.{Target}
+use Rattle.kq_model.specs.declared.object.View.{View}
 use Rattle.kq_history.specs.declared.glances.Glance.{Glance}
-use Rattle.kq_history.specs.Glances.{glances_of, seen_of, AreRising, Sighted}
+use Rattle.kq_history.specs.declared.showing.Showing.{Showing}
+use Rattle.kq_history.specs.declared.slots.Slot.{Slot}
+use Rattle.kq_history.specs.Brief.{view_in}
+use Rattle.kq_history.specs.Glances.{glances_of, marks_in, seen_of, AreRising, Sighted}
+use Rattle.kq_history.specs.Timeline.{value_at}
 use Rattle.kq_history.specs.Traced.{Traced, seen_at}
 
 -- after the record of a place of a trace
@@ -11,15 +15,26 @@ pub record Outlook : Type 0 where
   pub trace : Traced
   pub place : ℕ
 
--- these glances stand in a slot of the target
-abbrev pub HasSlot : List (Target × Bor (List Glance)) → Target → Bor (List Glance) → Type 0
-HasSlot slots t gs = (index : ℕ) × (slice_get slots index ≡ Some (t, gs))
+-- it is what the glances show at each place from the one on and before the other
+abbrev pub IsShown : List Glance → Showing → Type 0
+IsShown gs s = (place : ℕ) (wholes : List View) → s.from ≤ place → place < s.until
+    → view_in wholes s.brief ≡ value_at place None (marks_in wholes gs)
 
--- in a slot are the glances of its target
-abbrev pub HasOwn : Sighted → Target × Bor (List Glance) → Type 0
-HasOwn s slot = (slot.1.now ≡ glances_of s slot.0) × AreRising slot.1.now
+-- the slot of the target stands there
+abbrev pub IsSlotOf : List Slot → Target → ℕ → Type 0
+IsSlotOf slots t index = (slot : Slot) × (slice_get slots index ≡ Some slot) × (slot.target ≡ t)
+
+-- it is a slot of the target
+abbrev pub HasSlot : List Slot → Target → Slot → Type 0
+HasSlot slots t slot = (index : ℕ) × (slice_get slots index ≡ Some slot) × (slot.target ≡ t)
+
+-- in a slot are the glances of its target, and what they show
+pub record HasOwn (s : Sighted) (slot : Slot) : Type 0 where
+  pub own : slot.glances.now ≡ glances_of s slot.target
+  pub rising : AreRising slot.glances.now
+  pub shown : IsShown slot.glances.now slot.showing
 
 -- the worlds of a trace show what was seen, and of that each slot has its own
-pub record IsLooking (t : Traced) (s : Sighted) (slots : List (Target × Bor (List Glance))) : Type 0 where
+pub record IsLooking (t : Traced) (s : Sighted) (slots : List Slot) : Type 0 where
   pub tells : (place : ℕ) (target : Target) → (seen_at t place).view target ≡ seen_of s target place
   pub own : All (HasOwn s) slots

@@ -1,41 +1,48 @@
-ghost use Rattle.std.specs.Prelude.{◌≡◌, List, IfOk};
+ghost use Rattle.std.specs.Prelude.{◌≡◌, ◌<◌, All, length, IfOk};
 ghost use Rattle.std.specs.HashMap.{keys};
-ghost use Rattle.kq_history.specs.Filed.{filed_at, AreFiled};
-ghost use Rattle.kq_history.specs.Lines.{AreLined};
+ghost use Rattle.kq_index.specs.Grouped.{grouped};
+ghost use Rattle.kq_history.specs.Filed.{filed_at};
+ghost use Rattle.kq_history.specs.Lines.{is_line};
 ghost use Rattle.kq_history.specs.declared.item.Source.{Source};
 
 use crate::item::Source;
 use crate::lines::Lines;
-use kq_index::Index;
+use kq_index::{Entries, Grouped};
 use kq_model::Memory;
 use std::alloc::Global;
 
-/// Where the things of each source stand in a list that has come to its end.
+/// Things by their sources, once all came.
 #[derive(Drop)]
-pub struct Filed<V: Copy + Drop> {
+pub struct Filed<V: Copy + Drop, T> {
+    /// The line of each source.
     pub(crate) lines: Lines<V>,
-    pub(crate) index: Index,
+    /// The things, line by line.
+    pub(crate) things: Grouped<T>,
 }
 
-impl<V: Copy + Drop> Filed<V> {
-    /// Of a list of things, by the lines of their sources. Memory: a growth was refused.
-    pub fn of(alloc: Global, lines: Lines<V>, line_of: Vec<u32>) -> Result<Self, Memory>
-        requires { (sources : List Source) × AreLined (keys lines.table) line_of.items sources }
+impl<V: Copy + Drop, T> Filed<V, T> {
+    /// These things, whose keys are the lines of their sources. Its cost is that of the things and of the lines.
+    /// Memory: a growth was refused.
+    pub fn of<E: Entries<Thing = T>>(
+        alloc: Global,
+        lines: Lines<V>,
+        entries: &E,
+    ) -> Result<Self, Memory>
+        requires { All (λ line. line < length (keys lines.table)) (E.keys entries.now) }
         ensures lines { IfOk result (λ filed. filed.lines ≡ lines) }
-        ensures filed { IfOk result (λ filed. (sources : List Source)
-            → AreLined (keys lines.table) line_of.items sources → AreFiled sources filed) }
+        ensures filed { IfOk result (λ filed. (source : Source) → filed_at filed source
+            ≡ grouped (is_line (keys lines.table) source) (E.keys entries.now) (E.things entries.now)) }
     {
-        let count = lines.count();
-        let index = Index::of(alloc, line_of, count)?;
-        Ok(Filed { lines, index })
+        let things = Grouped::of(alloc, entries, lines.count())?;
+        Ok(Filed { lines, things })
     }
 
-    /// Where those of a source stand, rising.
-    pub fn at(&self, source: Source) -> &[usize]
+    /// The things of a source, in their order. It costs a search.
+    pub fn at(&self, source: Source) -> &[T]
         ensures { result.now ≡ filed_at self.now source }
     {
         match self.lines.find(source) {
-            Some(line) => self.index.at(line),
+            Some(line) => self.things.at(line),
             None => &[],
         }
     }

@@ -1,5 +1,8 @@
-ghost use Rattle.std.specs.Prelude.{◌≡◌, ◌≤◌, ◌<◌, ◌-◌, true, length, slice_index_or};
-ghost use Rattle.kq_history.specs.Glances.{AreRising, HaveBegun};
+ghost use Rattle.std.specs.Prelude.{◌≡◌, ◌≤◌, ◌<◌, ◌-◌, true, ℕ, List, None, length, slice_index_or};
+ghost use Rattle.kq_model.specs.declared.object.View.{View};
+ghost use Rattle.kq_history.specs.Brief.{view_in};
+ghost use Rattle.kq_history.specs.Glances.{marks_in, AreRising, HaveBegun};
+ghost use Rattle.kq_history.specs.Timeline.{value_at};
 
 use crate::brief::Brief;
 
@@ -17,6 +20,18 @@ pub(crate) fn count_at(glances: &[Glance], place: u64) -> usize
     ensures begun { HaveBegun place result glances.now }
 {
     glances.partition_point(|glance| u64::from(glance.place) <= place)
+}
+
+/// What is seen behind so many glances.
+pub(crate) fn brief_behind(glances: &[Glance], count: usize) -> Brief
+    requires { count ≤ length glances.now }
+    ensures { (place : ℕ) (wholes : List View) → HaveBegun place count glances.now
+        → view_in wholes result ≡ value_at place None (marks_in wholes glances.now) }
+{
+    if count == 0 {
+        return Brief::Nothing;
+    }
+    glances[count - 1].brief
 }
 
 /// The same. It costs a constant where it is so many, or a few more.

@@ -190,7 +190,7 @@ fn push_told(log: &mut Saying, place: u64, hints: &[(Target, Hint)]) -> Result<(
     Ok(())
 }
 
-#[tactic(auto, unfolding(crate::specs::Sayings::clock_of, crate::specs::Sayings::span_to, kq_model::specs::Items::clock_whats))]
+#[tactic(auto, unfolding(crate::proofs::Unfolded::clocking))]
 fn push_clock(log: &mut Saying, place: u64, event: &Event, from: u64) -> Result<(), Memory>
     ensures { OnOk result (log.new
         ≡ log.old ++ said_whats place (clock_whats (clock_of event.now from))) }

@@ -25,6 +25,7 @@ mod private;
 mod said;
 mod saying;
 mod seen;
+mod showing;
 mod shown;
 mod sighting;
 mod sights;

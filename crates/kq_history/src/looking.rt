@@ -1,6 +1,5 @@
 ghost use Rattle.std.specs.Prelude.{◌≡◌, IfOk};
 
-use crate::glances::sought_from;
 use crate::sights::Sights;
 use crate::slots::Slots;
 use crate::split::Split;
@@ -24,7 +23,7 @@ impl<'s, 'a> Model for Looking<'s, 'a> {
 
     ghost view = { λ l. record { trace = l.split.now; place = l.place } };
 
-    ghost invariant = { λ l. IsLooking l.split.now l.sights.now l.slots.looks.items };
+    ghost invariant = { λ l. IsLooking l.split.now l.sights.now l.slots.slots.items };
 }
 
 impl<'s, 'a> Looking<'s, 'a> {
@@ -36,7 +35,7 @@ impl<'s, 'a> Looking<'s, 'a> {
         let mut slots = Slots::with_capacity(split.allocator(), targets.len())?;
         for target in targets {
             let glances = sights.of(*target);
-            slots.push(*target, glances, sought_from(glances, place, 0))?;
+            slots.push(*target, glances, place)?;
         }
         Ok(Looking {
             split,
@@ -67,10 +66,11 @@ impl<'s, 'a> Views for Looking<'s, 'a> {
     ghost sees = { λ l. seen_at l.trace l.place };
 
     fn view(&self, target: Target) -> Option<View> {
-        match self.slots.get(target) {
-            Some((glances, come)) => self.sights.near(glances, self.place, come),
-            None => self.split.view(self.place, target),
-        }
+        let brief = match self.slots.get(target) {
+            Some(slot) => slot.brief_at(self.place),
+            None => self.sights.at(target, self.place),
+        };
+        brief.view(self.sights.wholes())
     }
 
     fn descriptor(&self, pid: u32, number: u32) -> Option<Named> {

@@ -16,7 +16,7 @@ pub struct Notes {
     /// The steps of the clock, which do not fit into the log.
     pub(crate) steps: Vec<Step>,
     /// The line of each source, and where its items stand in the log.
-    pub(crate) filed: Filed<()>,
+    pub(crate) filed: Filed<(), usize>,
 }
 
 impl Model for Notes {

@@ -1,5 +1,4 @@
 ghost use Rattle.std.specs.Prelude.{◌≡◌, ◌++◌, ◌∷◌, [], IfOk, OnOk};
-ghost use Rattle.kq_history.specs.Notes.{lines_of};
 
 use crate::filed::Filed;
 use crate::item::Item;
@@ -7,6 +6,7 @@ use crate::lines::Lines;
 use crate::log::Log;
 use crate::note::{Note, Step, note_of};
 use crate::notes::Notes;
+use kq_index::Entries;
 use kq_model::Memory;
 use std::alloc::Global;
 use std::marker::Model;
@@ -71,19 +71,44 @@ impl Saying {
     {
         let Saying { log, steps, lines } = self;
         let alloc = *log.allocator();
-        let filed = Filed::of(alloc, lines, lines_of(alloc, log.as_slice())?)?;
+        let filed = Filed::of(
+            alloc,
+            lines,
+            &Standing {
+                log: log.as_slice(),
+            },
+        )?;
         let items = Notes { log, steps, filed };
         Ok(Log { items, alloc })
     }
 }
 
-/// The line of each item's source.
-fn lines_of(alloc: Global, log: &[Note]) -> Result<Vec<u32>, Memory>
-    ensures { IfOk result (λ lines. lines.items ≡ lines_of log.now) }
-{
-    let mut lines = Vec::with_capacity(alloc, log.len())?;
-    for note in log {
-        lines.push(note.line)?;
+/// Where the items of a log stand, by the lines of their sources.
+#[derive(Drop, Clone, Copy)]
+struct Standing<'n> {
+    log: &'n [Note],
+}
+
+impl<'n> Entries for Standing<'n> {
+    ghost use Rattle.std.specs.Prelude.{length};
+    ghost use Rattle.kq_index.specs.Standing.{numbers_from};
+    ghost use Rattle.kq_history.specs.Notes.{lines_of};
+
+    type Thing = usize;
+
+    ghost keys = { λ s. lines_of s.log.now };
+
+    ghost things = { λ s. numbers_from 0 (length (lines_of s.log.now)) };
+
+    fn len(&self) -> usize {
+        self.log.len()
     }
-    Ok(lines)
+
+    fn key(&self, number: usize) -> u32 {
+        self.log[number].line
+    }
+
+    fn thing(&self, number: usize) -> usize {
+        number
+    }
 }

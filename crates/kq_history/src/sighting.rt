@@ -1,14 +1,15 @@
 ghost use Rattle.std.specs.Prelude.{◌≡◌, ◌&&◌, [], ℕ, nat_le, OnOk, IfOk, if◌then◌else◌};
-ghost use Rattle.kq_history.specs.Glances.{all_glances, entry, lines_of, seen_of};
+ghost use Rattle.kq_history.specs.Glances.{entry, seen_of};
 ghost use Rattle.kq_history.specs.Keys.{target_key};
 ghost use Rattle.kq_history.specs.Sights.{view_at, AreUpTo};
 
 use crate::brief::{Brief, brief_of};
+use crate::filed::Filed;
 use crate::glances::Glance;
 use crate::item::Source;
 use crate::lines::Lines;
 use crate::sights::Sights;
-use kq_index::Grouped;
+use kq_index::Entries;
 use kq_model::{Memory, Target, View};
 use std::alloc::Global;
 use std::marker::Model;
@@ -85,14 +86,42 @@ impl Sighting {
     {
         let Sighting { log, wholes, lines } = self;
         let alloc = *log.allocator();
-        let (line_of, glances) = parted(alloc, log.as_slice())?;
-        drop(log);
-        let glances = Grouped::of(alloc, line_of.as_slice(), glances.as_slice(), lines.count())?;
-        Ok(Sights {
+        let filed = Filed::of(
+            alloc,
             lines,
-            glances,
-            wholes,
-        })
+            &Seen {
+                log: log.as_slice(),
+            },
+        )?;
+        Ok(Sights { filed, wholes })
+    }
+}
+
+/// The glances of a log, by the lines of their targets.
+#[derive(Drop, Clone, Copy)]
+struct Seen<'e> {
+    log: &'e [Entry],
+}
+
+impl<'e> Entries for Seen<'e> {
+    ghost use Rattle.kq_history.specs.Glances.{all_glances, lines_of};
+
+    type Thing = Glance;
+
+    ghost keys = { λ s. lines_of s.log.now };
+
+    ghost things = { λ s. all_glances s.log.now };
+
+    fn len(&self) -> usize {
+        self.log.len()
+    }
+
+    fn key(&self, number: usize) -> u32 {
+        self.log[number].line
+    }
+
+    fn thing(&self, number: usize) -> Glance {
+        self.log[number].glance
     }
 }
 
@@ -108,18 +137,4 @@ fn entry_of(place: u64, line: usize, brief: Brief) -> Result<Entry, Memory>
     };
     let glance = Glance { place, brief };
     Ok(Entry { line, glance })
-}
-
-/// The lines of a log, and its glances.
-fn parted(alloc: Global, log: &[Entry]) -> Result<(Vec<u32>, Vec<Glance>), Memory>
-    ensures lines { IfOk result (λ p. p.0.items ≡ lines_of log.now) }
-    ensures glances { IfOk result (λ p. p.1.items ≡ all_glances log.now) }
-{
-    let mut lines = Vec::with_capacity(alloc, log.len())?;
-    let mut glances = Vec::with_capacity(alloc, log.len())?;
-    for entry in log {
-        lines.push(entry.line)?;
-        glances.push(entry.glance)?;
-    }
-    Ok((lines, glances))
 }

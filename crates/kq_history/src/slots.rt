@@ -1,7 +1,14 @@
-ghost use Rattle.std.specs.Prelude.{◌≡◌, ◌++◌, ◌∷◌, [], IfOk, IfSome, OnOk};
-ghost use Rattle.kq_history.specs.Looking.{HasSlot};
+ghost use Rattle.std.specs.Prelude.{◌≡◌, ◌++◌, ◌∷◌, [], true, All, List, None, IfOk, IfSome, OnOk};
+ghost use Rattle.kq_model.specs.declared.object.View.{View};
+ghost use Rattle.kq_history.specs.Brief.{view_in};
+ghost use Rattle.kq_history.specs.Glances.{marks_in, AreRising, Sighted};
+ghost use Rattle.kq_history.specs.Looking.{HasOwn, HasSlot, IsShown, IsSlotOf};
+ghost use Rattle.kq_history.specs.Timeline.{value_at};
+ghost use Rattle.kq_history.specs.declared.showing.Showing.{Showing as Shown};
 
-use crate::glances::{Glance, sought_from};
+use crate::brief::Brief;
+use crate::glances::{Glance, brief_behind, count_near};
+use crate::showing::{Showing, showing_at};
 use kq_model::{Hint, Memory, Target};
 use std::alloc::Global;
 
@@ -17,13 +24,36 @@ const NO_GUESS: u32 = u32::MAX;
 /// Spreads numbers, also those that are at even distances.
 const SPREAD: u64 = 0x9e37_79b9_7f4a_7c15;
 
+/// A target's glances, and what they showed when the kqueue was last told of it.
+#[derive(Drop, Clone, Copy)]
+pub(crate) struct Slot<'s> {
+    pub(crate) target: Target,
+    pub(crate) glances: &'s [Glance],
+    pub(crate) showing: Showing,
+}
+
+impl<'s> Slot<'s> {
+    /// What is seen of the target at a place, in little room. It costs a constant where the kqueue was told of the
+    /// target since it changed, or a few changes ago.
+    #[inline(always)]
+    pub fn brief_at(&self, place: u64) -> Brief
+        requires rising { AreRising self.now.glances.now }
+        requires shown { IsShown self.now.glances.now self.now.showing }
+        ensures { (wholes : List View) → view_in wholes result
+            ≡ value_at place None (marks_in wholes self.now.glances.now) }
+    {
+        if self.showing.holds_at(place) {
+            return self.showing.brief;
+        }
+        let come = count_near(self.glances, place, self.showing.come);
+        brief_behind(self.glances, come)
+    }
+}
+
 /// The glances of targets, for each its own slot.
 #[derive(Drop)]
 pub(crate) struct Slots<'s> {
-    pub(crate) looks: Vec<(Target, &'s [Glance])>,
-    /// For each slot, how many of its glances had come at the last look. It claims nothing: who takes it looks at the
-    /// glances.
-    come: Vec<usize>,
+    pub(crate) slots: Vec<Slot<'s>>,
     /// Where a target's slot may stand, by a number that is made of the target. It claims nothing: who goes there
     /// looks whose slot it is.
     guesses: Vec<u32>,
@@ -32,77 +62,75 @@ pub(crate) struct Slots<'s> {
 impl<'s> Slots<'s> {
     /// No slots, with room for so many.
     pub fn with_capacity(alloc: Global, count: usize) -> Result<Self, Memory>
-        ensures { IfOk result (λ s. s.looks.items ≡ []) }
+        ensures { IfOk result (λ s. s.slots.items ≡ []) }
     {
         let guesses = count.saturating_mul(GUESSES_OF_ONE);
         Ok(Slots {
-            looks: Vec::with_capacity(alloc, count)?,
-            come: Vec::with_capacity(alloc, count)?,
+            slots: Vec::with_capacity(alloc, count)?,
             guesses: vec![in alloc; NO_GUESS; guesses]?,
         })
     }
 
-    /// The glances of a target, and how many had come, if it has a slot.
-    pub fn get(&self, target: Target) -> Option<(&'s [Glance], usize)>
-        ensures { IfSome result (λ r. HasSlot self.now.looks.items target r.0) }
+    /// The slot of a target, if it has one.
+    pub fn get(&self, target: Target) -> Option<&Slot<'s>>
+        ensures { IfSome result (λ slot. HasSlot self.now.slots.items target slot.now) }
     {
-        let (index, glances) = self.find(target)?;
-        Some((glances, self.come_at(index)))
+        let index = self.find(target)?;
+        self.slots.get(index)
     }
 
-    /// Where the slot of a target stands, and its glances, if a guess for the target leads there.
+    /// Where the slot of a target stands, if a guess for the target leads there.
     #[inline(always)]
-    fn find(&self, target: Target) -> Option<(usize, &'s [Glance])>
-        ensures { IfSome result (λ r. HasSlot self.now.looks.items target r.1) }
+    fn find(&self, target: Target) -> Option<usize>
+        ensures { IfSome result (λ index. IsSlotOf self.now.slots.items target index) }
     {
         let first = self.spot(target);
         for next in 0..GUESSES_AT_ONCE {
             let index = self.guess(first.wrapping_add(next))?;
-            if let Some(glances) = glances_at(self.looks.as_slice(), index, target) {
-                return Some((index, glances));
+            if stands_at(self.slots.as_slice(), index, target) {
+                return Some(index);
             }
         }
         None
     }
 
-    /// How many glances of a slot had come.
-    fn come_at(&self, index: usize) -> usize {
-        match self.come.get(index) {
-            Some(come) => *come,
-            None => 0,
-        }
-    }
-
-    /// A slot more, for a target of whose glances so many have come.
-    pub fn push(&mut self, target: Target, glances: &'s [Glance], come: usize) -> Result<(), Memory>
-        ensures { OnOk result (self.new.looks.items
-            ≡ self.old.looks.items ++ (target, glances.entry) ∷ []) }
+    /// A slot more, for a target with these glances, which is looked at from a place on.
+    pub fn push(&mut self, target: Target, glances: &'s [Glance], place: u64) -> Result<(), Memory>
+        requires { AreRising glances.now }
+        ensures { OnOk result ((showing : Shown) × IsShown glances.now showing × (self.new.slots.items
+            ≡ self.old.slots.items
+            ++ record { target = target; glances = glances.entry; showing = showing } ∷ [])) }
     {
-        let index = self.looks.len();
-        self.looks.push((target, glances))?;
-        self.come.push(come)?;
+        let index = self.slots.len();
+        let showing = showing_at(glances, place, 0);
+        self.slots.push(Slot {
+            target,
+            glances,
+            showing,
+        })?;
         self.set_guess(target, index);
         Ok(())
     }
 
-    /// Notes how many glances of these targets have come at a place, as far as they have slots.
+    /// Looks at these targets begin at a place from now on, as far as they have slots.
     pub fn advance(&mut self, told: &[(Target, Hint)], place: u64)
-        ensures { self.new.looks ≡ self.old.looks }
+        requires { (s : Sighted) × All (HasOwn s) self.old.slots.items }
+        ensures { (s : Sighted) → All (HasOwn s) self.old.slots.items → All (HasOwn s) self.new.slots.items }
     {
         for (target, _) in told {
             self.advance_one(*target, place);
         }
     }
 
-    /// Notes how many glances of a target have come at a place, if it has a slot.
+    /// Looks at a target begin at a place from now on, if it has a slot.
     fn advance_one(&mut self, target: Target, place: u64)
-        ensures { self.new.looks ≡ self.old.looks }
+        requires { (s : Sighted) × All (HasOwn s) self.old.slots.items }
+        ensures { (s : Sighted) → All (HasOwn s) self.old.slots.items → All (HasOwn s) self.new.slots.items }
     {
-        if let Some((index, glances)) = self.find(target) {
-            let come = sought_from(glances, place, self.come_at(index));
-            if let Some(there) = self.come.get_mut(index) {
-                *there = come;
-            }
+        if let Some(index) = self.find(target) {
+            let slot = self.slots[index];
+            let showing = showing_at(slot.glances, place, slot.showing.come);
+            self.slots[index].showing = showing;
         }
     }
 
@@ -117,7 +145,7 @@ impl<'s> Slots<'s> {
 
     /// The slot of a target may stand there.
     fn set_guess(&mut self, target: Target, index: usize)
-        ensures { self.new.looks ≡ self.old.looks }
+        ensures { self.new.slots ≡ self.old.slots }
     {
         let first = self.spot(target);
         if let Ok(index) = u32::try_from(index) {
@@ -132,23 +160,12 @@ impl<'s> Slots<'s> {
     }
 }
 
-/// The glances that stand there, if they are those of the target.
+/// Whether the slot of a target stands there.
 #[inline(always)]
-fn glances_at<'s>(
-    looks: &[(Target, &'s [Glance])],
-    index: usize,
-    target: Target,
-) -> Option<&'s [Glance]>
-    ensures { IfSome result (HasSlot looks.now target) }
+fn stands_at(slots: &[Slot], index: usize, target: Target) -> bool
+    ensures { result ≡ true → IsSlotOf slots.now target index }
 {
-    if index >= looks.len() {
-        return None;
-    }
-    let (there, glances) = looks[index];
-    if there == target {
-        return Some(glances);
-    }
-    None
+    index < slots.len() && slots[index].target == target
 }
 
 /// Puts a guess where none is, from the first place on.

@@ -142,7 +142,8 @@ impl<'a> Split<'a> {
     pub(crate) fn view(&self, place: u64, target: Target) -> Option<View>
         ensures { result ≡ (seen_at self.now place).view target }
     {
-        self.seen.views.at(target, place)
+        let views = &self.seen.views;
+        views.at(target, place).view(views.wholes())
     }
 
     /// All that was seen of targets.

@@ -1,2 +1,2 @@
 pub mod Grouped
-pub mod Index
+pub mod Standing

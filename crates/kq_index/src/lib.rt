@@ -1,8 +1,8 @@
-//! Things by small numbers that are their keys, and where each of some small numbers stands in a list of them.
+//! Things by small numbers that are their keys.
 #![tactic(auto)]
 
+mod entries;
 mod grouped;
-mod index;
 
+pub use entries::Entries;
 pub use grouped::Grouped;
-pub use index::Index;

@@ -1,15 +1,38 @@
-use Rattle.std.proofs.Common.{◌∙◌, None, sym, ap, rules}
-use Rattle.kq_history.specs.Glances.{marks_in}
+use Rattle.std.proofs.Common.{◌≡◌, ◌∙◌, None, sym, ap}
+use Rattle.kq_model.specs.declared.object.Target.{Target}
+use Rattle.kq_history.specs.Brief.{view_in}
+use Rattle.kq_history.specs.Glances.{marks_in, seen_of}
+use Rattle.kq_history.specs.Looking.{Outlook}
 use Rattle.kq_history.specs.Timeline.{value_at}
+use Rattle.kq_history.specs.Traced.{seen_at}
 use Rattle.kq_history.proofs.SlotsOf.{own-slot}
+use Rattle.kq_history.proofs.looking.LookingViews.view.Goals.{in-Some, in-None}
 use Rattle.kq_history.proofs.looking.LookingViews.view.Goals as goal
 
-pub near-requires : goal.near-requires
-near-requires c = (own-slot c.self.inside.sights.now c.self.inside.slots.looks.items c.args.target c.in-Some.glances c.self.invariant.own c.in-Some.ensures).1
+pub brief_at-brief-requires-clause-rising : goal.brief_at-brief-requires-clause-rising
+brief_at-brief-requires-clause-rising c =
+    let has = c.in-Some.ensures in
+    (own-slot c.self.inside.sights.now c.self.inside.slots.slots.items has.0 c.in-Some.slot.now c.self.invariant.own has.1).rising
 
-pub returns-in-Some : goal.returns-in-Some
-returns-in-Some c =
+pub brief_at-brief-requires-clause-shown : goal.brief_at-brief-requires-clause-shown
+brief_at-brief-requires-clause-shown c =
+    let has = c.in-Some.ensures in
+    (own-slot c.self.inside.sights.now c.self.inside.slots.slots.items has.0 c.in-Some.slot.now c.self.invariant.own has.1).shown
+
+pub returns : goal.returns
+returns c =
     let l = c.self.inside in
-    let own = (own-slot c.self.inside.sights.now c.self.inside.slots.looks.items c.args.target c.in-Some.glances c.self.invariant.own c.in-Some.ensures).0 in
-    let shown = c.near.ensures ∙ ap (λ gs. value_at l.place None (marks_in l.sights.now.wholes gs)) own ∙ sym (c.self.invariant.tells l.place c.args.target) in
-    search rules
+    let ws = l.sights.now.wholes in
+    let t = c.args.target in
+    let shown : view_in ws c.match-get.brief ≡ seen_of l.sights.now t l.place =
+    elim c.match-get.branch [
+      | in-Some w ↦
+          let has = w.in-Some.ensures in
+          let own = (own-slot l.sights.now l.slots.slots.items has.0 w.in-Some.slot.now c.self.invariant.own has.1).own in
+          ap (view_in ws) w.brief-is ∙ w.brief_at-brief.ensures ws
+          ∙ ap (λ gs. value_at l.place None (marks_in ws gs)) own
+          ∙ ap (λ (target : Target). seen_of l.sights.now target l.place) has.2
+      | in-None w ↦ ap (view_in ws) w.brief-is ∙ w.at-brief.ensures
+    ] in
+    c.view.ensures ∙ ap (λ vs. view_in vs c.match-get.brief) c.wholes.ensures ∙ shown ∙ sym (c.self.invariant.tells l.place t)
+    ∙ ap (λ (o : Outlook). (seen_at o.trace o.place).view t) c.self.view_is

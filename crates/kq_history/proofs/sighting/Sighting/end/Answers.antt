@@ -1,53 +1,44 @@
-use Rattle.std.proofs.Common.{◌≡◌, ◌∙◌, ◌<◌, ℕ, List, length, map, eqb, sym, ap, ap₂, subst, rules}
+use Rattle.std.proofs.Common.{◌≡◌, ◌∙◌, ◌<◌, ℕ, List, None, length, map, sym, ap, subst, rules}
 use Rattle.std.specs.Prelude.{All}
 use Rattle.std.specs.HashMap.{keys}
-use Rattle.std.proofs.lemmas.List.{length-map}
 use Rattle.kq_index.specs.Grouped.{grouped}
 use Rattle.kq_model.specs.declared.object.Target.{Target}
 use Rattle.kq_history.specs.declared.glances.Glance.{Glance}
+use Rattle.kq_history.specs.declared.item.Source.{Source}
+use Rattle.kq_history.specs.declared.item.Source.TheVariants.{Of}
 use Rattle.kq_history.specs.declared.sighting.Entry.{Entry}
-use Rattle.kq_history.specs.Glances.{all_glances, lines_of, sights_in}
+use Rattle.kq_history.specs.Glances.{all_glances, lines_of, marks_in, sights_in, AreRising}
+use Rattle.kq_history.specs.Lines.{is_line}
 use Rattle.kq_history.specs.Sighting.{seen_source}
 use Rattle.kq_history.specs.Sights.{view_at, Sight}
+use Rattle.kq_history.specs.Timeline.{value_at}
 use Rattle.kq_history.proofs.LineLemmas.{lined-below}
-use Rattle.kq_history.proofs.OwnGlances.{all-rise, entries-rise, shows-all}
+use Rattle.kq_history.proofs.OwnGlances.{entries-rise, own-rise, own-shows}
 use Rattle.kq_history.proofs.sighting.Sighting.end.Goals as goal
 
-pub of-requires-clause-few : goal.of-requires-clause-few
-of-requires-clause-few c =
+pub of-requires : goal.of-requires
+of-requires c =
     let names = keys c.self.inside.lines.table in
-    let log = c.self.inside.log.items in
-    let below = lined-below names (lines_of log) (map seen_source (sights_in names c.self.inside.wholes.items log)) c.self.invariant.1.lined in
-    let lines : c.as_slice-2.result.now ≡ lines_of log = search rules in
-    subst (λ (ns : List ℕ). All (λ n. n < c.count.result) ns) (sym lines)
-    (subst (λ (m : ℕ). All (λ n. n < m) (lines_of log)) (sym c.count.ensures.count) below)
-
-pub of-requires-clause-as_many : goal.of-requires-clause-as_many
-of-requires-clause-as_many c =
-    let log = c.self.inside.log.items in
-    let lines : c.as_slice-2.result.now ≡ lines_of log = search rules in
-    let glances : c.as_slice-3.result.now ≡ all_glances log = search rules in
-    ap (λ (gs : List Glance). length gs) glances ∙ length-map log (λ (e : Entry). e.glance)
-    ∙ sym (ap (λ (ns : List ℕ). length ns) lines ∙ length-map log (λ (e : Entry). e.line))
+    let log : List Entry = c.self.inside.log.items in
+    let sources = map seen_source (sights_in names c.self.inside.wholes.items log) in
+    subst (λ (es : List Entry). All (λ n. n < length names) (lines_of es)) (sym c.as_slice.ensures.value)
+    (lined-below names (lines_of log) sources c.self.invariant.1.lined)
 
 pub invariant_of-result : goal.invariant_of-result
-invariant_of-result c =
+invariant_of-result c = λ (s : Source).
     let names = keys c.self.inside.lines.table in
-    let log = c.self.inside.log.items in
-    let lines : c.as_slice-2.result.now ≡ lines_of log = search rules in
-    let glances : c.as_slice-3.result.now ≡ all_glances log = search rules in
-    all-rise names c.in_ok-glances.glances log
-    (λ key. c.in_ok-glances.ensures key ∙ ap₂ (grouped (λ k. eqb k key)) lines glances)
-    (entries-rise names c.self.inside.wholes.items log c.self.invariant.0)
+    let log : List Entry = c.self.inside.log.items in
+    let own = λ (es : List Entry). grouped (is_line names s) (lines_of es) (all_glances es) in
+    subst AreRising (sym (c.in_ok-filed.ensures.filed s ∙ ap own c.as_slice.ensures.value))
+    (own-rise (is_line names s) log (entries-rise names c.self.inside.wholes.items log c.self.invariant.0))
 
 pub returns : goal.returns
 returns c = λ (t : Target) (place : ℕ).
     let names = keys c.self.inside.lines.table in
-    let log = c.self.inside.log.items in
-    let lines : c.as_slice-2.result.now ≡ lines_of log = search rules in
-    let glances : c.as_slice-3.result.now ≡ all_glances log = search rules in
-    let inside : sights_in names c.self.inside.wholes.items log ≡ c.args.self = search rules in
-    shows-all names c.in_ok-glances.glances log
-    (λ key. c.in_ok-glances.ensures key ∙ ap₂ (grouped (λ k. eqb k key)) lines glances)
-    c.count.ensures.unique c.self.inside.wholes.items c.self.invariant.1.lined t place
+    let ws = c.self.inside.wholes.items in
+    let log : List Entry = c.self.inside.log.items in
+    let own = λ (es : List Entry). grouped (is_line names (Of t)) (lines_of es) (all_glances es) in
+    let inside : sights_in names ws log ≡ c.args.self = search rules in
+    ap (λ (gs : List Glance). value_at place None (marks_in ws gs)) (c.in_ok-filed.ensures.filed (Of t) ∙ ap own c.as_slice.ensures.value)
+    ∙ own-shows names ws t place None log c.self.invariant.1.lined
     ∙ ap (λ (ss : List Sight). view_at ss place t) inside

@@ -1,0 +1,7 @@
+-- What the proofs of a function unfold together, by one name: to unfold it is to unfold all that its line names.
+use Rattle.kq_model.specs.Items.{clock_whats}
+use Rattle.kq_history.specs.Sayings.{clock_of, span_to}
+
+unfoldable pub clocking : Unit {0}
+unfolding clock_of span_to clock_whats
+clocking = tt
