@@ -1,4 +1,5 @@
-ghost use Rattle.std.specs.Prelude.{◌≡◌, option_and_then};
+ghost use Rattle.std.specs.Prelude.{◌≡◌, None, false, option_and_then};
+ghost use Rattle.kq_filters.specs.Alone.{reads_target};
 ghost use Rattle.kq_model.specs.Hearing.{listed};
 ghost use Rattle.kq_model.specs.Knote as model;
 ghost use Rattle.kq_model.specs.Look.{look, look_by, look_user, notice_or};
@@ -24,6 +25,16 @@ pub fn look(knote: &Knote, view: Option<View>) -> Option<Seen>
         → view ≡ option_and_then views.view m.target → result ≡ look views m }
 {
     notice_or(knote.notice, look_by(knote, view))
+}
+
+/// The look of a filter that tells what its knote heard, or whether it was triggered: whatever there is to see of
+/// its target, it sees this. READ, WRITE and PROC look as at a target that is not there.
+pub fn look_alone(knote: &Knote) -> Option<Seen>
+    ensures seen { result ≡ notice_or knote.now.notice (look_by knote.now.key.filter None knote.now) }
+    ensures alone { reads_target knote.now.key.filter ≡ false → (views : world.Views)
+        → result ≡ look views knote.now }
+{
+    notice_or(knote.notice, look_by(knote, None))
 }
 
 /// A knote that has a notice sees this alone.

@@ -8,7 +8,7 @@ mod nothing;
 mod seen;
 mod told;
 
-pub use filter::{look, look_user, notice_or};
+pub use filter::{look, look_alone, look_user, notice_or};
 pub use hearing::{Heard, hear, takes};
 pub use nothing::NothingThere;
 pub use seen::Seen;

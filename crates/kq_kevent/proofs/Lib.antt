@@ -1,4 +1,3 @@
-pub mod LookLaws
 pub mod QueueLaws
 pub mod KnoteSteps
 pub mod SoundLaws

@@ -1,11 +1,12 @@
 ghost use Rattle.std.specs.Prelude.{◌≡◌};
+ghost use Rattle.kq_filters.specs.Alone.{reads_target};
 ghost use Rattle.kq_model.specs.Bits.{flag_if};
 ghost use Rattle.kq_model.specs.Look.{look};
 ghost use Rattle.kq_model.specs.ChangedKnote.{attended};
 ghost use Rattle.kq_model.specs.Retrieval.{event_flags, event_of};
 
 use bitflags::Flags;
-use kq_filters::{Seen, look, look_user, notice_or};
+use kq_filters::{Seen, look, look_alone};
 use kq_knote::Knote;
 use kq_model::{EvFlags, Filter, Kevent, Views};
 
@@ -17,14 +18,23 @@ fn look_at_target<V: Views>(views: &V, knote: &Knote) -> Option<Seen>
     look(knote, view)
 }
 
+/// Whether a filter reads what there is to see of its target.
+#[tactic(auto, unfolding(kq_filters::specs::Alone::reads_target))]
+fn reads_target(filter: Filter) -> bool
+    ensures { result ≡ reads_target filter }
+{
+    matches!(filter, Filter::Read | Filter::Write | Filter::Proc)
+}
+
 /// What the filter of a knote sees in a world, by its target as it is now; none where the condition does not
-/// hold. A knote with a notice of a parent sees that alone. A user event does not ask the world.
+/// hold. A knote with a notice of a parent sees that alone. Only READ, WRITE and PROC ask the world.
 pub fn look_in<V: Views>(views: &V, knote: &Knote) -> Option<Seen>
     ensures { result ≡ look (V.sees views.now) knote.now }
 {
-    match knote.key.filter {
-        Filter::User => notice_or(knote.notice, look_user(knote)),
-        _ => look_at_target(views, knote),
+    if reads_target(knote.key.filter) {
+        look_at_target(views, knote)
+    } else {
+        look_alone(knote)
     }
 }
 
