@@ -1,11 +1,12 @@
 ghost use Rattle.std.specs.Prelude.{List, ◌≡◌, ◌<◌, ◌≤◌, ◌+◌, ◌++◌, ◌↔◌, ◌∷◌, IsTrue, true, [], None, OnOk, OnErr};
-ghost use Rattle.std.specs.Prelude.{MatchOption, slice_get, length, filter, not, max};
+ghost use Rattle.std.specs.Prelude.{if◌then◌else◌, Some, MatchOption, slice_get, length, filter, not, max};
 ghost use Rattle.std.specs.Option.{option_copied, option_map};
 ghost use Rattle.kq_model.specs.Close.{is_of_number};
 ghost use Rattle.kq_model.specs.Hearing.{listed};
 ghost use Rattle.kq_model.specs.Knote as model;
 ghost use Rattle.kq_model.specs.Knote.{key_eq, find_knote, with_knote, without_key, without_knote};
 ghost use Rattle.kq_model.specs.Recast.{tallied_knote, tallied_knotes};
+ghost use Rattle.kq_model.specs.Tallied as tallied;
 ghost use Rattle.kq_model.specs.Ticks.{last_moment};
 ghost use Rattle.kq_knote.specs.Quiet.{AreLater, AreQuiet};
 ghost use Rattle.kq_table.specs.Rows.{row_after};
@@ -172,6 +173,15 @@ impl Knotes {
         self.rows.look_at(guess, key)
     }
 
+    /// The knote of a key, where it stands at the guessed place.
+    #[inline(always)]
+    pub fn look_there(&self, guess: Place, key: Key) -> Option<&Knote>
+        ensures { (knote : tallied.Knote) → option_copied result ≡ Some knote
+            → find_knote key self.now.knotes ≡ Some knote }
+    {
+        self.rows.look_there(guess, key)
+    }
+
     /// The knote that was registered first.
     pub fn first(&self) -> Option<Knote>
         ensures { result ≡ slice_get self.now.knotes 0 }
@@ -231,6 +241,36 @@ impl Knotes {
         // The same of knotes that keep all that they heard.
         ensures model { (ms : List (model.Knote listed)) (m : model.Knote listed) → self.old.knotes ≡ tallied_knotes ms
             → knote ≡ tallied_knote m → self.new.knotes ≡ tallied_knotes (with_knote m ms) }
+    {
+        if self.modify_there(guess, &knote) {
+            return;
+        }
+        self.modify_anew(guess, knote);
+    }
+
+    /// The same where the knote of the key stands at the guessed place, watches the same target and expires at the
+    /// same moments, and says whether it does; else nothing changes.
+    #[inline(always)]
+    fn modify_there(&mut self, guess: Place, knote: &Knote) -> bool
+        ensures knotes { self.new.knotes ≡ (if result then with_knote knote.now self.old.knotes else self.old.knotes) }
+        ensures queue { self.new.queue ≡ self.old.queue }
+        ensures room { self.new.room ≡ self.old.room }
+    {
+        let Some(before) = self.rows.look_there(guess, knote.key) else {
+            return false;
+        };
+        if !knote.rings_with(before) {
+            return false;
+        }
+        self.rows.modify_there(guess, knote)
+    }
+
+    /// The same as `modify_at` where the knote may stand elsewhere, watch another target and expire at others.
+    #[inline(never)]
+    fn modify_anew(&mut self, guess: Place, knote: Knote)
+        ensures knotes { self.new.knotes ≡ with_knote knote self.old.knotes }
+        ensures queue { self.new.queue ≡ self.old.queue }
+        ensures room { self.new.room ≡ self.old.room }
     {
         let Some(before) = self.rows.look_at(guess, knote.key) else {
             return;

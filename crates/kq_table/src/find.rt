@@ -43,6 +43,18 @@ fn indexed<T: Keyed>(
     }
 }
 
+/// The guessed slot, where the row of a key stands there.
+#[inline(always)]
+pub(crate) fn guessed<T: Keyed>(nodes: &Slab<Node<T>>, guess: Place, key: T::Key) -> Option<usize>
+    ensures { MatchOption result (Unit {0}) (StandsAt T.Key.eq T.key_of (rows_in nodes.now) key) }
+{
+    if stands_at(nodes, guess.slot, key) {
+        Some(guess.slot)
+    } else {
+        None
+    }
+}
+
 /// The slot where the row of a key stands. Where it is the guessed one, the index is not asked.
 #[inline(always)]
 pub(crate) fn near<T: Keyed>(
@@ -55,10 +67,10 @@ pub(crate) fn near<T: Keyed>(
     ensures { MatchOption result (HasNoRow T.Key.eq T.key_of (rows_in nodes.now) key)
         (StandsAt T.Key.eq T.key_of (rows_in nodes.now) key) }
 {
-    if stands_at(nodes, guess.slot, key) {
-        return Some(guess.slot);
-    }
-    indexed(nodes, index, key)
+    let Some(slot) = guessed(nodes, guess, key) else {
+        return indexed(nodes, index, key);
+    };
+    Some(slot)
 }
 
 /// The same as `near`, by a call: with one more caller to take it in, `near` would be a call in all of them.

@@ -1,12 +1,12 @@
 ghost use Rattle.std.specs.Prelude.{◌≡◌, ◌<◌, ◌≤◌, ◌+◌, ◌++◌, ◌∷◌, ◌↔◌, [], None, IsTrue, OnOk, OnErr, MatchOption};
-ghost use Rattle.std.specs.Prelude.{length, max, is_some, slice_get};
+ghost use Rattle.std.specs.Prelude.{if◌then◌else◌, Some, length, max, is_some, slice_get};
 ghost use Rattle.std.specs.Option.{option_copied, option_map};
 ghost use Rattle.kq_table.specs.Rows.{find_row, row_after, with_row, without_row, without_waiting, HaveOwnKeys};
 
 use crate::Keyed;
 use crate::birth::next_birth;
 use crate::enter::{enter, enter_all, make_room, withdraw};
-use crate::find::{near, placed_at, target_at};
+use crate::find::{guessed, near, placed_at, target_at};
 use crate::guesses::{Guesses, make_room_for_guesses, note_heir, note_row};
 use crate::link::{link_last, unlink};
 use crate::node::{Ends, Node, Thread};
@@ -182,6 +182,18 @@ impl<T: Keyed> Table<T> {
         seen_at(&self.nodes, near(&self.nodes, &self.index, guess, key))
     }
 
+    /// The row of a key, where it stands at the guessed place.
+    #[inline(always)]
+    pub fn look_there(&self, guess: Place, key: T::Key) -> Option<&T>
+        ensures { (row : T) → option_copied result ≡ Some row
+            → find_row T.Key.eq T.key_of key self.now.rows ≡ Some row }
+    {
+        let Some(slot) = guessed(&self.nodes, guess, key) else {
+            return None;
+        };
+        seen_at(&self.nodes, Some(slot))
+    }
+
     /// Whether there is a row of a key.
     pub fn contains(&self, key: T::Key) -> bool
         ensures { result ≡ is_some (find_row T.Key.eq T.key_of key self.now.rows) }
@@ -264,6 +276,26 @@ impl<T: Keyed> Table<T> {
         }
         let first = self.order.first;
         enter_all(&mut self.nodes, &mut self.index, &mut self.targets, first);
+    }
+
+    /// Puts a row in the place of the one of its key, where that stands at the guessed place and watches the same
+    /// target, and says whether it did; else nothing changes.
+    #[inline(always)]
+    pub fn modify_there(&mut self, guess: Place, row: &T) -> bool
+        ensures rows { self.new.rows
+            ≡ (if result then with_row T.Key.eq T.key_of row.now self.old.rows else self.old.rows) }
+        ensures queue { self.new.queue ≡ self.old.queue }
+        ensures room { self.new.room ≡ self.old.room }
+    {
+        let Some(there) = guessed(&self.nodes, guess, row.key()) else {
+            return false;
+        };
+        let target = target_at(&self.nodes, there);
+        if target == row.target() {
+            set_row(&mut self.nodes, there, *row);
+            return true;
+        }
+        false
     }
 
     /// Takes out the row of a key, where there is one, and out of the queue. It gives its room back.
