@@ -131,6 +131,29 @@ impl Kq {
         ensures room { self.new.room ≡ self.old.room }
         ensures limit { limit self.new ≡ limit self.old }
     {
+        let place = self.knotes.guess(key);
+        let Some(knote) = self.knotes.look_there(place, key) else {
+            self.ring_elsewhere(key, from, to);
+            return;
+        };
+        let found = Placed { row: *knote, place };
+        let mut rung = found.row;
+        rung.ring(from, to);
+        self.put_back(&found, rung);
+    }
+
+    /// The same wherever the knote stands.
+    #[inline(never)]
+    fn ring_elsewhere(&mut self, key: Key, from: u64, to: u64)
+        requires ordered { from ≤ to }
+        requires within { to ≤ last_moment }
+        ensures kq { MatchOption (find_knote key self.old.kq.knotes) (self.new.kq ≡ self.old.kq)
+            (λ knote. self.new.kq ≡ with_rung from to knote self.old.kq) }
+        ensures owner { self.new.owner ≡ self.old.owner }
+        ensures version { self.new.version ≡ self.old.version }
+        ensures room { self.new.room ≡ self.old.room }
+        ensures limit { limit self.new ≡ limit self.old }
+    {
         let Some(found) = self.knotes.locate(key) else {
             return;
         };

@@ -1,10 +1,10 @@
 -- The timers that expire in a span of the clock, and the alarms by which they are found.
-use Rattle.std.specs.Prelude.{◌≡◌, ℕ, ◌≤◌, ◌==◌, nat_le, true, List, filter}
+use Rattle.std.specs.Prelude.{◌≡◌, ℕ, ◌≤◌, ◌==◌, nat_le, true, is_some, List, filter}
 use Rattle.std.specs.List.{AllByRecursion, Contains}
 use Rattle.kq_alarm.specs.Armed.{Entry, HasAlarm}
 use Rattle.kq_model.specs.declared.key.Key.{Key}
 use Rattle.kq_model.specs.Clock.{expires_at}
-use Rattle.kq_model.specs.Knote.{has_key}
+use Rattle.kq_model.specs.Knote.{find_knote, has_key}
 use Rattle.kq_model.specs.Tallied.{Knote}
 use Rattle.kq_model.specs.Ticks.{last_moment, next_tick}
 use Rattle.kq_model.specs.TimerWalk.{in_order}
@@ -47,3 +47,7 @@ AreArmed to keys entries knotes =
 -- what was there is still there
 abbrev pub AreKept : List Entry → List Entry → Type 0
 AreKept before after = (e : Entry) → Contains before e → Contains after e
+
+-- of each of these keys there is a knote
+abbrev pub AreThere : List Key → List Knote → Type 0
+AreThere keys knotes = (key : Key) → has_key key keys ≡ true → is_some (find_knote key knotes) ≡ true
