@@ -26,7 +26,7 @@ pub(crate) fn put_last(knotes: &mut Knotes, at: Place, key: Key)
 
 /// What becomes of a knote, whose key was taken out of the queue, once it was delivered: with ONESHOT it is
 /// deleted; else with CLEAR or DISPATCH it rests; else its key goes to the back.
-#[tactic(auto, unfolding(kq_model::specs::Retrieval::knotes_after, kq_model::specs::Retrieval::back_after, kq_model::specs::Retrieval::stays))]
+#[tactic(auto, unfolding(kq_model::specs::Retrieval::knotes_after, kq_model::specs::Retrieval::back_after))]
 fn settle(knotes: &mut Knotes, delivered: &Placed<Knote>)
     requires there { find_knote delivered.now.row.key knotes.old.knotes ≡ Some delivered.now.row }
     requires absent { has_key delivered.now.row.key knotes.old.queue ≡ false }

@@ -75,7 +75,7 @@ struct Beginning {
 
 /// How a change starts a timer at the moment `now`, by the rules of this version of the trace format; a change that
 /// does not say what the timer is to do is refused.
-#[tactic(auto, unfolding(kq_model::specs::ChangedKnote::start_in, kq_model::specs::ChangedKnote::period_in, kq_model::specs::ChangedKnote::has_come))]
+#[tactic(auto, unfolding(kq_model::specs::ChangedKnote::start_in, kq_model::specs::ChangedKnote::period_in))]
 fn begin(change: &Change, version: u32, now: u64) -> Beginning
     ensures start { result.start ≡ start_in now (timing_of version change.now.datum change.now.fflags) }
     ensures period { result.period ≡ period_in (timing_of version change.now.datum change.now.fflags) }
