@@ -31,7 +31,7 @@ use Rattle.kq_judge.specs.Allowed.{IsAllowed, event_seen, event_due, with_answer
 use Rattle.kq_judge.specs.Judged.{IsRightEvent, AreRight}
 use Rattle.kq_judge.specs.Pending.{IsPending}
 use Rattle.kq_judge.specs.Same.{IsSame, AreSame, AgreeOn}
-use Rattle.kq_judge.proofs.FirstLaws.{returns-the_first}
+use Rattle.kq_judge.proofs.FirstLaws.{returns_first, returns-the_first}
 use Rattle.kq_judge.proofs.OrderLaws.{AreOnce-IsPermutation}
 use Rattle.kq_judge.proofs.PendingLaws.{pending-due, pending-queued, due-pending}
 
@@ -268,3 +268,6 @@ pub allowed_given : (ignored : List Ignored) (views : Views) (room : ℕ) (kq : 
     → IsAllowed ignored views room kq own → IsGivenInFront ignored views room kq own
 allowed_given ignored views room kq own sound allowed =
     right-given ignored views room kq own sound (allowed-right ignored views room kq own sound allowed)
+
+-- what a judgement cites
+pub ruleset judging = (own_allowed, allowed_given, returns_first)

@@ -163,7 +163,7 @@ fn first_held_back<V: Views>(kq: &Kq, most: usize, returned: &Table<Key>, views:
 /// it, which placed no entries, and `room` its nevents. An answer is allowed where some order of the queue gives it,
 /// since kqueue(2) leaves the order of events open; the members in `ignored` are not compared. It takes memory for the
 /// answer's keys, and time in proportion to the answer and, where events are missing, to the queue.
-#[tactic(auto, using(crate::proofs::AllowedLaws::own_allowed, crate::proofs::AllowedLaws::allowed_given, crate::proofs::FirstLaws::returns_first))]
+#[tactic(auto, using(crate::proofs::AllowedLaws::judging))]
 pub fn judge<V: Views>(
     alloc: Global,
     kq: &Kq,
