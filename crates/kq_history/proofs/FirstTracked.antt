@@ -15,7 +15,7 @@ use Rattle.kq_model.proofs.ListedWorld.{listed-empty}
 use Rattle.kq_process.specs.declared.world.World.{World}
 use Rattle.kq_process.specs.World.{last_of, world_of}
 use Rattle.kq_history.specs.declared.seen.Seen.{Seen}
-use Rattle.kq_history.specs.declared.timeline.Mark.{Mark}
+use Rattle.kq_history.specs.declared.marks.Mark.{Mark}
 use Rattle.kq_history.specs.Keys.{pair_eq}
 use Rattle.kq_history.specs.Numbers.{later, no_mark, no_table}
 use Rattle.kq_history.specs.Seen.{IsBlank}

@@ -33,16 +33,16 @@ pub view-on : (old new : List View) (b : Brief) → Grows old new → IsSettled 
 view-on old new b grows settled = ap (λ ws. view_in ws b) grows.1 ∙ settled grows.0
 
 pub sights-on : (old new : List Source) (ws vs : List View) (log : List Entry) → Extends old new → Grows ws vs
-    → AreLined old (lines_of log) (map seen_source (sights_in old ws log)) → All (λ (e : Entry). IsSettled ws e.glance.brief) log
+    → AreLined old (lines_of log) (map seen_source (sights_in old ws log)) → All (λ (e : Entry). IsSettled ws e.glance.value) log
     → sights_in new vs log ≡ sights_in old ws log
 sights-on old new ws vs [] on grows lined settled = refl
 sights-on old new ws vs (e ∷ es) on grows lined settled =
     let t = target_on old e.line in
     let here : sight_in new vs e ≡ sight_in old ws e =
     ap₂ (λ u v. sight u e.glance.place v) (target-there new t e.line (on e.line (Of t) lined.0))
-    (view-on ws vs e.glance.brief grows (All-head (λ (x : Entry). IsSettled ws x.glance.brief) e es settled)) in
+    (view-on ws vs e.glance.value grows (All-head (λ (x : Entry). IsSettled ws x.glance.value) e es settled)) in
     ap₂ (λ (s : Sight) (ss : List Sight). s ∷ ss) here
-    (sights-on old new ws vs es on grows lined.1 (All-tail (λ (x : Entry). IsSettled ws x.glance.brief) e es settled))
+    (sights-on old new ws vs es on grows lined.1 (All-tail (λ (x : Entry). IsSettled ws x.glance.value) e es settled))
 
 pub map-push : {X Y : Type 0} (f : X → Y) (xs : List X) (x : X) → map f (xs ++ x ∷ []) ≡ map f xs ++ f x ∷ []
 map-push f [] x = refl

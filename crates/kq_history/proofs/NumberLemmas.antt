@@ -5,7 +5,7 @@ use Rattle.kq_model.specs.declared.object.Named.{Named}
 use Rattle.kq_model.proofs.KnoteLaws.{by_test}
 use Rattle.kq_process.specs.Shelf.{lookup}
 use Rattle.kq_history.specs.declared.numbers.Numbers.{Numbers}
-use Rattle.kq_history.specs.declared.timeline.Mark.{Mark}
+use Rattle.kq_history.specs.declared.marks.Mark.{Mark}
 use Rattle.kq_history.specs.Keys.{pair_eq}
 use Rattle.kq_history.specs.Numbers.{later, named_at, no_mark, no_table, AreNumbersBefore, AreNumbersUpTo}
 use Rattle.kq_history.specs.Timeline.{mark, mark_at, marked, IsUpTo}

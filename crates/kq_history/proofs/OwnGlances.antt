@@ -1,5 +1,5 @@
 -- The glances of one target: those of a log that are of it, by its line, and what they show.
-use Rattle.std.proofs.Common.{◌≡◌, ◌∙◌, ◌-◌, ◌<◌, ◌≤◌, ◌&&◌, ℕ, Bool, cond, leb, length, get_or, filter, List, [], ◌∷◌, ◌++◌, map, Option, None, refl, sym, ap, subst, arith}
+use Rattle.std.proofs.Common.{◌≡◌, ◌∙◌, ◌≤◌, ◌&&◌, ℕ, Bool, true, false, cond, leb, get_or, filter, List, [], ◌∷◌, ◌++◌, map, refl, sym, ap, subst, arith}
 use Rattle.std.specs.List.Sorted.{IsNonDecreasingBy}
 use Rattle.std.proofs.lemmas.List.{get_or-map, length-map}
 use Rattle.std.proofs.lemmas.List.Kept.{IsNonDecreasingBy-filter}
@@ -7,51 +7,17 @@ use Rattle.kq_index.specs.Grouped.{grouped, kept}
 use Rattle.kq_model.specs.declared.object.Target.{Target}
 use Rattle.kq_model.specs.declared.object.View.{View}
 use Rattle.kq_model.proofs.KnoteLaws.{by_test}
-use Rattle.kq_history.specs.declared.glances.Glance.{Glance}
+use Rattle.kq_history.specs.declared.brief.Brief.{Brief}
 use Rattle.kq_history.specs.declared.item.Source.{Source}
 use Rattle.kq_history.specs.declared.item.Source.TheVariants.{Of}
 use Rattle.kq_history.specs.declared.sighting.Entry.{Entry}
-use Rattle.kq_history.specs.declared.timeline.Mark.{Mark}
 use Rattle.kq_history.specs.Brief.{view_in}
-use Rattle.kq_history.specs.Glances.{all_glances, lines_of, marks_in, sight_in, sights_in, AreRising, HaveBegun}
+use Rattle.kq_history.specs.Glances.{all_glances, lines_of, sight_in, sights_in, Glance}
 use Rattle.kq_history.specs.Lines.{is_line, is_that, target_on, AreLined}
 use Rattle.kq_history.specs.Sighting.{seen_source}
 use Rattle.kq_history.specs.Sights.{is_of, view_from, AreInOrder, Sight}
-use Rattle.kq_history.specs.Timeline as timeline
-use Rattle.kq_history.specs.Timeline.{mark, value_at}
+use Rattle.kq_history.specs.Timeline.{value_at, AreRising}
 use Rattle.kq_history.proofs.Sighted.{of-is}
-use Rattle.kq_history.proofs.TimelineLemmas.{value-behind, value-none}
-
--- ---- what they show
-
-module _ (ws : List View) (gs : List Glance) (place : ℕ) where
-  marked : (k : ℕ) (d : Mark (Option View)) (g : Glance) → k < length gs
-      → get_or (marks_in ws gs) k d ≡ mark (get_or gs k g).place (view_in ws (get_or gs k g).brief)
-  marked k d g within = get_or-map (λ (x : Glance). mark x.place (view_in ws x.brief)) gs k g d within
-
-  long : length (marks_in ws gs) ≡ length gs
-  long = length-map gs (λ (x : Glance). mark x.place (view_in ws x.brief))
-
-  begun-marks : (g : Glance) (count : ℕ) → count ≤ length gs → HaveBegun place count gs → timeline.HaveBegun place count (marks_in ws gs)
-  begun-marks g count within begun = (
-    λ k d from below.
-        ap (λ (m : Mark (Option View)). leb m.place place) (marked k d g (omega (arith, below, within))) ∙ begun.0 k g from below,
-    λ k d from below.
-        let inside : k < length gs = omega (arith, below, long) in
-        ap (λ (m : Mark (Option View)). leb m.place place) (marked k d g inside) ∙ begun.1 k g from inside,
-  )
-
-  pub shows-last : (g : Glance) (count : ℕ) → 1 ≤ count → count ≤ length gs → HaveBegun place count gs
-      → view_in ws (get_or gs (count - 1) g).brief ≡ value_at place None (marks_in ws gs)
-  shows-last g count some within begun =
-      let d : Mark (Option View) = mark 0 None in
-      sym (ap (λ (m : Mark (Option View)). m.value) (marked (count - 1) d g (omega (arith, some, within))))
-      ∙ value-behind place (marks_in ws gs) count None d some (omega (arith, within, long)) (begun-marks g count within begun)
-
-pub shows-none : (ws : List View) (gs : List Glance) (place : ℕ) → HaveBegun place 0 gs → None ≡ value_at place None (marks_in ws gs)
-shows-none ws [] place begun = refl
-shows-none ws (g ∷ gs) place begun =
-    value-none place (marks_in ws (g ∷ gs)) None (begun-marks ws (g ∷ gs) place g 0 (omega arith) begun)
 
 -- ---- those of a log
 
@@ -82,20 +48,26 @@ module _ (test : ℕ → Bool) where
 
 -- what they show of a target
 module _ (names : List Source) (ws : List View) (t : Target) (place : ℕ) where
-  pub own-shows : (before : Option View) (es : List Entry) → AreLined names (lines_of es) (map seen_source (sights_in names ws es))
-      → value_at place before (marks_in ws (grouped (is_line names (Of t)) (lines_of es) (all_glances es)))
-      ≡ view_from place t before (sights_in names ws es)
+  view-if : (b : Bool) (new old : Brief) → view_in ws (cond b new old) ≡ cond b (view_in ws new) (view_in ws old)
+  view-if true new old = refl
+  view-if false new old = refl
+
+  pub own-shows : (before : Brief) (es : List Entry) → AreLined names (lines_of es) (map seen_source (sights_in names ws es))
+      → view_in ws (value_at place before (grouped (is_line names (Of t)) (lines_of es) (all_glances es)))
+      ≡ view_from place t (view_in ws before) (sights_in names ws es)
   own-shows before [] lines = refl
   own-shows before (x ∷ xs) lines =
       let rest = grouped (is_line names (Of t)) (lines_of xs) (all_glances xs) in
-      let view = view_in ws x.glance.brief in
+      let sights = sights_in names ws xs in
+      let g = x.glance in
       let same : is_line names (Of t) x.line ≡ is_of t (sight_in names ws x) =
       ap (is_that (Of t)) lines.0 ∙ of-is (target_on names x.line) t in
-      ap (λ b. value_at place before (marks_in ws (kept b x.glance ++ rest))) same
-      ∙ by_test (λ b. value_at place before (marks_in ws (kept b x.glance ++ rest))
-      ≡ view_from place t (cond (b && leb x.glance.place place) view before) (sights_in names ws xs))
+      ap (λ b. view_in ws (value_at place before (kept b g ++ rest))) same
+      ∙ by_test (λ b. view_in ws (value_at place before (kept b g ++ rest))
+      ≡ view_from place t (cond (b && leb g.place place) (view_in ws g.value) (view_in ws before)) sights)
       (is_of t (sight_in names ws x))
-      (λ _. own-shows (cond (leb x.glance.place place) view before) xs lines.1)
+      (λ _. own-shows (cond (leb g.place place) g.value before) xs lines.1
+      ∙ ap (λ v. view_from place t v sights) (view-if (leb g.place place) g.value before))
       (λ _. own-shows before xs lines.1)
 
 -- ---- a log in order

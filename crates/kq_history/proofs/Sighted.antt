@@ -38,7 +38,7 @@ module _ {S : Type 0} where
       subst (λ (es : List Entry). IsNumbered table wholes es) (sym no_sight)
       (record {
         lined = tt;
-        settled = All-nil (λ (e : Entry). IsSettled wholes e.glance.brief);
+        settled = All-nil (λ (e : Entry). IsSettled wholes e.glance.value);
         shown = λ t. ap (view_in wholes) (nothing (Of t));
         kept = λ t. subst (IsSettled wholes) (sym (nothing (Of t))) (λ (more : List View). refl);
       })
@@ -54,8 +54,8 @@ module _ {S : Type 0} where
     numbered-on same = record {
       lined = subst (λ (ss : List Sight). AreLined (keys new) (lines_of log) (map seen_source ss)) (sym sights-stay)
           (lined-on (keys old) (keys new) on (lines_of log) (map seen_source (sights_in (keys old) ws log)) numbered.lined);
-      settled = All-weaker (λ (e : Entry). IsSettled ws e.glance.brief) (λ (e : Entry). IsSettled vs e.glance.brief)
-          (λ e settled. settled-on ws vs e.glance.brief grows settled) log numbered.settled;
+      settled = All-weaker (λ (e : Entry). IsSettled ws e.glance.value) (λ (e : Entry). IsSettled vs e.glance.value)
+          (λ e settled. settled-on ws vs e.glance.value grows settled) log numbered.settled;
       shown = λ t.
           ap (view_in vs) (same (Of t))
           ∙ view-on ws vs (unwrap_or (get source_eq old (Of t)) Nothing) grows (numbered.kept t)
@@ -71,26 +71,26 @@ module _ {S : Type 0} where
   -- one more
   module _ (old new : HashMap Source Brief S) (ws : List View) (log : List Entry) (e : Entry) (t : Target)
       (there : HasLine (keys old) (Of t) e.line) (stay : keys new ≡ keys old) where
-    pub seen-push : (v : Option View) → view_in ws e.glance.brief ≡ v
+    pub seen-push : (v : Option View) → view_in ws e.glance.value ≡ v
         → sights_in (keys new) ws (log ++ e ∷ []) ≡ sights_in (keys old) ws log ++ sight t e.glance.place v ∷ []
     seen-push v is =
         ap (λ names. sights_in names ws (log ++ e ∷ [])) stay
         ∙ map-push (sight_in (keys old) ws) log e
         ∙ ap₂ (λ u w. sights_in (keys old) ws log ++ sight u e.glance.place w ∷ []) (target-there (keys old) t e.line there) is
 
-    pub numbered-push : ((x : Source) → get source_eq new x ≡ cond (source_eq (Of t) x) (Some e.glance.brief) (get source_eq old x))
-        → IsSettled ws e.glance.brief → IsNumbered old ws log → IsNumbered new ws (log ++ e ∷ [])
+    pub numbered-push : ((x : Source) → get source_eq new x ≡ cond (source_eq (Of t) x) (Some e.glance.value) (get source_eq old x))
+        → IsSettled ws e.glance.value → IsNumbered old ws log → IsNumbered new ws (log ++ e ∷ [])
     numbered-push put settled numbered =
         let ss = sights_in (keys old) ws log in
-        let s : Sight = sight t e.glance.place (view_in ws e.glance.brief) in
-        let more : sights_in (keys new) ws (log ++ e ∷ []) ≡ ss ++ s ∷ [] = seen-push (view_in ws e.glance.brief) refl in
+        let s : Sight = sight t e.glance.place (view_in ws e.glance.value) in
+        let more : sights_in (keys new) ws (log ++ e ∷ []) ≡ ss ++ s ∷ [] = seen-push (view_in ws e.glance.value) refl in
         let has : (u : Target) → unwrap_or (get source_eq new (Of u)) Nothing
-        ≡ cond (target_key t u) e.glance.brief (unwrap_or (get source_eq old (Of u)) Nothing) =
+        ≡ cond (target_key t u) e.glance.value (unwrap_or (get source_eq old (Of u)) Nothing) =
         λ u.
         ap (λ o. unwrap_or o Nothing) (put (Of u))
-        ∙ ap (λ b. unwrap_or (cond b (Some e.glance.brief) (get source_eq old (Of u))) Nothing) (of-is t u)
-        ∙ by_test (λ b. unwrap_or (cond b (Some e.glance.brief) (get source_eq old (Of u))) Nothing
-        ≡ cond b e.glance.brief (unwrap_or (get source_eq old (Of u)) Nothing)) (target_key t u) (λ _. refl) (λ _. refl) in
+        ∙ ap (λ b. unwrap_or (cond b (Some e.glance.value) (get source_eq old (Of u))) Nothing) (of-is t u)
+        ∙ by_test (λ b. unwrap_or (cond b (Some e.glance.value) (get source_eq old (Of u))) Nothing
+        ≡ cond b e.glance.value (unwrap_or (get source_eq old (Of u)) Nothing)) (target_key t u) (λ _. refl) (λ _. refl) in
         record {
           lined =
               subst (λ (xs : List Sight). AreLined (keys new) (lines_of (log ++ e ∷ [])) (map seen_source xs)) (sym more)
@@ -98,15 +98,15 @@ module _ {S : Type 0} where
               (subst (λ (ns : List ℕ). AreLined (keys old) ns (map seen_source (ss ++ s ∷ []))) (sym (map-push (λ (x : Entry). x.line) log e))
               (subst (λ (xs : List Source). AreLined (keys old) (lines_of log ++ e.line ∷ []) xs) (sym (map-push seen_source ss s))
               (lined-push (keys old) e.line (Of t) there (lines_of log) (map seen_source ss) numbered.lined))));
-          settled = All-append (λ (x : Entry). IsSettled ws x.glance.brief) log (e ∷ []) numbered.settled
-              (All-cons (λ (x : Entry). IsSettled ws x.glance.brief) e [] settled (All-nil (λ (x : Entry). IsSettled ws x.glance.brief)));
+          settled = All-append (λ (x : Entry). IsSettled ws x.glance.value) log (e ∷ []) numbered.settled
+              (All-cons (λ (x : Entry). IsSettled ws x.glance.value) e [] settled (All-nil (λ (x : Entry). IsSettled ws x.glance.value)));
           shown = λ u.
               ap (view_in ws) (has u)
-              ∙ by_test (λ b. view_in ws (cond b e.glance.brief (unwrap_or (get source_eq old (Of u)) Nothing)) ≡ cond b s.view (last_view u ss)) (target_key t u)
+              ∙ by_test (λ b. view_in ws (cond b e.glance.value (unwrap_or (get source_eq old (Of u)) Nothing)) ≡ cond b s.view (last_view u ss)) (target_key t u)
               (λ _. refl) (λ _. numbered.shown u)
               ∙ sym (last-append u None ss (s ∷ [])) ∙ ap (last_view u) (sym more);
           kept = λ u.
               subst (IsSettled ws) (sym (has u))
-              (by_test (λ b. IsSettled ws (cond b e.glance.brief (unwrap_or (get source_eq old (Of u)) Nothing))) (target_key t u)
+              (by_test (λ b. IsSettled ws (cond b e.glance.value (unwrap_or (get source_eq old (Of u)) Nothing))) (target_key t u)
               (λ _. settled) (λ _. numbered.kept u));
         }

@@ -6,7 +6,7 @@ use Rattle.std.proofs.lemmas.List.Sorted.{IsPartitionedBy-leb}
 use Rattle.std.specs.List.{slice_get}
 use Rattle.std.proofs.lemmas.Option.{get_or_from_slice_get, none-some, slice_get-get_or, slice_get_within}
 use Rattle.kq_model.proofs.KnoteLaws.{by_test}
-use Rattle.kq_history.specs.declared.timeline.Mark.{Mark}
+use Rattle.kq_history.specs.declared.marks.Mark.{Mark}
 use Rattle.kq_history.specs.Timeline.{last_value, mark, mark_at, value_at, HaveBegun}
 
 module _ {V : Type 0} (place : ℕ) where

@@ -1,28 +1,31 @@
 -- What was seen of each target from place to place, in little room: as a log keeps it, and target by target.
-use Rattle.std.specs.Prelude.{◌≡◌, ℕ, true, false, List, map, Option, None, nat_le}
-use Rattle.std.specs.List.Sorted.{IsNonDecreasingBy, IsPartitionPoint}
+use Rattle.std.specs.Prelude.{ℕ, List, map, Option}
 use Rattle.kq_model.specs.declared.object.Target.{Target}
 use Rattle.kq_model.specs.declared.object.View.{View}
 use Rattle.kq_history.specs.declared.brief.Brief.{Brief}
-use Rattle.kq_history.specs.declared.glances.Glance.{Glance}
+use Rattle.kq_history.specs.declared.brief.Brief.TheVariants.{Nothing}
 use Rattle.kq_history.specs.declared.item.Source.{Source}
 use Rattle.kq_history.specs.declared.item.Source.TheVariants.{Of}
 use Rattle.kq_history.specs.declared.sighting.Entry.{Entry}
-use Rattle.kq_history.specs.declared.timeline.Mark.{Mark}
+use Rattle.kq_history.specs.declared.marks.Mark.{Mark}
 use Rattle.kq_history.specs.Brief.{view_in}
 use Rattle.kq_history.specs.Filed.{by_source}
 use Rattle.kq_history.specs.Lines.{target_on}
 use Rattle.kq_history.specs.Sights.{Sight}
-use Rattle.kq_history.specs.Timeline.{mark, value_at}
+use Rattle.kq_history.specs.Timeline.{mark, value_at, AreRising}
+
+-- what is seen from a place on
+abbrev pub Glance : Type 0
+Glance = Mark Brief
 
 -- ---- a log
 
 abbrev pub entry : ℕ → ℕ → Brief → Entry
-entry place line brief = record { line = line; glance = record { place = place; brief = brief } }
+entry place line brief = record { line = line; glance = mark place brief }
 
 abbrev pub sight_in : List Source → List View → Entry → Sight
 sight_in names wholes e =
-    record { target = target_on names e.line; place = e.glance.place; view = view_in wholes e.glance.brief }
+    record { target = target_on names e.line; place = e.glance.place; view = view_in wholes e.glance.value }
 
 abbrev pub sights_in : List Source → List View → List Entry → List Sight
 sights_in names wholes es = map (sight_in names wholes) es
@@ -32,22 +35,6 @@ lines_of es = map (λ (e : Entry). e.line) es
 
 abbrev pub all_glances : List Entry → List Glance
 all_glances es = map (λ (e : Entry). e.glance) es
-
--- ---- the glances of one target
-
--- its timeline, where these are the views that did not fit
-abbrev pub marks_in : List View → List Glance → List (Mark (Option View))
-marks_in wholes gs = map (λ (g : Glance). mark g.place (view_in wholes g.brief)) gs
-
--- none is earlier than one before it
-abbrev pub AreRising : List Glance → Type 0
-AreRising gs = IsNonDecreasingBy (λ (g : Glance). g.place) gs
-
--- so many are at the place or before it
-abbrev pub HaveBegun : ℕ → ℕ → List Glance → Type 0
-HaveBegun place count gs =
-    IsPartitionPoint (λ (g : Glance). nat_le g.place place ≡ true) (λ (g : Glance). nat_le g.place place ≡ false) gs
-    count
 
 -- ---- target by target
 
@@ -66,4 +53,4 @@ glances_of s t = by_source s.names s.glances (Of t)
 
 -- what is seen of a target at a place; before all glances nothing is
 abbrev pub seen_of : Sighted → Target → ℕ → Option View
-seen_of s t place = value_at place None (marks_in s.wholes (glances_of s t))
+seen_of s t place = view_in s.wholes (value_at place Nothing (glances_of s t))

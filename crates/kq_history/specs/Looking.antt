@@ -1,13 +1,11 @@
 -- The world as one kqueue sees it that goes from place to place.
-use Rattle.std.specs.Prelude.{◌≡◌, ◌≤◌, ◌<◌, ℕ, All, List, None, Some, slice_get}
+use Rattle.std.specs.Prelude.{◌≡◌, ◌≤◌, ◌<◌, ℕ, All, List, Some, slice_get}
 use Rattle.kq_model.specs.declared.object.Target.{Target}
-use Rattle.kq_model.specs.declared.object.View.{View}
-use Rattle.kq_history.specs.declared.glances.Glance.{Glance}
+use Rattle.kq_history.specs.declared.brief.Brief.TheVariants.{Nothing}
 use Rattle.kq_history.specs.declared.showing.Showing.{Showing}
 use Rattle.kq_history.specs.declared.slots.Slot.{Slot}
-use Rattle.kq_history.specs.Brief.{view_in}
-use Rattle.kq_history.specs.Glances.{glances_of, marks_in, seen_of, AreRising, Sighted}
-use Rattle.kq_history.specs.Timeline.{value_at}
+use Rattle.kq_history.specs.Glances.{glances_of, seen_of, Glance, Sighted}
+use Rattle.kq_history.specs.Timeline.{value_at, AreRising}
 use Rattle.kq_history.specs.Traced.{Traced, seen_at}
 
 -- after the record of a place of a trace
@@ -17,8 +15,7 @@ pub record Outlook : Type 0 where
 
 -- it is what the glances show at each place from the one on and before the other
 abbrev pub IsShown : List Glance → Showing → Type 0
-IsShown gs s = (place : ℕ) (wholes : List View) → s.from ≤ place → place < s.until
-    → view_in wholes s.brief ≡ value_at place None (marks_in wholes gs)
+IsShown gs s = (place : ℕ) → s.from ≤ place → place < s.until → s.brief ≡ value_at place Nothing gs
 
 -- the slot of the target stands there
 abbrev pub IsSlotOf : List Slot → Target → ℕ → Type 0

@@ -4,7 +4,7 @@ use Rattle.std.specs.Prelude.{◌≡◌, ◌<◌, ℕ, nat_eq, nat_le, List, [],
 use Rattle.kq_model.specs.declared.object.Named.{Named}
 use Rattle.kq_process.specs.Shelf.{lookup}
 use Rattle.kq_history.specs.declared.numbers.Numbers.{Numbers}
-use Rattle.kq_history.specs.declared.timeline.Mark.{Mark}
+use Rattle.kq_history.specs.declared.marks.Mark.{Mark}
 use Rattle.kq_history.specs.Keys.{pair_eq}
 use Rattle.kq_history.specs.Timeline.{mark, mark_at}
 use Rattle.kq_history.specs.Timelines.{marks_at, AreUpTo}

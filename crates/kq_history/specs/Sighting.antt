@@ -21,7 +21,7 @@ seen_source s = Of s.target
 pub record IsNumbered {S : Type 0} (table : HashMap Source Brief S) (wholes : List View) (log : List Entry)
     : Type 0 where
   pub lined : AreLined (keys table) (lines_of log) (map seen_source (sights_in (keys table) wholes log))
-  pub settled : All (λ (e : Entry). IsSettled wholes e.glance.brief) log
+  pub settled : All (λ (e : Entry). IsSettled wholes e.glance.value) log
   pub shown : (t : Target) → view_in wholes (unwrap_or (get source_eq table (Of t)) Nothing)
       ≡ last_view t (sights_in (keys table) wholes log)
   pub kept : (t : Target) → IsSettled wholes (unwrap_or (get source_eq table (Of t)) Nothing)

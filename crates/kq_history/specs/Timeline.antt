@@ -1,8 +1,8 @@
 -- A value that changes from place to place: what it was before all marks, and from each mark on what the mark says.
 use Rattle.std.specs.Prelude.{◌≡◌, ℕ, nat_le, List, [], ◌∷◌, Bool, true, false, if◌then◌else◌, ◌≤◌, All, Option}
 use Rattle.std.specs.Prelude.{None, Some}
-use Rattle.std.specs.List.Sorted.{IsPartitionPoint}
-use Rattle.kq_history.specs.declared.timeline.Mark.{Mark}
+use Rattle.std.specs.List.Sorted.{IsNonDecreasingBy, IsPartitionPoint}
+use Rattle.kq_history.specs.declared.marks.Mark.{Mark}
 
 module _ {V : Type 0} where
   -- the value of the last mark at the place or before it; `before` where there is none
@@ -34,6 +34,10 @@ module _ {V : Type 0} where
   -- no mark is later
   abbrev pub IsUpTo : ℕ → List (Mark V) → Type 0
   IsUpTo place ms = All (λ (m : Mark V). m.place ≤ place) ms
+
+  -- none is earlier than one before it
+  abbrev pub AreRising : List (Mark V) → Type 0
+  AreRising ms = IsNonDecreasingBy (λ (m : Mark V). m.place) ms
 
   -- so many marks are at the place or before it
   abbrev pub HaveBegun : ℕ → ℕ → List (Mark V) → Type 0

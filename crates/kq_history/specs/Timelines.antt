@@ -1,7 +1,7 @@
 -- A timeline for each key of a table; none stands for one without marks.
 use Rattle.std.specs.Prelude.{◌≡◌, ℕ, Bool, true, List, [], Option, None, Some, slice_get}
 use Rattle.std.specs.HashMap.{HashMap, get}
-use Rattle.kq_history.specs.declared.timeline.Mark.{Mark}
+use Rattle.kq_history.specs.declared.marks.Mark.{Mark}
 use Rattle.kq_history.specs.Timeline.{IsUpTo}
 
 abbrev pub or_none : {V : Type 0} → Option (List (Mark V)) → List (Mark V)

@@ -7,7 +7,7 @@ ghost use Rattle.kq_history.specs.Numbers.{later, named_at, no_mark, no_table, A
 ghost use Rattle.kq_history.specs.Timeline.{mark_or};
 
 use crate::listing::Listing;
-use crate::timeline::Mark;
+use crate::marks::Mark;
 use crate::timelines::Timelines;
 use kq_model::{Memory, Named};
 use std::alloc::Global;

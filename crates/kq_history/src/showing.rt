@@ -1,9 +1,10 @@
 ghost use Rattle.std.specs.Prelude.{◌≡◌, ◌≤◌, ◌<◌, ◌-◌, true, length, slice_index_or};
-ghost use Rattle.kq_history.specs.Glances.{AreRising};
+ghost use Rattle.kq_history.specs.Glances.{Glance};
 ghost use Rattle.kq_history.specs.Looking.{IsShown};
+ghost use Rattle.kq_history.specs.Timeline.{AreRising};
 
 use crate::brief::Brief;
-use crate::glances::{Glance, brief_behind, count_near};
+use crate::marks::{Mark, count_near, value_behind};
 
 /// What glances show at each place from one on and before another one.
 #[derive(Debug, Drop, Clone, Copy)]
@@ -27,7 +28,7 @@ impl Showing {
 
 /// What glances show at a place, and from where on and before where that is known. It costs a constant where so many of
 /// them, or a few more, are at the place or before it.
-pub fn showing_at(glances: &[Glance], place: u64, come: usize) -> Showing
+pub fn showing_at(glances: &[Mark<Brief>], place: u64, come: usize) -> Showing
     requires { AreRising glances.now }
     ensures { IsShown glances.now result }
 {
@@ -36,12 +37,12 @@ pub fn showing_at(glances: &[Glance], place: u64, come: usize) -> Showing
         come,
         from: last_place(glances, come),
         until: next_place(glances, come),
-        brief: brief_behind(glances, come),
+        brief: value_behind(glances, come, Brief::Nothing),
     }
 }
 
 /// The place of the last of so many glances, or 0 where there is none.
-fn last_place(glances: &[Glance], count: usize) -> u32
+fn last_place(glances: &[Mark<Brief>], count: usize) -> u32
     requires { count ≤ length glances.now }
     ensures { (d : Glance) → 1 ≤ count → (slice_index_or glances.now (count - 1) d).place ≡ result }
 {
@@ -52,7 +53,7 @@ fn last_place(glances: &[Glance], count: usize) -> u32
 }
 
 /// The place of the glance behind so many, or the greatest number where there is none.
-fn next_place(glances: &[Glance], count: usize) -> u32
+fn next_place(glances: &[Mark<Brief>], count: usize) -> u32
     ensures { (d : Glance) → count < length glances.now → (slice_index_or glances.now count d).place ≡ result }
 {
     if count >= glances.len() {

@@ -5,9 +5,10 @@ ghost use Rattle.kq_history.specs.Sights.{view_at, AreUpTo};
 
 use crate::brief::{Brief, brief_of};
 use crate::filed::Filed;
-use crate::glances::Glance;
 use crate::item::Source;
 use crate::lines::Lines;
+use crate::marks::Mark;
+use crate::note::small;
 use crate::sights::Sights;
 use kq_index::Entries;
 use kq_model::{Memory, Target, View};
@@ -18,7 +19,7 @@ use std::marker::Model;
 #[derive(Debug, Drop, Clone, Copy)]
 pub struct Entry {
     pub line: u32,
-    pub glance: Glance,
+    pub glance: Mark<Brief>,
 }
 
 /// What is seen of targets from place to place, while the records come: one log, which is written at its end. Contracts
@@ -106,7 +107,7 @@ struct Seen<'e> {
 impl<'e> Entries for Seen<'e> {
     ghost use Rattle.kq_history.specs.Glances.{all_glances, lines_of};
 
-    type Thing = Glance;
+    type Thing = Mark<Brief>;
 
     ghost keys = { λ s. lines_of s.log.now };
 
@@ -120,7 +121,7 @@ impl<'e> Entries for Seen<'e> {
         self.log[number].line
     }
 
-    fn thing(&self, number: usize) -> Glance {
+    fn thing(&self, number: usize) -> Mark<Brief> {
         self.log[number].glance
     }
 }
@@ -129,12 +130,11 @@ impl<'e> Entries for Seen<'e> {
 fn entry_of(place: u64, line: usize, brief: Brief) -> Result<Entry, Memory>
     ensures { IfOk result (λ e. e ≡ entry place line brief) }
 {
-    let Ok(place) = u32::try_from(place) else {
-        return Err(Memory);
+    let place = small(place)?;
+    let line = small(line as u64)?;
+    let glance = Mark {
+        place,
+        value: brief,
     };
-    let Ok(line) = u32::try_from(line) else {
-        return Err(Memory);
-    };
-    let glance = Glance { place, brief };
     Ok(Entry { line, glance })
 }

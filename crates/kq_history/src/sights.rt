@@ -1,11 +1,12 @@
 ghost use Rattle.std.specs.Prelude.{◌≡◌};
 ghost use Rattle.kq_history.specs.Brief.{view_in};
-ghost use Rattle.kq_history.specs.Glances.{glances_of, seen_of, AreRising};
+ghost use Rattle.kq_history.specs.Glances.{glances_of, seen_of};
+ghost use Rattle.kq_history.specs.Timeline.{AreRising};
 
 use crate::brief::Brief;
 use crate::filed::Filed;
-use crate::glances::{Glance, brief_behind, count_at};
 use crate::item::Source;
+use crate::marks::{Mark, count_at, value_behind};
 use kq_model::{Target, View};
 use std::marker::Model;
 
@@ -14,7 +15,7 @@ use std::marker::Model;
 #[derive(Drop)]
 pub struct Sights {
     /// The glances of each target.
-    pub(crate) filed: Filed<Brief, Glance>,
+    pub(crate) filed: Filed<Brief, Mark<Brief>>,
     /// The views that do not fit into a glance.
     pub(crate) wholes: Vec<View>,
 }
@@ -34,7 +35,7 @@ impl Model for Sights {
 
 impl Sights {
     /// The glances of a target, by rising places. It costs a search.
-    pub fn of(&self, target: Target) -> &[Glance]
+    pub fn of(&self, target: Target) -> &[Mark<Brief>]
         ensures glances { result.now ≡ glances_of self.now target }
         ensures rising { AreRising result.now }
     {
@@ -46,7 +47,7 @@ impl Sights {
         ensures { view_in self.now.wholes result ≡ seen_of self.now target place }
     {
         let glances = self.of(target);
-        brief_behind(glances, count_at(glances, place))
+        value_behind(glances, count_at(glances, place), Brief::Nothing)
     }
 
     /// The views that do not fit into little room.

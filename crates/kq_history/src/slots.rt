@@ -1,13 +1,12 @@
-ghost use Rattle.std.specs.Prelude.{◌≡◌, ◌++◌, ◌∷◌, [], true, All, List, None, IfOk, IfSome, OnOk};
-ghost use Rattle.kq_model.specs.declared.object.View.{View};
-ghost use Rattle.kq_history.specs.Brief.{view_in};
-ghost use Rattle.kq_history.specs.Glances.{marks_in, AreRising, Sighted};
+ghost use Rattle.std.specs.Prelude.{◌≡◌, ◌++◌, ◌∷◌, [], true, All, IfOk, IfSome, OnOk};
+ghost use Rattle.kq_history.specs.Glances.{Sighted};
 ghost use Rattle.kq_history.specs.Looking.{HasOwn, HasSlot, IsShown, IsSlotOf};
-ghost use Rattle.kq_history.specs.Timeline.{value_at};
+ghost use Rattle.kq_history.specs.Timeline.{value_at, AreRising};
+ghost use Rattle.kq_history.specs.declared.brief.Brief.TheVariants.{Nothing};
 ghost use Rattle.kq_history.specs.declared.showing.Showing.{Showing as Shown};
 
 use crate::brief::Brief;
-use crate::glances::{Glance, brief_behind, count_near};
+use crate::marks::{Mark, count_near, value_behind};
 use crate::showing::{Showing, showing_at};
 use kq_model::{Hint, Memory, Target};
 use std::alloc::Global;
@@ -28,7 +27,7 @@ const SPREAD: u64 = 0x9e37_79b9_7f4a_7c15;
 #[derive(Drop, Clone, Copy)]
 pub(crate) struct Slot<'s> {
     pub(crate) target: Target,
-    pub(crate) glances: &'s [Glance],
+    pub(crate) glances: &'s [Mark<Brief>],
     pub(crate) showing: Showing,
 }
 
@@ -39,14 +38,13 @@ impl<'s> Slot<'s> {
     pub fn brief_at(&self, place: u64) -> Brief
         requires rising { AreRising self.now.glances.now }
         requires shown { IsShown self.now.glances.now self.now.showing }
-        ensures { (wholes : List View) → view_in wholes result
-            ≡ value_at place None (marks_in wholes self.now.glances.now) }
+        ensures { result ≡ value_at place Nothing self.now.glances.now }
     {
         if self.showing.holds_at(place) {
             return self.showing.brief;
         }
         let come = count_near(self.glances, place, self.showing.come);
-        brief_behind(self.glances, come)
+        value_behind(self.glances, come, Brief::Nothing)
     }
 }
 
@@ -95,7 +93,12 @@ impl<'s> Slots<'s> {
     }
 
     /// A slot more, for a target with these glances, which is looked at from a place on.
-    pub fn push(&mut self, target: Target, glances: &'s [Glance], place: u64) -> Result<(), Memory>
+    pub fn push(
+        &mut self,
+        target: Target,
+        glances: &'s [Mark<Brief>],
+        place: u64,
+    ) -> Result<(), Memory>
         requires { AreRising glances.now }
         ensures { OnOk result ((showing : Shown) × IsShown glances.now showing × (self.new.slots.items
             ≡ self.old.slots.items

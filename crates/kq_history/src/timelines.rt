@@ -3,8 +3,9 @@ ghost use Rattle.std.specs.Option.{option_copied};
 ghost use Rattle.kq_history.specs.Timeline.{mark_at, mark_or, marked};
 ghost use Rattle.kq_history.specs.Timelines.{marks_at, AreUpTo, StandsAt};
 
+use crate::marks::Mark;
 use crate::spots::{OfProcess, Spots};
-use crate::timeline::{Mark, Timeline};
+use crate::timeline::Timeline;
 use indexmap::IndexMap;
 use kq_model::Memory;
 use std::alloc::Global;

@@ -4,7 +4,7 @@ use Rattle.std.proofs.lemmas.Option.{same_Some, slice_get-map}
 use Rattle.std.proofs.lemmas.Result.{on_ok_weaker}
 use Rattle.indexmap.specs.IndexMap.{with_value_at}
 use Rattle.indexmap.proofs.CallerLemmas.{updates-with_value_at}
-use Rattle.kq_history.specs.declared.timeline.Mark.{Mark}
+use Rattle.kq_history.specs.declared.marks.Mark.{Mark}
 use Rattle.kq_history.specs.Timeline.{marked, IsUpTo}
 use Rattle.kq_history.specs.Timelines.{or_none}
 use Rattle.kq_history.proofs.NotedMarks.{marks-there, one-more-at}

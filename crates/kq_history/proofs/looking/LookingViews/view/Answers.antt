@@ -1,7 +1,8 @@
-use Rattle.std.proofs.Common.{◌≡◌, ◌∙◌, None, sym, ap}
+use Rattle.std.proofs.Common.{◌≡◌, ◌∙◌, sym, ap}
 use Rattle.kq_model.specs.declared.object.Target.{Target}
+use Rattle.kq_history.specs.declared.brief.Brief.TheVariants.{Nothing}
 use Rattle.kq_history.specs.Brief.{view_in}
-use Rattle.kq_history.specs.Glances.{marks_in, seen_of}
+use Rattle.kq_history.specs.Glances.{glances_of, seen_of}
 use Rattle.kq_history.specs.Looking.{Outlook}
 use Rattle.kq_history.specs.Timeline.{value_at}
 use Rattle.kq_history.specs.Traced.{seen_at}
@@ -29,9 +30,9 @@ returns c =
       | in-Some w ↦
           let has = w.in-Some.ensures in
           let own = (own-slot l.sights.now l.slots.slots.items has.0 w.in-Some.slot.now c.self.invariant.own has.1).own in
-          ap (view_in ws) w.brief-is ∙ w.brief_at-brief.ensures ws
-          ∙ ap (λ gs. value_at l.place None (marks_in ws gs)) own
-          ∙ ap (λ (target : Target). seen_of l.sights.now target l.place) has.2
+          ap (view_in ws)
+          (w.brief-is ∙ w.brief_at-brief.ensures ∙ ap (value_at l.place Nothing) own
+          ∙ ap (λ (target : Target). value_at l.place Nothing (glances_of l.sights.now target)) has.2)
       | in-None w ↦ ap (view_in ws) w.brief-is ∙ w.at-brief.ensures
     ] in
     c.view.ensures ∙ ap (λ vs. view_in vs c.match-get.brief) c.wholes.ensures ∙ shown ∙ sym (c.self.invariant.tells l.place t)

@@ -1,5 +1,6 @@
 use Rattle.std.proofs.Common.{◌∙◌, ap, subst, sym}
-use Rattle.kq_history.specs.Glances.{glances_of, AreRising, Sighted}
+use Rattle.kq_history.specs.Glances.{glances_of, Sighted}
+use Rattle.kq_history.specs.Timeline.{AreRising}
 use Rattle.kq_history.specs.declared.item.Source.TheVariants.{Of}
 use Rattle.kq_history.proofs.sights.Sights.of.Goals as goal
 

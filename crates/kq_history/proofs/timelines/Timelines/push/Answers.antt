@@ -2,7 +2,7 @@ use Rattle.std.proofs.Common.{◌≡◌, ◌∙◌, ◌++◌, [], true, Option, 
 use Rattle.std.specs.HashMap.{get, Updates}
 use Rattle.std.specs.Option.{IsSome}
 use Rattle.std.proofs.lemmas.Result.{on_ok_weaker}
-use Rattle.kq_history.specs.declared.timeline.Mark.{Mark}
+use Rattle.kq_history.specs.declared.marks.Mark.{Mark}
 use Rattle.kq_history.specs.Timeline.{marked, IsUpTo}
 use Rattle.kq_history.specs.Timelines.{marks_at, or_none}
 use Rattle.kq_history.proofs.NotedMarks.{one-more-at}
