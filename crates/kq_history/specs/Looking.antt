@@ -1,21 +1,15 @@
 -- The world as one kqueue sees it that goes from place to place.
-use Rattle.std.specs.Prelude.{◌≡◌, ◌≤◌, ◌<◌, ℕ, All, List, Some, slice_get}
+use Rattle.std.specs.Prelude.{◌≡◌, ℕ, All, List, Some, slice_get}
 use Rattle.kq_model.specs.declared.object.Target.{Target}
-use Rattle.kq_history.specs.declared.brief.Brief.TheVariants.{Nothing}
-use Rattle.kq_history.specs.declared.showing.Showing.{Showing}
 use Rattle.kq_history.specs.declared.slots.Slot.{Slot}
-use Rattle.kq_history.specs.Glances.{glances_of, seen_of, Glance, Sighted}
-use Rattle.kq_history.specs.Timeline.{value_at, AreRising}
+use Rattle.kq_history.specs.Glances.{glances_of, seen_of, Sighted}
+use Rattle.kq_history.specs.Timeline.{AreRising}
 use Rattle.kq_history.specs.Traced.{Traced, seen_at}
 
 -- after the record of a place of a trace
 pub record Outlook : Type 0 where
   pub trace : Traced
   pub place : ℕ
-
--- it is what the glances show at each place from the one on and before the other
-abbrev pub IsShown : List Glance → Showing → Type 0
-IsShown gs s = (place : ℕ) → s.from ≤ place → place < s.until → s.brief ≡ value_at place Nothing gs
 
 -- the slot of the target stands there
 abbrev pub IsSlotOf : List Slot → Target → ℕ → Type 0
@@ -25,11 +19,10 @@ IsSlotOf slots t index = (slot : Slot) × (slice_get slots index ≡ Some slot) 
 abbrev pub HasSlot : List Slot → Target → Slot → Type 0
 HasSlot slots t slot = (index : ℕ) × (slice_get slots index ≡ Some slot) × (slot.target ≡ t)
 
--- in a slot are the glances of its target, and what they show
+-- in a slot are the glances of its target
 pub record HasOwn (s : Sighted) (slot : Slot) : Type 0 where
   pub own : slot.glances.now ≡ glances_of s slot.target
   pub rising : AreRising slot.glances.now
-  pub shown : IsShown slot.glances.now slot.showing
 
 -- the worlds of a trace show what was seen, and of that each slot has its own
 pub record IsLooking (t : Traced) (s : Sighted) (slots : List Slot) : Type 0 where

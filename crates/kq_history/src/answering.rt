@@ -67,4 +67,8 @@ impl<'s, 'a> ItemList for Answering<'s, 'a> {
     fn item(&self, number: usize) -> Item {
         self.stretches[number].item(self.notes)
     }
+
+    fn call(&self, number: usize) -> Option<u64> {
+        self.stretches[number].call(self.notes)
+    }
 }

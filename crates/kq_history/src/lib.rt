@@ -25,7 +25,6 @@ mod private;
 mod said;
 mod saying;
 mod seen;
-mod showing;
 mod shown;
 mod sighting;
 mod sights;

@@ -3,7 +3,7 @@ ghost use Rattle.std.specs.Prelude.{◌≡◌, IfOk};
 use crate::sights::Sights;
 use crate::slots::Slots;
 use crate::split::Split;
-use kq_model::{Hint, Memory, Named, Target, View, Views};
+use kq_model::{Memory, Named, Target, View, Views};
 use std::marker::Model;
 
 /// The world after the record of a place, as one kqueue sees it that goes from place to place: the glances of its
@@ -50,13 +50,6 @@ impl<'s, 'a> Looking<'s, 'a> {
         ensures { self.new ≡ record { trace = self.old.trace; place = place } }
     {
         self.place = place;
-    }
-
-    /// Looks at these targets are at hand from now on: they begin at the place.
-    pub fn advance(&mut self, told: &[(Target, Hint)])
-        ensures { self.new ≡ self.old }
-    {
-        self.slots.advance(told, self.place);
     }
 }
 

@@ -55,4 +55,8 @@ impl<'s, 'a> ItemList for Private<'s, 'a> {
     fn item(&self, number: usize) -> Item {
         self.items[number]
     }
+
+    fn call(&self, number: usize) -> Option<u64> {
+        self.items[number].call()
+    }
 }

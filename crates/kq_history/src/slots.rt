@@ -1,15 +1,14 @@
-ghost use Rattle.std.specs.Prelude.{◌≡◌, ◌++◌, ◌∷◌, [], true, All, IfOk, IfSome, OnOk};
-ghost use Rattle.kq_history.specs.Glances.{Sighted};
-ghost use Rattle.kq_history.specs.Looking.{HasOwn, HasSlot, IsShown, IsSlotOf};
+ghost use Rattle.std.specs.Prelude.{◌≡◌, ◌++◌, ◌∷◌, [], true, IfOk, IfSome, OnOk};
+ghost use Rattle.kq_history.specs.Looking.{HasSlot, IsSlotOf};
 ghost use Rattle.kq_history.specs.Timeline.{value_at, AreRising};
 ghost use Rattle.kq_history.specs.declared.brief.Brief.TheVariants.{Nothing};
-ghost use Rattle.kq_history.specs.declared.showing.Showing.{Showing as Shown};
+ghost use Rattle.kq_history.specs.declared.slots.Slot.{Slot as Slotted};
 
 use crate::brief::Brief;
 use crate::marks::{Mark, count_near, value_behind};
-use crate::showing::{Showing, showing_at};
-use kq_model::{Hint, Memory, Target};
+use kq_model::{Memory, Target};
 use std::alloc::Global;
+use std::cell::Cell;
 
 /// So many guesses for each slot, so that few targets share one.
 const GUESSES_OF_ONE: usize = 4;
@@ -23,27 +22,25 @@ const NO_GUESS: u32 = u32::MAX;
 /// Spreads numbers, also those that are at even distances.
 const SPREAD: u64 = 0x9e37_79b9_7f4a_7c15;
 
-/// A target's glances, and what they showed when the kqueue was last told of it.
-#[derive(Drop, Clone, Copy)]
+/// A target's glances, and where a look at them begins.
+#[derive(Drop)]
 pub(crate) struct Slot<'s> {
     pub(crate) target: Target,
     pub(crate) glances: &'s [Mark<Brief>],
-    pub(crate) showing: Showing,
+    /// How many glances had come at the last look. It claims nothing: who takes it looks at the glances.
+    come: Cell<usize>,
 }
 
 impl<'s> Slot<'s> {
-    /// What is seen of the target at a place, in little room. It costs a constant where the kqueue was told of the
-    /// target since it changed, or a few changes ago.
+    /// What is seen of the target at a place, in little room. It costs a constant where it is what the last look saw,
+    /// or the change after it; else, the fewer changes lie between the less.
     #[inline(always)]
     pub fn brief_at(&self, place: u64) -> Brief
-        requires rising { AreRising self.now.glances.now }
-        requires shown { IsShown self.now.glances.now self.now.showing }
+        requires { AreRising self.now.glances.now }
         ensures { result ≡ value_at place Nothing self.now.glances.now }
     {
-        if self.showing.holds_at(place) {
-            return self.showing.brief;
-        }
-        let come = count_near(self.glances, place, self.showing.come);
+        let come = count_near(self.glances, place, self.come.get());
+        self.come.set(come);
         value_behind(self.glances, come, Brief::Nothing)
     }
 }
@@ -92,7 +89,7 @@ impl<'s> Slots<'s> {
         None
     }
 
-    /// A slot more, for a target with these glances, which is looked at from a place on.
+    /// A slot more, for a target with these glances. Looks at it begin at a place.
     pub fn push(
         &mut self,
         target: Target,
@@ -100,41 +97,18 @@ impl<'s> Slots<'s> {
         place: u64,
     ) -> Result<(), Memory>
         requires { AreRising glances.now }
-        ensures { OnOk result ((showing : Shown) × IsShown glances.now showing × (self.new.slots.items
-            ≡ self.old.slots.items
-            ++ record { target = target; glances = glances.entry; showing = showing } ∷ [])) }
+        ensures { OnOk result ((slot : Slotted) × (slot.target ≡ target) × (slot.glances ≡ glances.entry)
+            × (self.new.slots.items ≡ self.old.slots.items ++ slot ∷ [])) }
     {
         let index = self.slots.len();
-        let showing = showing_at(glances, place, 0);
+        let come = Cell::new(count_near(glances, place, 0));
         self.slots.push(Slot {
             target,
             glances,
-            showing,
+            come,
         })?;
         self.set_guess(target, index);
         Ok(())
-    }
-
-    /// Looks at these targets begin at a place from now on, as far as they have slots.
-    pub fn advance(&mut self, told: &[(Target, Hint)], place: u64)
-        requires { (s : Sighted) × All (HasOwn s) self.old.slots.items }
-        ensures { (s : Sighted) → All (HasOwn s) self.old.slots.items → All (HasOwn s) self.new.slots.items }
-    {
-        for (target, _) in told {
-            self.advance_one(*target, place);
-        }
-    }
-
-    /// Looks at a target begin at a place from now on, if it has a slot.
-    fn advance_one(&mut self, target: Target, place: u64)
-        requires { (s : Sighted) × All (HasOwn s) self.old.slots.items }
-        ensures { (s : Sighted) → All (HasOwn s) self.old.slots.items → All (HasOwn s) self.new.slots.items }
-    {
-        if let Some(index) = self.find(target) {
-            let slot = self.slots[index];
-            let showing = showing_at(slot.glances, place, slot.showing.come);
-            self.slots[index].showing = showing;
-        }
     }
 
     /// The guess that stands there.

@@ -1,4 +1,5 @@
 ghost use Rattle.std.specs.Prelude.{◌≡◌, ◌<◌, length, IfOk};
+ghost use Rattle.kq_history.specs.Items.{call_in};
 ghost use Rattle.kq_history.specs.Stretches.{span, stretch, stretch_item};
 
 use crate::item::{Item, What};
@@ -39,6 +40,14 @@ impl Stretch {
             place: last.place,
             what: span(first.what, last.what),
         }
+    }
+
+    /// The place of the item that stands there, if it is a call.
+    pub fn call(self, notes: &Notes) -> Option<u64>
+        requires { self.last < length notes.now }
+        ensures { result ≡ call_in (stretch_item notes.now self) }
+    {
+        notes.call(self.last as usize)
     }
 }
 

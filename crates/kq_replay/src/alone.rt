@@ -150,7 +150,6 @@ impl<'s, 'a> Alone<'s, 'a> {
             return Ok(());
         }
         self.looking.go_to(self.place);
-        self.looking.advance(self.told.as_slice());
         self.kq.reserve_to_follow(self.told.as_slice())?;
         self.kq.notify(self.told.as_slice(), &self.looking);
         self.told.clear();
@@ -264,19 +263,18 @@ fn calls_ahead<L: ItemList>(split: &Split, items: &L, number: usize) -> usize {
     let count = items.count();
     let mut calls = 0usize;
     for next in number..count.min(number.saturating_add(AHEAD)) {
-        if is_call(split, items.item(next)) {
+        if let Some(place) = items.call(next)
+            && is_call(split, place)
+        {
             calls = calls.saturating_add(1);
         }
     }
     calls
 }
 
-/// Whether an item is a call. It looks at its record.
-fn is_call(split: &Split, item: Item) -> bool {
-    match item.what {
-        What::Called { .. } => matches!(split.event(item.place), Some(Event::Kevent { .. })),
-        _ => false,
-    }
+/// Whether the record of a place is a call. It looks at the record.
+fn is_call(split: &Split, place: u64) -> bool {
+    matches!(split.event(place), Some(Event::Kevent { .. }))
 }
 
 /// Adds the row of the reply to the record at a place, if it has one.

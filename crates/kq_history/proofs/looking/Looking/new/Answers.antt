@@ -1,10 +1,13 @@
-use Rattle.std.proofs.Common.{◌≡◌, ◌++◌, ◌∷◌, [], get_or, sym, subst}
+use Rattle.std.proofs.Common.{◌≡◌, ◌∙◌, ◌∷◌, [], List, get_or, ap, sym, subst}
 use Rattle.std.specs.Prelude.{All}
 use Rattle.std.proofs.lemmas.List.Elements.{All-append, All-cons, All-nil}
 use Rattle.kq_model.specs.declared.object.Target.{Target}
 use Rattle.kq_model.specs.declared.object.Target.TheVariants.{Socket}
 use Rattle.kq_history.specs.declared.slots.Slot.{Slot}
+use Rattle.std.specs.Borrow.{Bor}
+use Rattle.kq_history.specs.Glances.{glances_of, Glance}
 use Rattle.kq_history.specs.Looking.{HasOwn}
+use Rattle.kq_history.specs.Timeline.{AreRising}
 use Rattle.kq_history.proofs.looking.Looking.new.Goals as goal
 
 pub loop-target-init : goal.loop-target-init
@@ -17,11 +20,13 @@ pub loop-target-preserved : goal.loop-target-preserved
 loop-target-preserved c =
     let s = c.sights-sights.result.now in
     let old = c.loop-target.slots.slots.items in
-    let gs = c.of-glances.result in
     let t : Target = get_or c.args.targets.now c.loop-target.target-index (Socket 0) in
-    let showing = c.in_ok-push.ensures.0 in
-    let slot : Slot = record { target = t; glances = gs; showing = showing } in
-    let pushed : c.push.new.self.slots.items ≡ old ++ slot ∷ [] = c.in_ok-push.ensures.2 in
-    let own : HasOwn s slot = record { own = c.of-glances.ensures.glances; rising = c.of-glances.ensures.rising; shown = c.in_ok-push.ensures.1 } in
-    subst (All (HasOwn s)) (sym pushed)
+    let pushed = c.in_ok-push.ensures in
+    let slot : Slot = pushed.0 in
+    let same : slot.glances.now ≡ c.of-glances.result.now = ap (λ (b : Bor (List Glance)). b.now) pushed.2 in
+    let own : HasOwn s slot = record {
+      own = same ∙ c.of-glances.ensures.glances ∙ ap (glances_of s) (sym pushed.1);
+      rising = subst AreRising (sym same) c.of-glances.ensures.rising;
+    } in
+    subst (All (HasOwn s)) (sym pushed.3)
     (All-append (HasOwn s) old (slot ∷ []) c.loop-target.invariant (All-cons (HasOwn s) slot [] own (All-nil (HasOwn s))))

@@ -10,15 +10,10 @@ use Rattle.kq_history.proofs.SlotsOf.{own-slot}
 use Rattle.kq_history.proofs.looking.LookingViews.view.Goals.{in-Some, in-None}
 use Rattle.kq_history.proofs.looking.LookingViews.view.Goals as goal
 
-pub brief_at-brief-requires-clause-rising : goal.brief_at-brief-requires-clause-rising
-brief_at-brief-requires-clause-rising c =
+pub brief_at-brief-requires : goal.brief_at-brief-requires
+brief_at-brief-requires c =
     let has = c.in-Some.ensures in
     (own-slot c.self.inside.sights.now c.self.inside.slots.slots.items has.0 c.in-Some.slot.now c.self.invariant.own has.1).rising
-
-pub brief_at-brief-requires-clause-shown : goal.brief_at-brief-requires-clause-shown
-brief_at-brief-requires-clause-shown c =
-    let has = c.in-Some.ensures in
-    (own-slot c.self.inside.sights.now c.self.inside.slots.slots.items has.0 c.in-Some.slot.now c.self.invariant.own has.1).shown
 
 pub returns : goal.returns
 returns c =
