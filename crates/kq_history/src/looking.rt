@@ -7,7 +7,7 @@ use kq_model::{Memory, Named, Target, View, Views};
 use std::marker::Model;
 
 /// The world after the record of a place, as one kqueue sees it that goes from place to place: the glances of its
-/// targets are at hand, and a look begins where they stood at the last one. Contracts see the trace and the place.
+/// targets are at hand, and a look begins where the last one ended. Contracts see the trace and the place.
 #[derive(Drop)]
 pub struct Looking<'s, 'a> {
     split: &'s Split<'a>,

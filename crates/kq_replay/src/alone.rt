@@ -55,7 +55,7 @@ impl<'s, 'a> Model for Alone<'s, 'a> {
 
 impl<'s, 'a> Alone<'s, 'a> {
     /// A kqueue of this process, before the first record, which goes over these items later. Then a look at one of
-    /// these targets begins where the kqueue was last told of it. Memory: a growth was refused.
+    /// these targets begins where the last one ended. Memory: a growth was refused.
     pub fn new<L: ItemList>(
         split: &'s Split<'a>,
         owner: u32,
@@ -226,7 +226,7 @@ impl<'s, 'a> Alone<'s, 'a> {
 }
 
 /// The rows that a kqueue of this process gives alone, from these items. A look at one of these targets begins where
-/// the kqueue was last told of it. Memory: a growth was refused.
+/// the last one ended. Memory: a growth was refused.
 pub fn rows_alone<L: ItemList>(
     split: &Split,
     owner: u32,
