@@ -17,8 +17,9 @@ use Rattle.kq_model.proofs.KnoteLaws.{by_test, find_knote-head, find_knote-tail}
 use Rattle.kq_model.proofs.KnoteMiddle.{apart-middle, found-middle, with-middle, without-middle, HasKey, noticed-key}
 use Rattle.kq_knote.specs.Index.{behind, first_hinted, hinted_keys, is_hinted, IsHinted}
 use Rattle.kq_knote.proofs.IndexLaws.{with_key, keys-cons}
-use Rattle.kq_knote.proofs.WalkLaws.{first-cons, nothing_left}
+use Rattle.kq_knote.proofs.WalkLaws.{after, after-middle, first-cons, nothing_left, walk-none}
 use Rattle.kq_table.specs.Rows.{rows_behind}
+use Rattle.kq_kevent.proofs.RingWalk.{split_ahead}
 use Rattle.kq_kevent.proofs.TurnLaws.{kqueue_of}
 
 -- ---- knotes that no hint is for
@@ -120,7 +121,14 @@ module _ (views : Views) (posted : List Posted) where
     pub next_is : next ≡ first_hinted posted ahead
     pub few : length ahead ≤ left
 
-  -- these are all of them
+  -- this is the first of those ahead, whether hinted or not
+  pub record IsOver (wanted : Kqueue) (next : Option Knote) (left : ℕ) (kq : Kqueue) : Type 0 where
+    pub ahead : List Knote
+    pub before : IsBefore wanted ahead kq
+    pub next_is : next ≡ slice_get ahead 0
+    pub few : length ahead ≤ left
+
+  -- these are all hinted ones of those ahead
   pub record IsAmong (wanted : Kqueue) (keys : List Key) (kq : Kqueue) : Type 0 where
     pub ahead : List Knote
     pub before : IsBefore wanted ahead kq
@@ -132,6 +140,9 @@ module _ (views : Views) (posted : List Posted) where
 
   pub walk-start : (kq : Kqueue) (next : Option Key) (left : ℕ) → next ≡ first_hinted posted kq.knotes → length kq.knotes ≤ left → IsAt (notified views posted kq) next left kq
   walk-start kq next left is few = record { ahead = kq.knotes; before = start kq; next_is = is; few = few }
+
+  pub over-start : (kq : Kqueue) (next : Option Knote) (left : ℕ) → next ≡ slice_get kq.knotes 0 → length kq.knotes ≤ left → IsOver (notified views posted kq) next left kq
+  over-start kq next left is few = record { ahead = kq.knotes; before = start kq; next_is = is; few = few }
 
   pub keys-start : (kq : Kqueue) (keys : List Key) → keys ≡ hinted_keys posted kq.knotes → IsAmong (notified views posted kq) keys kq
   keys-start kq keys are = record { ahead = kq.knotes; before = start kq; keys_are = are }
@@ -146,6 +157,12 @@ module _ (views : Views) (posted : List Posted) where
 
   pub walk-ends : (wanted : Kqueue) (next : Option Key) (left : ℕ) (kq : Kqueue) → left ≤ 0 → IsAt wanted next left kq → kq ≡ wanted
   walk-ends wanted next left kq none at = finished wanted kq at.ahead at.before (nothing_left posted at.ahead (omega (arith, at.few, none)))
+
+  pub over-stops : (wanted : Kqueue) (left : ℕ) (kq : Kqueue) → IsOver wanted None left kq → kq ≡ wanted
+  over-stops wanted left kq over = finished wanted kq over.ahead over.before (walk-none posted over.ahead over.next_is)
+
+  pub over-ends : (wanted : Kqueue) (next : Option Knote) (left : ℕ) (kq : Kqueue) → left ≤ 0 → IsOver wanted next left kq → kq ≡ wanted
+  over-ends wanted next left kq none over = finished wanted kq over.ahead over.before (nothing_left posted over.ahead (omega (arith, over.few, none)))
 
   pub keys-end : (wanted kq : Kqueue) → IsAmong wanted [] kq → kq ≡ wanted
   keys-end wanted kq among = finished wanted kq among.ahead among.before (ap (λ keys. slice_get keys 0) among.keys_are)
@@ -239,6 +256,24 @@ module _ (views : Views) (posted : List Posted) where
         before = goes wanted key kq own at.ahead at.before at.next_is after became;
         next_is = is ∙ ap (first_hinted posted) (left_behind wanted key kq own at.ahead at.before at.next_is);
         few = omega (arith, one.shorter, at.few, less);
+      }
+
+  pub over-goes : (wanted : Kqueue) (k : Knote) (left : ℕ) (kq : Kqueue) → HaveOwnKeys kq.knotes → IsOver wanted (Some k) left kq → (next : Option Knote) (fewer : ℕ) (became : Kqueue) → left ≤ fewer + 1
+      → next ≡ after k.key kq.knotes → became ≡ noticed_at views posted (find_knote k.key kq.knotes) kq → IsOver wanted next fewer became
+  unfolding noticed_at
+  over-goes wanted k left kq own over next fewer became less goes is =
+      let split = split_ahead over.ahead k over.next_is in
+      let past = over.before.past in
+      let parts = over.before.knotes ∙ ap (λ more. past ++ more) split.is in
+      let apart = apart-middle past k split.rest (subst HaveOwnKeys parts own) in
+      let found = ap (find_knote k.key) parts ∙ found-middle past k split.rest apart.0 in
+      record {
+        ahead = split.rest;
+        before = subst (λ (q : Kqueue). IsBefore wanted split.rest q) (sym (is ∙ ap (λ o. noticed_at views posted o kq) found))
+            (after-knote wanted kq.knotes past k split.rest kq.queue parts apart.0 apart.1
+            (ap (λ ks. past ++ noticing ks) (sym split.is) ∙ over.before.all_knotes) (ap (λ ks. queue_after ks kq.queue) (sym split.is) ∙ over.before.all_queue));
+        next_is = goes ∙ ap (after k.key) parts ∙ after-middle past k split.rest apart.0;
+        few = omega (arith, over.few, less, ap (length {A = Knote}) split.is);
       }
 
   abbrev behind_first : List Key → List Key

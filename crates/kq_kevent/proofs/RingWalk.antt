@@ -22,11 +22,11 @@ none_left [] none = refl
 none_left (k ∷ ks) none = absurd (omega (arith, none))
 
 -- the knote that is next, and those behind it
-record IsSplit (ahead : List Knote) (k : Knote) : Type 0 where
-  rest : List Knote
-  is : ahead ≡ k ∷ rest
+pub record IsSplit (ahead : List Knote) (k : Knote) : Type 0 where
+  pub rest : List Knote
+  pub is : ahead ≡ k ∷ rest
 
-split_ahead : (ahead : List Knote) (k : Knote) → Some k ≡ slice_get ahead 0 → IsSplit ahead k
+pub split_ahead : (ahead : List Knote) (k : Knote) → Some k ≡ slice_get ahead 0 → IsSplit ahead k
 split_ahead [] k is = absurd (none-some k (sym is))
 split_ahead (x ∷ ks) k is = record { rest = ks; is = ap (λ y. y ∷ ks) (sym (same_Some k x is)) }
 

@@ -12,7 +12,7 @@ ghost use Rattle.kq_model.specs.Recast as recast;
 ghost use Rattle.kq_model.specs.Registration.{queue_for};
 ghost use Rattle.kq_model.specs.Views as world;
 ghost use Rattle.kq_model.specs.WatchedNumbers.{LeavesOpen, WatchTheirNumbers};
-ghost use Rattle.kq_knote.specs.Index.{hinted_keys};
+ghost use Rattle.kq_knote.specs.Index.{hinted_keys, IsOnly};
 ghost use Rattle.kq_kevent.specs.Owned.{limit, HasRoomToFollow};
 ghost use Rattle.kq_kevent.specs.Telling.{is_plain, told_one, told_all, with_put};
 ghost use Rattle.kq_kevent.specs.Telling.{AreLeft, HeardMore, Leaves, StandsFor};
@@ -21,7 +21,7 @@ use crate::Kq;
 use crate::look::look_in;
 use crate::register::place;
 use kq_filters::{Heard, hear, takes};
-use kq_knote::Knote;
+use kq_knote::{Knote, only_target};
 use kq_model::{Hint, Key, Target, Views};
 use kq_table::{Place, Placed};
 
@@ -166,30 +166,65 @@ impl Kq {
         ensures room { self.old.room ≤ self.new.room }
         ensures limit { limit self.new ≡ limit self.old }
     {
+        match only_target(hints) {
+            Some(target) => self.notice_watchers(target, hints, views),
+            None => self.notice_hinted(hints, views),
+        }
+    }
+
+    /// The knotes of the one hinted target hear the hints, by a walk from each to the next.
+    fn notice_watchers<V: Views>(&mut self, target: Target, hints: &[(Target, Hint)], views: &V)
+        requires { IsOnly target hints.now }
+        ensures kq { self.new.kq ≡ notified (V.sees views.now) hints.now self.old.kq }
+        ensures sound { IsSound self.old.kq }
+        ensures owner { self.new.owner ≡ self.old.owner }
+        ensures version { self.new.version ≡ self.old.version }
+        ensures room { self.old.room ≤ self.new.room }
+        ensures limit { limit self.new ≡ limit self.old }
+    {
+        let mut next = self.knotes.first_watcher(target);
+        for _step in 0..self.knotes.len() {
+            let Some(watcher) = next else {
+                return;
+            };
+            next = self.knotes.next_watcher(watcher.place, watcher.key);
+            self.notice(watcher.place, watcher.key, hints, views);
+        }
+    }
+
+    /// The knotes of any hinted targets hear the hints.
+    fn notice_hinted<V: Views>(&mut self, hints: &[(Target, Hint)], views: &V)
+        ensures kq { self.new.kq ≡ notified (V.sees views.now) hints.now self.old.kq }
+        ensures sound { IsSound self.old.kq }
+        ensures owner { self.new.owner ≡ self.old.owner }
+        ensures version { self.new.version ≡ self.old.version }
+        ensures room { self.old.room ≤ self.new.room }
+        ensures limit { limit self.new ≡ limit self.old }
+    {
         let Some(keys) = self.knotes.take_hinted(hints) else {
-            self.notice_along(hints, views);
+            self.notice_all(hints, views);
             return;
         };
         self.notice_each(keys.as_slice(), hints, views);
         self.knotes.give_back(keys);
     }
 
-    /// The hinted knotes hear the hints, by a walk from each to the next.
-    fn notice_along<V: Views>(&mut self, hints: &[(Target, Hint)], views: &V)
+    /// The same by a walk over all knotes. Those that no hint is for stay as they are.
+    fn notice_all<V: Views>(&mut self, hints: &[(Target, Hint)], views: &V)
         ensures kq { self.new.kq ≡ notified (V.sees views.now) hints.now self.old.kq }
         ensures owner { self.new.owner ≡ self.old.owner }
         ensures version { self.new.version ≡ self.old.version }
         ensures room { self.old.room ≤ self.new.room }
         ensures limit { limit self.new ≡ limit self.old }
     {
-        let mut next = self.knotes.first_watcher(hints);
+        let mut next = self.knotes.first();
         for _step in 0..self.knotes.len() {
-            let Some(watcher) = next else {
+            let Some(knote) = next else {
                 return;
             };
-            let knote = watcher.row;
-            next = self.knotes.next_watcher(hints, watcher.place, knote.key);
-            self.notice(watcher.place, knote.key, hints, views);
+            next = self.knotes.next_after(knote.key);
+            let guess = self.knotes.guess(knote.key);
+            self.notice(guess, knote.key, hints, views);
         }
     }
 

@@ -1,17 +1,14 @@
--- A walk over the knotes in order of registration, to the next one that hints are for.
-use Rattle.std.proofs.Common.{◌≡◌, ℕ, ◌+◌, ◌≤◌, true, false, cond, List, [], ◌∷◌, ◌++◌, map, filter, length, drop, take, Option, None, Some, slice_get, append_assoc, refl, sym, ap, ◌∙◌, subst, arith}
-use Rattle.std.proofs.lemmas.List.{drop-drop, take-append-drop, length-drop, length-append}
-use Rattle.std.proofs.lemmas.Option.{none-some, same_Some}
+-- What comes next behind a knote, and which of those ahead is the first that hints are for.
+use Rattle.std.proofs.Common.{◌≡◌, ◌≤◌, false, cond, List, [], ◌∷◌, ◌++◌, map, filter, length, Option, None, Some, slice_get, refl, ap, ◌∙◌, arith}
+use Rattle.std.proofs.lemmas.Option.{none-some}
 use Rattle.kq_model.specs.declared.key.Key.{Key}
 use Rattle.kq_model.specs.Knote.{key_eq, find_knote}
-use Rattle.kq_model.specs.Kqueue.{HaveOwnKeys}
 use Rattle.kq_model.specs.Tallied.{Knote}
 use Rattle.kq_model.specs.Targets.{Posted}
 use Rattle.kq_model.proofs.KeyLaws.{key_eq-refl}
 use Rattle.kq_model.proofs.KnoteLaws.{by_test, find_knote-head, find_knote-tail}
-use Rattle.kq_model.proofs.KnoteMiddle.{apart-middle}
-use Rattle.kq_knote.specs.Index.{behind, first_hinted, is_hinted}
-use Rattle.kq_table.specs.Rows.{row_after, rows_behind}
+use Rattle.kq_knote.specs.Index.{first_hinted, is_hinted}
+use Rattle.kq_table.specs.Rows.{row_after}
 
 abbrev key_of : Knote → Key
 key_of k = k.key
@@ -39,78 +36,12 @@ first-cons posted k ks =
     by_test (λ b. slice_get (map key_of (cond b (k ∷ filter (is_hinted posted) ks) (filter (is_hinted posted) ks))) 0 ≡ cond b (Some k.key) (first_hinted posted ks)) (is_hinted posted k)
     (λ _. refl) (λ _. refl)
 
--- ---- the walk from `ahead` on, after some steps
+-- ---- where none is ahead
 
 pub walk-none : (posted : List Posted) (ahead : List Knote) → None ≡ slice_get ahead 0 → None ≡ first_hinted posted ahead
 walk-none posted [] is = refl
 walk-none posted (k ∷ ks) is = absurd (none-some k is)
 
-pub walk-found : (posted : List Posted) (ahead : List Knote) (k : Knote) → Some k ≡ slice_get ahead 0 → is_hinted posted k ≡ true → Some k.key ≡ first_hinted posted ahead
-walk-found posted [] k is hinted = absurd (none-some k (sym is))
-walk-found posted (x ∷ ks) k is hinted =
-    let it : k ≡ x = same_Some k x is in
-    ap (λ (n : Knote). Some n.key) it
-    ∙ ap (λ b. cond b (Some x.key) (first_hinted posted ks)) (sym (ap (is_hinted posted) (sym it) ∙ hinted))
-    ∙ sym (first-cons posted x ks)
-
-step_at : (posted : List Posted) (knotes past ahead : List Knote) (k : Knote) → HaveOwnKeys knotes → knotes ≡ past ++ ahead → Some k ≡ slice_get ahead 0
-    → is_hinted posted k ≡ false → (first_hinted posted ahead ≡ first_hinted posted (drop 1 ahead)) × (after k.key knotes ≡ slice_get (drop 1 ahead) 0)
-step_at posted knotes past [] k own parts is apart = absurd (none-some k (sym is))
-step_at posted knotes past (x ∷ ks) k own parts is apart =
-    let it : k ≡ x = same_Some k x is in (
-      first-cons posted x ks ∙ ap (λ b. cond b (Some x.key) (first_hinted posted ks)) (ap (is_hinted posted) (sym it) ∙ apart),
-      ap (λ (n : Knote). after n.key knotes) it ∙ ap (after x.key) parts
-          ∙ after-middle past x ks (apart-middle past x ks (subst HaveOwnKeys parts own)).0,
-    )
-
-pub walk-step : (posted : List Posted) (knotes past ahead : List Knote) (steps : ℕ) (k : Knote) → HaveOwnKeys knotes → knotes ≡ past ++ ahead
-    → Some k ≡ slice_get (drop steps ahead) 0 → is_hinted posted k ≡ false
-    → (first_hinted posted (drop steps ahead) ≡ first_hinted posted (drop (steps + 1) ahead)) × (after k.key knotes ≡ slice_get (drop (steps + 1) ahead) 0)
-walk-step posted knotes past ahead steps k own parts is apart =
-    let split = parts ∙ ap (λ rest. past ++ rest) (sym (take-append-drop steps ahead)) ∙ sym (append_assoc past (take steps ahead) (drop steps ahead)) in
-    let next = step_at posted knotes (past ++ take steps ahead) (drop steps ahead) k own split is apart in
-    let more = drop-drop 1 steps ahead in
-    (next.0 ∙ ap (first_hinted posted) more, next.1 ∙ ap (λ rest. slice_get rest 0) more)
-
 pub nothing_left : (posted : List Posted) (ahead : List Knote) → length ahead ≤ 0 → None ≡ first_hinted posted ahead
 nothing_left posted [] none = refl
 nothing_left posted (k ∷ ks) none = absurd (omega (arith, none))
-
--- as many steps as there are knotes are all
-pub walk-end : (posted : List Posted) (knotes past ahead : List Knote) (steps : ℕ) → knotes ≡ past ++ ahead → length knotes ≤ steps → None ≡ first_hinted posted (drop steps ahead)
-walk-end posted knotes past ahead steps parts all =
-    nothing_left posted (drop steps ahead) (omega (arith, length-drop steps ahead, ap (length {A = Knote}) parts, length-append past ahead, all))
-
--- ---- behind a knote
-
-before : Key → List Knote → List Knote
-before key [] = []
-before key (k ∷ ks) = k ∷ cond (key_eq key k.key) [] (before key ks)
-
-behind-split : (key : Key) (ks : List Knote) → ks ≡ before key ks ++ behind key ks
-unfolding rows_behind before
-behind-split key [] = refl
-behind-split key (k ∷ ks) =
-    by_test (λ b. k ∷ ks ≡ (k ∷ cond b [] (before key ks)) ++ cond b ks (behind key ks)) (key_eq key k.key)
-    (λ _. refl) (λ _. ap (λ rest. k ∷ rest) (behind-split key ks))
-
-behind-first : (key : Key) (ks : List Knote) → after key ks ≡ slice_get (behind key ks) 0
-unfolding row_after rows_behind
-behind-first key [] = refl
-behind-first key (k ∷ ks) =
-    by_test (λ b. cond b (slice_get ks 0) (after key ks) ≡ slice_get (cond b ks (behind key ks)) 0) (key_eq key k.key)
-    (λ _. refl) (λ _. behind-first key ks)
-
--- so a walk may begin there
-pub walk-behind : (key : Key) (knotes : List Knote) (P : List Knote → Type 0)
-    → ((past ahead : List Knote) → knotes ≡ past ++ ahead → after key knotes ≡ slice_get ahead 0 → P ahead) → P (behind key knotes)
-walk-behind key knotes P walk = walk (before key knotes) (behind key knotes) (behind-split key knotes) (behind-first key knotes)
-
--- ---- where nobody is told anything
-
-nobody : (ks : List Knote) → filter (is_hinted []) ks ≡ []
-nobody [] = refl
-nobody (k ∷ ks) = nobody ks
-
-pub hinted-none : (ks : List Knote) → first_hinted [] ks ≡ None
-hinted-none ks = ap (λ (hinted : List Knote). slice_get (map (λ (k : Knote). k.key) hinted) 0) (nobody ks)

@@ -2,22 +2,19 @@ ghost use Rattle.std.specs.Prelude.{◌≡◌, IsTrue, MatchOption};
 ghost use Rattle.kq_knote.specs.Index.{AreHinted, hinted_keys};
 
 use crate::Knotes;
-use crate::hinted::{is_shared, only_target};
+use crate::hinted::is_shared;
 use kq_model::{Hint, Key, Target};
 use kq_table::Place;
 use std::mem::replace;
 
 impl Knotes {
     /// The keys of the knotes that watch a hinted target, in order of registration, in time as a sort
-    /// of them takes. None where there is no room for the keys, or a hint is for no shared target; and where
-    /// all hints are for one target, since `first_watcher` needs no room for that. It takes no memory.
+    /// of them takes. None where there is no room for the keys, or a hint is for no shared target. Where all hints are
+    /// for one target, `first_watcher` needs no room. It takes no memory.
     pub fn take_hinted(&mut self, posted: &[(Target, Hint)]) -> Option<Vec<Key>>
         ensures knotes { self.new ≡ self.old }
         ensures keys { MatchOption result (Unit {0}) (λ keys. keys.items ≡ hinted_keys posted.now self.old.knotes) }
     {
-        if only_target(posted).is_some() {
-            return None;
-        }
         let alloc = self.rows.allocator();
         let mut keys = replace(&mut self.keys, Vec::new(alloc));
         if self.gather(posted, &mut keys) && keys.len() <= self.places.capacity() {

@@ -13,6 +13,7 @@ mod queue;
 mod tally;
 mod timers;
 
+pub use hinted::only_target;
 pub use knote::Knote;
 pub use knotes::Knotes;
 pub use tally::Tally;

@@ -1,15 +1,14 @@
 -- Who watches a target, and who watches the same target next behind a key.
-use Rattle.std.proofs.Common.{◌≡◌, ℕ, ◌+◌, ◌≤◌, Bool, true, cond, eqb, List, [], ◌∷◌, ◌++◌, map, length, Option, Some, None, slice_get, is_some, refl, sym, ap, ◌∙◌, subst, arith}
+use Rattle.std.proofs.Common.{◌≡◌, ℕ, ◌+◌, ◌≤◌, Bool, true, cond, eqb, List, [], ◌∷◌, ◌++◌, map, length, Option, Some, None, slice_get, is_some, sym, ap, ◌∙◌, subst, arith}
 use Rattle.std.proofs.lemmas.Bool.{false≢true, or_right}
 use Rattle.std.proofs.lemmas.Option.{none-some, same_Some, slice_get-map}
 use Rattle.std.specs.HashMap.{HashMap, get as found}
-use Rattle.std.specs.Option.{IfSome, is_none, option_map, option_and_then}
+use Rattle.std.specs.Option.{is_none, option_map, option_and_then}
 use Rattle.slab.specs.Slab.{Slab}
 use Rattle.kq_table.specs.declared.node.Ends.{Ends}
 use Rattle.kq_table.specs.declared.node.Links.{Links}
 use Rattle.kq_table.specs.declared.node.Node.{Node}
 use Rattle.kq_table.specs.declared.node.Thread.TheVariants.{Watch}
-use Rattle.kq_table.specs.declared.placed.Placed.{Placed}
 use Rattle.kq_table.specs.Links.{is_target, keys_watching, first_watching, first_alike, next_watching}
 use Rattle.kq_table.specs.Rows.{Tabled, find_row, rows_behind}
 use Rattle.kq_table.specs.Threads.{is_in, AreDistinct, AreLinked, head_or, last_or, after_of, IsThread, rows_in, links_in, rows_at}
@@ -20,11 +19,6 @@ use Rattle.kq_table.proofs.KeptLaws.{IsSeen, first-at, filled, apart, there, mis
 use Rattle.kq_table.proofs.SeatLaws.{AreFilled, parted, find_row-parted, rows_behind-parted}
 use Rattle.kq_table.proofs.ThreadLaws.{at_split, last-named, in_right, AreLinked-between, IsThread-at}
 use Rattle.kq_table.proofs.WithoutLaws.{filter-append, in_filter-from}
-
--- the key of a row with its place is that of the row
-pub placed-key : {K T : Type 0} (key_of : T → K) (o : Option (Placed T)) → option_map (λ (p : Placed T). key_of p.row) o ≡ option_map key_of (option_map (λ (p : Placed T). p.row) o)
-placed-key key_of None = refl
-placed-key key_of (Some p) = refl
 
 -- what has none before it is the first
 led-at : (links : ℕ → Option Links) (ends : Ends) (slot : ℕ) (after : Option ℕ) (xs ys : List ℕ) → IsThread links ends (xs ++ slot ∷ ys)
@@ -42,11 +36,6 @@ module _ {K T G S R : Type 0} {same : K → K → Bool} {alike : G → G → Boo
   pub row-found : (o : Option ℕ) (row : T) → option_and_then (rows_in nodes) o ≡ Some row → find_row same key_of (key_of row) v.rows ≡ Some row
   row-found None row none = absurd (none-some row none)
   row-found (Some slot) row here = stands-row table (record { row = row; here = here; is = table.laws.refl (key_of row) })
-
-  pub placed-found : (o : Option (Placed T)) (at : Option ℕ) → option_map (λ (p : Placed T). p.row) o ≡ option_and_then (rows_in nodes) at
-      → IfSome o (λ p. find_row same key_of (key_of p.row) v.rows ≡ Some p.row)
-  placed-found None at is = tt
-  placed-found (Some p) at is = row-found at p.row (sym is)
 
   module _ (target : G) where
     abbrev slots : List ℕ

@@ -8,7 +8,7 @@ ghost use Rattle.kq_table.specs.declared.node.Thread.TheVariants.{Watch};
 use crate::Keyed;
 use crate::enter::ends_at;
 use crate::node::{Ends, Node};
-use crate::placed::{Place, Placed};
+use crate::placed::{Place, Placed, Watcher};
 use slab::Slab;
 use std::collections::HashMap;
 
@@ -152,6 +152,26 @@ pub(crate) fn key_at<T: Keyed>(nodes: &Slab<Node<T>>, slot: Option<usize>) -> Op
         return None;
     };
     Some(node.row.key())
+}
+
+/// The same with the place of the row.
+#[inline(always)]
+pub(crate) fn watcher_at<T: Keyed>(
+    nodes: &Slab<Node<T>>,
+    slot: Option<usize>,
+) -> Option<Watcher<T::Key>>
+    ensures { option_map (λ w. w.key) result ≡ option_map T.key_of (option_and_then (rows_in nodes.now) slot) }
+{
+    let Some(slot) = slot else {
+        return None;
+    };
+    let Some(node) = nodes.get(slot) else {
+        return None;
+    };
+    Some(Watcher {
+        key: node.row.key(),
+        place: Place { slot },
+    })
 }
 
 /// What the row at a slot watches.

@@ -20,5 +20,5 @@ mod watching;
 
 pub use keyed::{Keyed, number_of};
 pub use numbered::Birth;
-pub use placed::{Place, Placed};
+pub use placed::{Place, Placed, Watcher};
 pub use table::Table;

@@ -22,3 +22,10 @@ pub struct Placed<T> {
     pub row: T,
     pub place: Place,
 }
+
+/// The key of a row that watches a target, with the place where the row stands.
+#[derive(Debug, Drop, Clone, Copy)]
+pub struct Watcher<K> {
+    pub key: K,
+    pub place: Place,
+}

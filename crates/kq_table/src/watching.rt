@@ -1,14 +1,13 @@
-ghost use Rattle.std.specs.Prelude.{◌≡◌, ◌≤◌, ◌+◌, ◌++◌, ◌↔◌, Some, None, IfSome, IsTrue, length, slice_get};
+ghost use Rattle.std.specs.Prelude.{◌≡◌, ◌≤◌, ◌+◌, ◌++◌, ◌↔◌, IsTrue, length, slice_get};
 ghost use Rattle.std.specs.Option.{option_map};
 ghost use Rattle.std.specs.Vec.{vec_len, vec_capacity};
-ghost use Rattle.kq_table.specs.Rows.{find_row};
 ghost use Rattle.kq_table.specs.Links.{keys_watching, next_watching};
 
 use crate::Keyed;
-use crate::find::{first_near, near, placed_at, target_at};
+use crate::find::{first_near, near, target_at, watcher_at};
 use crate::node::Thread;
 use crate::nodes::slot_behind;
-use crate::placed::{Place, Placed};
+use crate::placed::{Place, Watcher};
 use crate::table::Table;
 
 impl<T: Keyed> Table<T> {
@@ -18,24 +17,21 @@ impl<T: Keyed> Table<T> {
     }
 
     /// The first row that watches a target, in the order of attachment.
-    pub fn first_watching(&self, target: T::Target) -> Option<Placed<T>>
-        ensures key { option_map (λ p. T.key_of p.row) result
+    pub fn first_watching(&self, target: T::Target) -> Option<Watcher<T::Key>>
+        ensures { option_map (λ w. w.key) result
             ≡ slice_get (keys_watching T.Target.eq T.key_of T.target_of target self.now.rows) 0 }
-        ensures row { IfSome result
-            (λ p. find_row T.Key.eq T.key_of (T.key_of p.row) self.now.rows ≡ Some p.row) }
     {
         let guess = self.guess_first(target);
         let first = first_near(&self.nodes, &self.targets, guess, target);
-        placed_at(&self.nodes, first)
+        watcher_at(&self.nodes, first)
     }
 
     /// The row that watches the same target next behind that of a key; None where that is the last, or
     /// watches nothing, or is not here. Where it stands at the guessed place, it is not looked up.
-    pub fn next_watching_at(&self, guess: Place, key: T::Key) -> Option<Placed<T>>
-        ensures key { option_map (λ p. T.key_of p.row) result
+    #[inline(always)]
+    pub fn next_watching_at(&self, guess: Place, key: T::Key) -> Option<Watcher<T::Key>>
+        ensures { option_map (λ w. w.key) result
             ≡ next_watching T.Target.eq T.key_of T.target_of T.Key.eq key self.now.rows }
-        ensures row { IfSome result
-            (λ p. find_row T.Key.eq T.key_of (T.key_of p.row) self.now.rows ≡ Some p.row) }
     {
         let Some(slot) = near(&self.nodes, &self.index, guess, key) else {
             return None;
@@ -43,7 +39,7 @@ impl<T: Keyed> Table<T> {
         let Some(_) = target_at(&self.nodes, slot) else {
             return None;
         };
-        placed_at(&self.nodes, slot_behind(&self.nodes, Thread::Watch, slot))
+        watcher_at(&self.nodes, slot_behind(&self.nodes, Thread::Watch, slot))
     }
 
     /// Adds behind `found` the keys that watch a target, in the order in which they were attached.

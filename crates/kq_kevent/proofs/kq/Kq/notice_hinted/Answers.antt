@@ -3,13 +3,13 @@ use Rattle.kq_model.specs.Hints.{notified}
 use Rattle.kq_model.specs.Kqueue.{IsSound}
 use Rattle.kq_kevent.specs.Owned.{OwnedKqueue, kqueue_in}
 use Rattle.kq_knote.specs.Reserved.{Reserved}
-use Rattle.kq_kevent.proofs.kq.Kq.hear.Goals as goal
+use Rattle.kq_kevent.proofs.kq.Kq.notice_hinted.Goals as goal
 
 pub returns-in_default-clause-kq : goal.returns-in_default-clause-kq
 returns-in_default-clause-kq g c =
     let views = g.V.Views.sees c.args.views.now in
     let hints = c.args.hints.now in
-    c.notice_along.ensures.kq
+    c.notice_all.ensures.kq
     ∙ ap (λ (ks : Reserved). notified views hints (kqueue_in ks)) c.take_hinted.ensures.knotes
     ∙ ap (λ (v : OwnedKqueue). notified views hints v.kq) c.self.view_is
 
