@@ -34,6 +34,7 @@ mod LeftViews
 mod RisingTables
 mod WithinRecords
 mod AnyWithin
+mod TouchedByAct
 mod TouchedKeys
 mod UntouchedRecords
 mod NamedTargets

@@ -1,4 +1,4 @@
-ghost use Rattle.std.specs.Prelude.{◌≡◌, List, Some, IfSome, IfOk};
+ghost use Rattle.std.specs.Prelude.{◌≡◌, List, None, Some, IfSome, IfOk};
 ghost use Rattle.kq_history.specs.Brief.{view_in, Grows, IsSettled};
 ghost use Rattle.kq_model.specs.declared.object.View.{View as declared_view};
 
@@ -96,19 +96,37 @@ impl Brief {
     }
 }
 
-/// What is seen, in little room. What does not fit is put behind a list of views.
-pub fn brief_of(wholes: &mut Vec<View>, view: Option<View>) -> Result<Brief, Memory>
-    ensures brief { IfOk result (λ brief. view_in wholes.new.items brief ≡ view) }
-    ensures settled { IfOk result (IsSettled wholes.new.items) }
+/// What is seen, in little room, unless it is known to be what was seen last. What does not fit is put behind a list of
+/// views.
+#[inline(always)]
+pub fn seen_anew(
+    wholes: &mut Vec<View>,
+    last: Brief,
+    view: Option<View>,
+) -> Result<Option<Brief>, Memory>
+    ensures same { IfOk result (λ brief. brief ≡ None → view_in wholes.old.items last ≡ view) }
+    ensures brief { IfOk result (λ brief. IfSome brief (λ b. view_in wholes.new.items b ≡ view)) }
+    ensures settled { IfOk result (λ brief. IfSome brief (IsSettled wholes.new.items)) }
     ensures grows { Grows wholes.old.items wholes.new.items }
 {
-    match view {
-        None => Ok(Brief::Nothing),
-        Some(view) => match fitting(view) {
-            Some(brief) => Ok(brief),
-            None => whole(wholes, view),
-        },
+    let Some(seen) = view else {
+        return Ok(unless_last(last, Brief::Nothing));
+    };
+    if let Some(brief) = fitting(seen) {
+        return Ok(unless_last(last, brief));
     }
+    if last.view(wholes.as_slice()) == view {
+        return Ok(None);
+    }
+    Ok(Some(whole(wholes, seen)?))
+}
+
+/// The brief, unless it is the last one.
+fn unless_last(last: Brief, brief: Brief) -> Option<Brief>
+    ensures same { result ≡ None → last ≡ brief }
+    ensures brief { IfSome result (λ b. b ≡ brief) }
+{
+    if last == brief { None } else { Some(brief) }
 }
 
 /// The view behind a list of views. Memory also if there are 2^32 of them.

@@ -3,7 +3,7 @@ ghost use Rattle.kq_history.specs.Glances.{entry, seen_of};
 ghost use Rattle.kq_history.specs.Keys.{target_key};
 ghost use Rattle.kq_history.specs.Sights.{view_at, AreUpTo};
 
-use crate::brief::{Brief, brief_of};
+use crate::brief::{Brief, seen_anew};
 use crate::filed::Filed;
 use crate::item::Source;
 use crate::lines::Lines;
@@ -70,10 +70,9 @@ impl Sighting {
     {
         let line = self.lines.of(Source::Of(target), Brief::Nothing)?;
         let last = self.lines.value_at(line).unwrap_or(Brief::Nothing);
-        if last.view(self.wholes.as_slice()) == view {
+        let Some(brief) = seen_anew(&mut self.wholes, last, view)? else {
             return Ok(());
-        }
-        let brief = brief_of(&mut self.wholes, view)?;
+        };
         let entry = entry_of(place, line, brief)?;
         self.log.push(entry)?;
         self.lines.set(line, brief);

@@ -1,9 +1,9 @@
 // What may be another one after a record. To name too much does no harm: what did not change is
 // noted as it was.
-ghost use Rattle.std.specs.Prelude.{◌≡◌, ◌++◌, ◌∷◌, [], OnOk};
+ghost use Rattle.std.specs.Prelude.{◌≡◌, ◌++◌, ◌∷◌, [], OnOk, true};
 ghost use Rattle.kq_model.specs.World.{views_of};
 ghost use Rattle.kq_history.specs.Spoken.{file_targets, option_list, process_targets};
-ghost use Rattle.kq_history.specs.Spoken.{spoken_process, spoken_targets};
+ghost use Rattle.kq_history.specs.Spoken.{spoken_process, spoken_targets, IsAct};
 ghost use Rattle.kq_history.specs.Slots.{left_in, AreSlotsOf, AreTouched, IsChanged};
 ghost use Rattle.kq_history.specs.Touched.{all_named, is_file, other_targets, targets_left, targets_named};
 ghost use Rattle.kq_history.specs.Touched.{tells_file, told_targets, touched_numbers, without_process, AreAmong};
@@ -62,14 +62,56 @@ impl Touched {
         ensures { OnOk result (AreTouched event.now effect.now.closed effect.now.hints self.old.before.items
             (world_of world.now) self.new) }
     {
+        let hints = effect.hints.as_slice();
+        if effect.closed.is_empty() && self.before.is_empty() && is_act(event) {
+            return self.fill_by_act(event, hints, world);
+        }
         let process = spoken_process(event);
         let before = self.before.as_slice();
-        let hints = effect.hints.as_slice();
         self.process = changed(process, before, world);
         put_numbers(&mut self.numbers, event, effect.closed.as_slice())?;
         put_targets(&mut self.targets, event, hints, world)?;
         add_all_left(&mut self.targets, tells_file(hints), before)
     }
+
+    /// The same of an act that closes nothing: whom it told, and what its number names.
+    fn fill_by_act(
+        &mut self,
+        event: &Event,
+        hints: &[(Target, Hint)],
+        world: &World,
+    ) -> Result<(), Memory>
+        requires act { IsAct event.now }
+        requires none { self.old.before.items ≡ [] }
+        ensures { OnOk result (AreTouched event.now [] hints.now [] (world_of world.now) self.new) }
+    {
+        self.process = None;
+        self.numbers.clear();
+        self.targets.clear();
+        push_told(&mut self.targets, hints)?;
+        add_by_number(&mut self.targets, first_number(event), world)
+    }
+}
+
+/// Whether a record is known to speak of one number at most and of nothing else, and to open none.
+#[tactic(auto, unfolding(crate::proofs::Unfolded::spoken))]
+fn is_act(event: &Event) -> bool
+    ensures { result ≡ true → IsAct event.now }
+{
+    matches!(
+        event,
+        Event::Kevent { .. }
+            | Event::Listen { .. }
+            | Event::Arrive { .. }
+            | Event::Connect { .. }
+            | Event::Rx { .. }
+            | Event::Tx { .. }
+            | Event::Shut { .. }
+            | Event::Lowat { .. }
+            | Event::Read { .. }
+            | Event::Write { .. }
+            | Event::Seek { .. }
+    )
 }
 
 /// The process, unless it has no numbers, before a record and after it.
