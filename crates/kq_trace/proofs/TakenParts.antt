@@ -3,7 +3,7 @@ use Rattle.std.proofs.Common.{Vec, Global, ◌≡◌, ℕ, ◌+◌, ◌<◌, ◌
 use Rattle.std.proofs.lemmas.List.{drop_all}
 use Rattle.std.specs.Prelude.{flat_map}
 use Rattle.kq_model.specs.declared.event.Event.{Event}
-use Rattle.kq_trace.specs.Sink.{HasTaken}
+use Rattle.kq_trace.specs.Sink.{TookSome}
 
 abbrev pub events_in : List (Vec Event Global) → List Event
 events_in pieces = flat_map (λ piece. piece.items) pieces
@@ -13,11 +13,11 @@ pub record IsTakenTo {A : Type 0} (took : A → List Event → Type 0) (before c
   pub done : List Event
   pub cut : all ≡ done ++ events_in ahead
   pub counted : count ≡ before + length done
-  pub there : HasTaken took count new
+  pub there : TookSome took count new
   pub more : (so_far : List Event) → length so_far ≡ before → took old so_far → took new (so_far ++ done)
 
 pub none_taken : {A : Type 0} (took : A → List Event → Type 0) (before : ℕ) (it : A) (all : List Event) (pieces : List (Vec Event Global))
-    → events_in pieces ≡ all → HasTaken took before it → IsTakenTo took before before it it all pieces
+    → events_in pieces ≡ all → TookSome took before it → IsTakenTo took before before it it all pieces
 none_taken took before it all pieces same there = record {
   done = [];
   cut = sym same;

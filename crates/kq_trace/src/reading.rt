@@ -1,6 +1,6 @@
 //! Reading a trace while its bytes come, and while a sink takes what was read.
 
-ghost use Rattle.std.specs.Prelude.{◌≡◌, ◌≤◌, ◌<◌, ◌+◌, ◌^◌, ◌++◌, IfErr, IfOk, List, OnOk, flat_map, length, []};
+ghost use Rattle.std.specs.Prelude.{◌≡◌, ◌≤◌, ◌<◌, ◌+◌, ◌^◌, ◌++◌, ℕ, IfErr, IfOk, List, OnOk, flat_map, length};
 ghost use Rattle.std.specs.Io.KnownBytes.{IsAtEnd};
 ghost use Rattle.std.specs.Thread.{IsSync};
 ghost use Rattle.kq_model.specs.declared.event.Event.{Event};
@@ -39,9 +39,9 @@ pub fn read_trace_into<R: AllocGlobal + Threads + Sync, S: Source + Send, K: Sin
     threads: u32,
     sink: &mut K,
 ) -> Result<u32, InputError>
-    requires { K.took sink.old [] }
+    requires { K.fresh sink.old }
     ensures good { IfOk result (λ version. (events : List Event)
-        × IsTraceOf (S.ahead source.old) version events × K.took sink.new events) }
+        × IsTraceOf (S.ahead source.old) version events × K.took version sink.new events) }
     ensures end { OnOk result (IsAtEnd (S.ahead source.new).known) }
     ensures bad { IfErr result (IsInputFault S.may_fail (S.ahead source.old)) }
 {
@@ -106,16 +106,17 @@ fn read_blocks<R: AllocGlobal + Threads + Sync, S: Source + Send, K: Sink>(
     sink: &mut K,
 ) -> Result<u32, InputError>
     requires nothing { HasNothing text.old.coming }
-    requires took { K.took sink.old [] }
+    requires fresh { K.fresh sink.old }
     ensures good { IfOk result (λ version. (events : List Event)
         × IsReadWhole (S.ahead source.old) (S.ahead source.new) text.new.coming version events
-        × K.took sink.new events) }
+        × K.took version sink.new events) }
     ensures bad { IfErr result
         (IsFaultSoFar S.may_fail (S.ahead source.old) (S.ahead source.new) text.new.coming) }
 {
     let alloc = rt.alloc();
     text.coming.next(source, &mut text.next)?;
     let (version, first) = opened(alloc, &text.next)?;
+    sink.begin(version)?;
     let part = part_of(rt, FIRST_RECORD_LINE, first, threads)?;
     text.coming.next(source, &mut text.block)?;
     let mut decoded = Decoded { before: 0, part };
@@ -156,8 +157,8 @@ fn round<R: AllocGlobal + Threads + Sync, S: Source + Send, K: Sink>(
         (AreRecordsFrom (2 + decoded.old.before + length decoded.old.part) (lines_behind text.old.block.items)) }
     ensures bad { IfErr result.1
         (IsFaultFrom (2 + decoded.old.before + length decoded.old.part) (lines_behind text.old.block.items)) }
-    ensures taken { OnOk result.2 ((so_far : List Event) → length so_far ≡ decoded.old.before → K.took sink.old so_far
-        → K.took sink.new (so_far ++ decoded.old.part)) }
+    ensures taken { OnOk result.2 ((version : ℕ) (so_far : List Event) → length so_far ≡ decoded.old.before
+        → K.took version sink.old so_far → K.took version sink.new (so_far ++ decoded.old.part)) }
 {
     let Decoded { before, part } = decoded;
     let before = *before;
@@ -185,8 +186,9 @@ fn round<R: AllocGlobal + Threads + Sync, S: Source + Send, K: Sink>(
     let mut take = ||
         requires { HasTaken K.took before sink.now
             × (before + length (flat_map (λ piece. piece.items) pieces.items) < 2 ^ 31) }
-        ensures { OnOk result ((so_far : List Event) → length so_far ≡ before → K.took sink.entry.now so_far
-            → K.took sink.exit.now (so_far ++ flat_map (λ piece. piece.items) pieces.entry.items)) }
+        ensures { OnOk result ((version : ℕ) (so_far : List Event) → length so_far ≡ before
+            → K.took version sink.entry.now so_far
+            → K.took version sink.exit.now (so_far ++ flat_map (λ piece. piece.items) pieces.entry.items)) }
     { sink.accept(before, replace(&mut pieces, Vec::new(alloc))) };
     if threads < 2 {
         return (read(), decode(), take());

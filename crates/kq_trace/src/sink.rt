@@ -1,7 +1,8 @@
 //! Where the records of a text go.
 
-ghost use Rattle.std.specs.Prelude.{◌≡◌, ◌<◌, ◌+◌, ◌^◌, ◌++◌, List, OnOk, flat_map, length, []};
+ghost use Rattle.std.specs.Prelude.{◌≡◌, ◌<◌, ◌+◌, ◌^◌, ◌++◌, ℕ, List, OnOk, flat_map, length, []};
 ghost use Rattle.kq_model.specs.declared.event.Event.{Event};
+ghost use Rattle.kq_model.specs.Limits.{IsVersion};
 ghost use Rattle.kq_trace.specs.Sink.{HasTaken};
 
 use kq_model::{Event, Memory};
@@ -9,15 +10,25 @@ use std::alloc::Global;
 
 /// Takes the records of a trace, a part after the other.
 pub trait Sink {
-    // These are the events that it took.
-    ghost took: { Self → List Event → Type 0 };
+    // It was begun with no version yet.
+    ghost fresh: { Self → Type 0 };
+
+    // Of a trace of this version these are the events that it took.
+    ghost took: { ℕ → Self → List Event → Type 0 };
+
+    /// Begins with the version of the trace, before its first record. After Memory nothing is known.
+    fn begin(&mut self, version: u32) -> Result<(), Memory>
+        requires version { IsVersion version }
+        requires fresh { fresh self.old }
+        ensures { OnOk result (took version self.new []) };
 
     /// Takes the events of the records that follow so many, in pieces. After Memory nothing is known.
     fn accept(&mut self, before: u64, pieces: Vec<Vec<Event>>) -> Result<(), Memory>
         requires before { HasTaken took before self.old }
         requires few { before + length (flat_map (λ piece. piece.items) pieces.items) < 2 ^ 31 }
-        ensures { OnOk result ((so_far : List Event) → length so_far ≡ before → took self.old so_far
-            → took self.new (so_far ++ flat_map (λ piece. piece.items) pieces.items)) };
+        ensures { OnOk result ((version : ℕ) (so_far : List Event) → length so_far ≡ before
+            → took version self.old so_far
+            → took version self.new (so_far ++ flat_map (λ piece. piece.items) pieces.items)) };
 }
 
 /// Keeps the records.
@@ -47,9 +58,15 @@ impl Kept {
 }
 
 impl Sink for Kept {
-    ghost use Rattle.kq_trace.specs.Sink.{Keeps};
+    ghost use Rattle.kq_trace.specs.Sink.{Keeps, kept_events};
+
+    ghost fresh = { λ k. kept_events k ≡ [] };
 
     ghost took = { Keeps };
+
+    fn begin(&mut self, _version: u32) -> Result<(), Memory> {
+        Ok(())
+    }
 
     fn accept(&mut self, _before: u64, pieces: Vec<Vec<Event>>) -> Result<(), Memory> {
         for mut piece in pieces {

@@ -74,7 +74,7 @@ rounds-init g c =
         so_far = next_read mid after now new ahead then before [] version 2 rest first part are;
         counted = refl;
         in_limit = omega (arith, are.limit);
-        has = c.requires.took;
+        has = c.in_ok-begin.ensures;
         ends = search rules;
       };
       some = then.some;
@@ -136,7 +136,7 @@ rounds-preserved g c =
     let so_far = c.rounds.invariant.under_way in
     let then : IsNextBlock mid after now new ahead = search rules in
     let are : AreRecordsFrom number (lines_behind block) next = search rules in
-    let took : (events : List Event) → length events ≡ told → g.K.Sink.took c.rounds.sink events → g.K.Sink.took c.round-read.new.sink (events ++ part) =
+    let took : (v : ℕ) (events : List Event) → length events ≡ told → g.K.Sink.took v c.rounds.sink events → g.K.Sink.took v c.round-read.new.sink (events ++ part) =
     search rules in
     let swapped : c.swap.new.x.items ≡ ahead = ap (λ v. v.items) c.swap.ensures.x_after in
     let both = next_read mid after now new ahead then before (so_far.events ++ part) version number block so_far.so_far next are in
@@ -149,7 +149,7 @@ rounds-preserved g c =
             (subst (λ b. AreRead before after new ((so_far.events ++ part) ++ next) version (number + length next) b) (sym swapped) both);
         counted = omega (arith, so_far.counted, all, length-append so_far.events part);
         in_limit = omega (arith, are.limit, all);
-        has = took so_far.events so_far.counted so_far.has;
+        has = took version so_far.events so_far.counted so_far.has;
         ends = search rules;
       };
       some = λ is. omega (arith, then.some is, ap length swapped);

@@ -5,7 +5,7 @@ use Rattle.kq_trace.proofs.reading.read_blocks.Given as goal
 
 abbrev pub invariant-rounds : goal.invariant-rounds
 invariant-rounds g l = record {
-  under_way : IsUnderWay (g.S.Source.ahead l.fn.source) (g.S.Source.ahead l.source) l.text.coming (g.K.Sink.took l.sink) l.decoded.before
+  under_way : IsUnderWay (g.S.Source.ahead l.fn.source) (g.S.Source.ahead l.source) l.text.coming (g.K.Sink.took l.version l.sink) l.decoded.before
       l.decoded.part l.version l.text.block.items;
   some : l.text.coming.ended ≡ false → 0 < length l.text.block.items;
 }
