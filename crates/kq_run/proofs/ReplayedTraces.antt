@@ -1,5 +1,5 @@
 -- The report of a trace whose kqueues were replayed alone, and its faults.
-use Rattle.std.proofs.Common.{◌≡◌, ◌∙◌, ℕ, ◌≤◌, ◌<◌, ◌⊎◌, List, length, Option, Some, Result, Ok, Err, IfErr, IfOk, MatchResult, ap, sym, subst, arith, ⊎_elim}
+use Rattle.std.proofs.Common.{◌≡◌, ◌∙◌, ℕ, ◌≤◌, ◌<◌, ◌⊎◌, List, length, Option, Some, Result, Ok, Err, IfOk, MatchResult, ap, subst, arith, ⊎_elim}
 use Rattle.std.proofs.lemmas.List.{length-map}
 use Rattle.std.specs.List.Sorted.{IsPermutation}
 use Rattle.std.proofs.lemmas.List.Sorted.{IsPermutation-refl, IsPermutation-sym, IsPermutation-trans}
@@ -25,7 +25,7 @@ use Rattle.kq_trace.specs.Source.{Ahead, Had as HadAhead}
 use Rattle.kq_trace.specs.declared.input_error.InputError.{InputError}
 use Rattle.kq_trace.specs.declared.input_error.InputError.TheVariants as input
 use Rattle.kq_run.specs.Fault.{input_fault_of}
-use Rattle.kq_run.specs.Replay.{AreRowsOf, IsFault, IsInputFault, IsReplayFault, IsReport, IsSourceFault}
+use Rattle.kq_run.specs.Replay.{AreRowsOf, IsFault, IsInputFault, IsReplayFault, IsSourceFault}
 use Rattle.kq_run.specs.Workers.{IsWorkerCount}
 use Rattle.kq_run.specs.declared.fault.Fault.{Fault}
 use Rattle.kq_run.specs.declared.fault.Fault.TheVariants.{Usage, Read, Trace, Memory, Spawn, Write}

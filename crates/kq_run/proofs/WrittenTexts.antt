@@ -1,5 +1,5 @@
 -- A text that was written, or a part of it, by what it is.
-use Rattle.std.proofs.Common.{◌≡◌, ◌⊎◌, ◌++◌, ℕ, List, Option, inl, inr, refl}
+use Rattle.std.proofs.Common.{◌≡◌, ◌++◌, ℕ, List, Option, inl, inr, refl}
 use Rattle.kq_model.specs.declared.row.Row.{Row}
 use Rattle.kq_merge.specs.Merged.{IsReportByPlace}
 use Rattle.kq_merge.specs.Unwritten.{LeavesPart}

@@ -1,4 +1,5 @@
 pub mod Fault
+pub mod Folding
 pub mod Living
 pub mod Replay
 pub mod Splitter

@@ -63,6 +63,10 @@ IsReplayFault version events workers Write = ⊥
 abbrev pub AreRowsOf : ℕ → List Event → List Row → Type 0
 AreRowsOf version events found = IsPermutation found (rows version events) × Rise (rows version events)
 
+-- the text is the report of the trace that a source had
+abbrev pub IsReportFrom : Ahead → List ℕ → Type 0
+IsReportFrom ahead text = (bytes : List ℕ) × HadAhead ahead bytes × IsReport bytes text
+
 -- these bytes were read and replayed
 abbrev pub IsReplayed : List ℕ → Replayed → Type 0
 IsReplayed bytes r =

@@ -11,5 +11,5 @@ abbrev pub IsSplit : Splitting → List Event → Type 0
 IsSplit s events = (version : ℕ) → IsSplitSoFar (record { version = version; events = events }) s
 
 -- they are kept, too
-abbrev pub HasSplit : Splitter → List Event → Type 0
-HasSplit s events = IsSplit s.splitting events × Keeps s.kept events
+abbrev pub HasSplit : ℕ → Splitter → List Event → Type 0
+HasSplit version s events = IsSplit s.splitting events × Keeps version s.kept events

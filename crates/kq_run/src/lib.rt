@@ -2,6 +2,7 @@
 #![tactic(auto)]
 
 mod fault;
+mod folding;
 mod input;
 mod living;
 mod output;

@@ -4,6 +4,8 @@ ghost use Rattle.kq_run.specs.Workers.{IsWorkerCount};
 ghost use Rattle.kq_run.specs.Written.{Leaves, Writes};
 
 use crate::fault::Fault;
+use crate::folding::fold_from;
+use crate::output::write_out;
 use crate::replayed::Replayed;
 use crate::workers::is_worker_count;
 use kq_gate::{Always, Gate, Open, Starts};
@@ -28,6 +30,9 @@ pub fn replay<R: AllocGlobal + Threads + Wait + Sync>(
     ensures report { IfOk result (λ text. IsReport bytes.now text.items) }
     ensures fault { IfErr result (IsFault bytes.now workers) }
 {
+    if workers == 1 {
+        return fold_from(rt, &mut Lent::new(bytes));
+    }
     replay_with(rt, bytes, workers, &Open, &Always)
 }
 
@@ -80,6 +85,10 @@ pub fn replay_input<R: AllocGlobal + Threads + Wait + Sync, I: Read + Send, O: W
         (O.contents out.old) (O.contents out.new)) }
 {
     let mut source = Input::new(input, limit);
+    if workers == 1 {
+        let text = fold_from(rt, &mut source)?;
+        return write_out(text.as_slice(), out);
+    }
     let replayed = Replayed::of(rt, &mut source, workers, &Open, &Always)?;
     let written = replayed.write(rt, workers, out);
     forget(replayed);

@@ -1,8 +1,8 @@
 //! Splitting a trace while it is read.
 
-ghost use Rattle.std.specs.Prelude.{◌≡◌, ◌<◌, ◌+◌, ◌^◌, ◌++◌, IfOk, List, OnOk, flat_map, length, []};
+ghost use Rattle.std.specs.Prelude.{◌≡◌, ◌<◌, ◌+◌, ◌^◌, ◌++◌, IfOk, List, OnOk, flat_map, length, [], ℕ};
 ghost use Rattle.kq_model.specs.declared.event.Event.{Event};
-ghost use Rattle.kq_trace.specs.Sink.{HasTaken};
+ghost use Rattle.kq_trace.specs.Sink.{TookSome};
 ghost use Rattle.kq_run.specs.Splitter.{HasSplit, IsSplit};
 
 use kq_history::Splitting;
@@ -20,7 +20,7 @@ pub struct Splitter {
 impl Splitter {
     /// No record was taken.
     pub fn new(alloc: Global) -> Result<Self, Memory>
-        ensures { IfOk result (λ s. HasSplit s []) }
+        ensures { IfOk result (λ s. (version : ℕ) → HasSplit version s []) }
     {
         Ok(Splitter {
             splitting: Splitting::new(alloc)?,
@@ -30,9 +30,16 @@ impl Splitter {
 }
 
 impl Sink for Splitter {
+    ghost use Rattle.std.specs.Prelude.{[], ℕ};
     ghost use Rattle.kq_run.specs.Splitter.{HasSplit};
 
+    ghost fresh = { λ s. (version : ℕ) → HasSplit version s [] };
+
     ghost took = { HasSplit };
+
+    fn begin(&mut self, _version: u32) -> Result<(), Memory> {
+        Ok(())
+    }
 
     fn accept(&mut self, before: u64, pieces: Vec<Vec<Event>>) -> Result<(), Memory> {
         split_on(&mut self.splitting, before, pieces.as_slice())?;
@@ -42,7 +49,7 @@ impl Sink for Splitter {
 
 /// Splits the records that follow so many.
 fn split_on(splitting: &mut Splitting, before: u64, pieces: &[Vec<Event>]) -> Result<(), Memory>
-    requires before { HasTaken IsSplit before splitting.old }
+    requires before { TookSome IsSplit before splitting.old }
     requires few { before + length (flat_map (λ piece. piece.items) pieces.now) < 2 ^ 31 }
     ensures { OnOk result ((so_far : List Event) → length so_far ≡ before → IsSplit splitting.old so_far
         → IsSplit splitting.new (so_far ++ flat_map (λ piece. piece.items) pieces.now)) }

@@ -1,5 +1,5 @@
 -- The report of a book's rows by place is that of its trace.
-use Rattle.std.proofs.Common.{◌≡◌, ℕ, List, length, rules, subst}
+use Rattle.std.proofs.Common.{◌≡◌, length, rules, subst}
 use Rattle.kq_model.specs.System.{rows}
 use Rattle.kq_model.proofs.Results.{error_passed}
 use Rattle.kq_merge.specs.Merged.{IsReportByPlace}

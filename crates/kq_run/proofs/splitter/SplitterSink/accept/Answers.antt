@@ -11,4 +11,4 @@ returns c =
     let split : (so_far : List Event) → length so_far ≡ c.args.before → IsSplit c.args.self.now.splitting so_far
     → IsSplit c.split_on.new.splitting (so_far ++ events_in c.args.pieces.items) =
     rw (← c.as_slice.ensures.value) c.in_ok-split_on.ensures in
-    on_ok_weaker c.accept.result (λ kept so_far count has. (split so_far count has.0, kept so_far count has.1)) c.accept.ensures
+    on_ok_weaker c.accept.result (λ kept version so_far count has. (split so_far count has.0, kept version so_far count has.1)) c.accept.ensures
