@@ -12,7 +12,7 @@ use std::alloc::Global;
 /// All rows of these kqueues and the plain rows, each once, by place. The rows of each kqueue, and
 /// the plain ones, stand by place already. Rows of kqueues move; the plain ones are copied.
 ///
-/// They are sorted. A report needs no rows in order: [`crate::report_by_place`] moves and sorts none.
+/// They are sorted. A report needs no rows in order: [`crate::write_by_place`] moves and sorts none.
 pub fn merge(alloc: Global, kqueues: Vec<Rows>, plain: &[Row]) -> Result<Vec<Row>, Memory>
     requires kqueues { All (λ kqueue. NeverFall kqueue.rows) kqueues.items }
     requires plain { NeverFall plain.now }
