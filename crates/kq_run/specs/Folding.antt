@@ -22,7 +22,8 @@ pub record IsFolded (version : ℕ) (f : Fold) (events : List Event) : Type 0 wh
 -- over these events more, whatever the trace was before
 pub record GoesOn (old new : Fold) (events : List Event) : Type 0 where
   pub applied : new.system.applied ≡ old.system.applied + length events
-  pub folded : (version : ℕ) (before : List Event) → IsFolded version old before → IsFolded version new (before ++ events)
+  pub folded : (version : ℕ) (before : List Event) → IsFolded version old before
+      → IsFolded version new (before ++ events)
 
 abbrev pub HasFolded : ℕ → Folder → List Event → Type 0
 HasFolded version f events = (fold : Fold) × (f.fold ≡ Some fold) × IsFolded version fold events
