@@ -7,17 +7,19 @@ use Rattle.kq_model.specs.declared.filter.Filter.TheVariants.{Read, Write, Vnode
 use Rattle.kq_model.specs.declared.object.Hint.{Hint}
 use Rattle.kq_model.specs.declared.object.Hint.TheVariants.{Readable, Writable, Note, Delivered, Child}
 use Rattle.kq_model.specs.Hearing.{Told, Tally, tallying, notes_of}
-use Rattle.kq_model.specs.Hints.{takes, kept, is_exit, added, after_hint, is_done, hints_for}
+use Rattle.kq_model.specs.Hints.{takes, kept, is_exit, added, after_hint, is_done, hints_for, notified}
 use Rattle.kq_model.specs.Knote.{has_nothing, find_knote}
 use Rattle.kq_model.specs.Kqueue.{IsSound}
 use Rattle.kq_model.specs.Look.{look}
-use Rattle.kq_model.specs.Noticing.{is_for, left_by, with_noticed, noticed_in}
+use Rattle.kq_model.specs.Noticing.{is_for, left_by, with_noticed, noticed_in, noticed_at}
 use Rattle.kq_model.specs.Tallied.{Knote, Kqueue}
 use Rattle.kq_model.specs.Targets.{Posted}
 use Rattle.kq_model.specs.Views.{Views}
 use Rattle.kq_model.proofs.KnoteLaws.{by_test, with_knote-own}
+use Rattle.kq_knote.specs.Index.{hinted_keys}
 use Rattle.kq_kevent.specs.declared.notify.Telling.{Telling}
 use Rattle.kq_kevent.specs.Telling.{is_plain, told_one, told_all, AreLeft}
+use Rattle.kq_kevent.proofs.NotifyLaws.{keys-start, keys-go, keys-end}
 use Rattle.kq_kevent.proofs.SoundLaws.{kept-queue}
 use Rattle.kq_kevent.proofs.TellLaws.{activated-already, telling, told-noticed, untold-noticed}
 use Rattle.kq_kevent.proofs.TurnLaws.{kqueue_of}
@@ -107,3 +109,13 @@ settled views posted kq k sound there active left =
     by_test (λ b. t.any ≡ b → noticed_in views (hints_for k posted) k kq ≡ kq) t.any
     (λ _ any. sym (told-noticed views posted kq k t refl any) ∙ stays)
     (λ _ none. sym (untold-noticed views posted kq k t refl none)) refl
+
+-- where it is the one knote that hints are for, so does the kqueue as a whole
+pub settled-lone : (views : Views) (posted : List Posted) (kq : Kqueue) (k : Knote) → IsSound kq → find_knote k.key kq.knotes ≡ Some k
+    → hinted_keys posted kq.knotes ≡ k.key ∷ [] → k.active ≡ true → AreLeft k posted → notified views posted kq ≡ kq
+unfolding noticed_at
+settled-lone views posted kq k sound there lone active left =
+    let wanted = notified views posted kq in
+    let stays = ap (λ o. noticed_at views posted o kq) there ∙ settled views posted kq k sound there active left in
+    sym (keys-end views posted wanted kq
+    (keys-go views posted wanted k.key [] kq sound.own_keys (keys-start views posted kq (k.key ∷ []) (sym lone)) kq (sym stays)))

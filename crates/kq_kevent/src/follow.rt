@@ -90,6 +90,7 @@ fn heir(parent: u32, child: u32, of: Option<Knote>, known: Option<Knote>) -> Opt
 
 impl Kq {
     /// Each child that a knote follows gets a knote, in the order of the hints. Version 1 follows nobody.
+    #[inline(always)]
     pub(crate) fn follow(&mut self, hints: &[(Target, Hint)])
         requires { length (followed self.old.version hints.now self.old.kq).knotes ≤ limit self.old }
         ensures kq { self.new.kq ≡ followed self.old.version hints.now self.old.kq }
@@ -119,6 +120,7 @@ impl Kq {
     }
 
     /// The child of a process gets a knote, if it is followed.
+    #[inline(never)]
     fn follow_child(&mut self, parent: u32, child: u32)
         requires { length (with_heir (heir_in (record { parent = parent; child = child }) self.old.kq)
             self.old.kq).knotes ≤ limit self.old }

@@ -166,13 +166,32 @@ impl Kq {
         ensures room { self.old.room ≤ self.new.room }
         ensures limit { limit self.new ≡ limit self.old }
     {
-        match only_target(hints) {
-            Some(target) => self.notice_watchers(target, hints, views),
-            None => self.notice_hinted(hints, views),
+        let Some(target) = only_target(hints) else {
+            self.notice_hinted(hints, views);
+            return;
+        };
+        if self.is_unmoved(target, hints) {
+            return;
         }
+        self.notice_watchers(target, hints, views);
+    }
+
+    /// Whether one knote alone watches the one hinted target, is active, and is known to be left as it is. Then no more
+    /// of the kqueue is looked at.
+    #[inline(always)]
+    fn is_unmoved(&self, target: Target, hints: &[(Target, Hint)]) -> bool
+        requires { IsOnly target hints.now }
+        ensures unmoved { result ≡ true → (seen : world.Views) → notified seen hints.now self.now.kq ≡ self.now.kq }
+        ensures sound { IsSound self.now.kq }
+    {
+        let Some(knote) = self.knotes.lone_watcher(target) else {
+            return false;
+        };
+        is_content(knote, hints)
     }
 
     /// The knotes of the one hinted target hear the hints, by a walk from each to the next.
+    #[inline(never)]
     fn notice_watchers<V: Views>(&mut self, target: Target, hints: &[(Target, Hint)], views: &V)
         requires { IsOnly target hints.now }
         ensures kq { self.new.kq ≡ notified (V.sees views.now) hints.now self.old.kq }
@@ -193,6 +212,7 @@ impl Kq {
     }
 
     /// The knotes of any hinted targets hear the hints.
+    #[inline(never)]
     fn notice_hinted<V: Views>(&mut self, hints: &[(Target, Hint)], views: &V)
         ensures kq { self.new.kq ≡ notified (V.sees views.now) hints.now self.old.kq }
         ensures sound { IsSound self.old.kq }

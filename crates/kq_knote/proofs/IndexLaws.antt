@@ -9,7 +9,7 @@ use Rattle.kq_model.specs.Targets.{Posted, is_target}
 use Rattle.kq_model.proofs.KnoteLaws.{by_test, find_knote-head, find_knote-tail}
 use Rattle.kq_model.proofs.NumberLaws.{filter_same}
 use Rattle.kq_model.proofs.SameTarget.{same_target}
-use Rattle.kq_knote.specs.Index.{is_shared, is_hinted, first_hinted, behind, shared_of, IsHinted, IsOnly, keys_watching}
+use Rattle.kq_knote.specs.Index.{is_shared, is_hinted, first_hinted, hinted_keys, behind, shared_of, IsHinted, IsOnly, keys_watching}
 use Rattle.kq_knote.proofs.RowLaws.{key_of, same, find_row-knotes, rows_behind-knotes}
 use Rattle.kq_knote.proofs.TargetLaws.{alike, alike-shared}
 use Rattle.kq_table.specs.Links as links
@@ -40,12 +40,15 @@ watching-knotes target shared ks = λ i. map key_of (filter (λ (k : Knote). ali
 -- ---- where all hints are for one target
 
 module _ (posted : List Posted) (target : Target) (only : IsOnly target posted) where
-  -- the first that the table finds
+  -- all that the table finds
+  pub keys-only : (ks : List Knote) → rows_watching target ks ≡ hinted_keys posted ks
+  keys-only ks =
+      watching-knotes target only.0 ks
+      ∙ ap (map key_of) (filter_same (λ (k : Knote). is_target k.target target) (is_hinted posted) (λ k. sym (only.1 k)) ks)
+
+  -- the first of them
   pub first-only : (ks : List Knote) → slice_get (rows_watching target ks) 0 ≡ first_hinted posted ks
-  first-only ks =
-      ap (λ (keys : List Key). slice_get keys 0)
-      (watching-knotes target only.0 ks
-      ∙ ap (map key_of) (filter_same (λ (k : Knote). is_target k.target target) (is_hinted posted) (λ k. sym (only.1 k)) ks))
+  first-only ks = ap (λ (keys : List Key). slice_get keys 0) (keys-only ks)
 
   only-target : (k : Knote) → is_hinted posted k ≡ true → k.target ≡ Some target
   unfolding is_target

@@ -1,10 +1,12 @@
-ghost use Rattle.std.specs.Prelude.{◌≡◌, List, MatchOption};
-ghost use Rattle.std.specs.Option.{option_map};
+ghost use Rattle.std.specs.Prelude.{◌≡◌, ◌∷◌, [], List, MatchOption, Some};
+ghost use Rattle.std.specs.Option.{option_copied, option_map};
 ghost use Rattle.kq_model.specs.declared.object.Target.{Target as Targets};
+ghost use Rattle.kq_model.specs.Knote.{find_knote};
+ghost use Rattle.kq_model.specs.Tallied as tallied;
 ghost use Rattle.kq_model.specs.Targets.{Posted};
-ghost use Rattle.kq_knote.specs.Index.{IsHinted, IsOnly, behind, first_hinted, is_shared};
+ghost use Rattle.kq_knote.specs.Index.{IsHinted, IsOnly, behind, first_hinted, hinted_keys, is_shared};
 
-use crate::Knotes;
+use crate::{Knote, Knotes};
 use kq_model::{Hint, Key, Target};
 use kq_table::{Place, Watcher};
 
@@ -20,6 +22,7 @@ pub(crate) fn is_shared(target: Option<Target>) -> bool
 }
 
 /// The one target of all hints, where they have but one and records give hints for it.
+#[inline(always)]
 pub fn only_target(posted: &[(Target, Hint)]) -> Option<Target>
     ensures { MatchOption result (Unit {0}) (λ target. IsOnly target posted.now) }
 {
@@ -48,6 +51,18 @@ impl Knotes {
             → option_map (λ w. w.key) result ≡ first_hinted posted self.now.knotes }
     {
         self.rows.first_watching(target)
+    }
+
+    /// The knote that alone watches a target which all hints are for, where it stands at the guessed place. None says
+    /// nothing.
+    #[inline(always)]
+    pub fn lone_watcher(&self, target: Target) -> Option<&Knote>
+        ensures found { (knote : tallied.Knote) → option_copied result ≡ Some knote
+            → find_knote knote.key self.now.knotes ≡ Some knote }
+        ensures alone { (knote : tallied.Knote) → option_copied result ≡ Some knote
+            → (posted : List Posted) → IsOnly target posted → hinted_keys posted self.now.knotes ≡ knote.key ∷ [] }
+    {
+        self.rows.lone_watching(target)
     }
 
     /// The next such knote behind the one of a key, which stands at the guessed place or elsewhere. It takes constant

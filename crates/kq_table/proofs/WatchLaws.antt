@@ -11,8 +11,8 @@ use Rattle.kq_table.specs.declared.node.Node.{Node}
 use Rattle.kq_table.specs.declared.node.Thread.TheVariants.{Watch}
 use Rattle.kq_table.specs.Links.{is_target, keys_watching, first_watching, first_alike, next_watching}
 use Rattle.kq_table.specs.Rows.{Tabled, find_row, rows_behind}
-use Rattle.kq_table.specs.Threads.{is_in, AreDistinct, AreLinked, head_or, last_or, after_of, IsThread, rows_in, links_in, rows_at}
-use Rattle.kq_table.specs.Kept.{ends_of, watches, watching, AreApart, AreLed, IsLeading, HasNoRow, StandsAt}
+use Rattle.kq_table.specs.Threads.{is_in, AreDistinct, AreLinked, head_or, last_or, after_of, before_rows, IsThread, rows_in, links_in, rows_at}
+use Rattle.kq_table.specs.Kept.{ends_of, watches, watching, AreApart, AreLed, IsLeading, IsLone, HasNoRow, StandsAt}
 use Rattle.kq_table.proofs.AlongLaws.{IsAlong, keys-watching, along-more, along-there, along-end}
 use Rattle.kq_table.proofs.EnterLaws.{in_watching}
 use Rattle.kq_table.proofs.KeptLaws.{IsSeen, first-at, filled, apart, there, missed-row, stands-row}
@@ -65,6 +65,27 @@ module _ {K T G S R : Type 0} {same : K → K → Bool} {alike : G → G → Boo
         (in_filter-from (λ t. watches alike target_of target (rows_in nodes t)) table.kept.slots slot within passes)
         (λ xs ys thread. led-at (links_in Watch nodes) (ends_of (found alike targets target)) slot leads.after xs ys thread leads.first)
         (table.kept.entered.watched target)
+
+    -- what has none before it and none behind it is the only one
+    only-at : (slot : ℕ) (row : T) → IsLone alike target_of (rows_in nodes) (links_in Watch nodes) target slot row → (xs ys : List ℕ)
+        → IsThread (links_in Watch nodes) (ends_of (found alike targets target)) (xs ++ slot ∷ ys) → map key_of (rows_at (rows_in nodes) (xs ++ slot ∷ ys)) ≡ key_of row ∷ []
+    only-at slot row lone [] [] thread = ap (λ (o : Option T). map key_of (before_rows o [])) lone.here
+    only-at slot row lone [] (y ∷ ys) thread =
+        absurd (none-some y (ap after_of (sym lone.linked ∙ AreLinked-between (links_in Watch nodes) [] slot (y ∷ ys) thread.linked)))
+    only-at slot row lone (x ∷ xs) ys thread =
+        let between = sym lone.linked ∙ AreLinked-between (links_in Watch nodes) (x ∷ xs) slot ys thread.linked in
+        let before = ap (λ (o : Option Links). is_none (option_and_then (λ (l : Links). l.before) o)) between in
+        absurd (false≢true (sym (last-named x xs) ∙ sym before))
+
+    pub lone-watching : (slot : ℕ) (row : T) → IsLone alike target_of (rows_in nodes) (links_in Watch nodes) target slot row
+        → keys_watching alike key_of target_of target v.rows ≡ key_of row ∷ []
+    lone-watching slot row lone =
+        let passes : watches alike target_of target (rows_in nodes slot) ≡ true = ap (watches alike target_of target) lone.here ∙ lone.is in
+        let within : is_in slot table.kept.slots ≡ true = table.kept.whole slot (ap is_some lone.here) in
+        sym keys-along
+        ∙ at_split (λ l. IsThread (links_in Watch nodes) (ends_of (found alike targets target)) l → map key_of (rows_at (rows_in nodes) l) ≡ key_of row ∷ []) slot slots
+        (in_filter-from (λ t. watches alike target_of target (rows_in nodes t)) table.kept.slots slot within passes)
+        (only-at slot row lone) (table.kept.entered.watched target)
 
     -- ---- a walk along them
 

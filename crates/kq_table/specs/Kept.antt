@@ -58,6 +58,12 @@ module _ {T G : Type 0} (alike : G → G → Bool) (target_of : T → Option G) 
     pub after : Option ℕ
     pub first : links slot ≡ Some (record { before = None; after = after })
 
+  -- the row at this slot watches this target, and no other is linked with it
+  pub record IsLone (rows : ℕ → Option T) (links : ℕ → Option Links) (target : G) (slot : ℕ) (row : T) : Type 0 where
+    pub here : rows slot ≡ Some row
+    pub is : is_target alike target (target_of row) ≡ true
+    pub linked : links slot ≡ Some (record { before = None; after = None })
+
   -- of each target the slot with such a row is the first
   abbrev pub AreLed : {R : Type 0} → (ℕ → Option T) → (ℕ → Option Links) → HashMap G Ends R → Type 0
   AreLed rows links targets = (target : G) (slot : ℕ) → IsLeading rows links target slot

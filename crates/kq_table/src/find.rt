@@ -1,7 +1,7 @@
 ghost use Rattle.std.specs.Prelude.{◌≡◌, ℕ, Some, true, MatchOption, option_map};
-ghost use Rattle.std.specs.Option.{option_and_then};
+ghost use Rattle.std.specs.Option.{option_and_then, option_copied};
 ghost use Rattle.std.specs.HashMap.{get as found};
-ghost use Rattle.kq_table.specs.Kept.{ends_of, is_key_of, AreLed, HasNoRow, IsIndexed, IsLeading, StandsAt};
+ghost use Rattle.kq_table.specs.Kept.{ends_of, is_key_of, AreLed, HasNoRow, IsIndexed, IsLeading, IsLone, StandsAt};
 ghost use Rattle.kq_table.specs.Threads.{links_in, rows_in};
 ghost use Rattle.kq_table.specs.declared.node.Thread.TheVariants.{Watch};
 
@@ -106,6 +106,28 @@ fn leads<T: Keyed>(nodes: &Slab<Node<T>>, slot: usize, target: T::Target) -> boo
         return false;
     };
     target == watched
+}
+
+/// The row at a slot, where it watches a target and is linked with no other that does.
+#[inline(always)]
+pub(crate) fn lone_at<T: Keyed>(nodes: &Slab<Node<T>>, slot: usize, target: T::Target) -> Option<&T>
+    ensures { (row : T) → option_copied result ≡ Some row
+        → IsLone T.Target.eq T.target_of (rows_in nodes.now) (links_in Watch nodes.now) target slot row }
+{
+    let Some(node) = nodes.get(slot) else {
+        return None;
+    };
+    let (None, None) = (node.watch.before, node.watch.after) else {
+        return None;
+    };
+    let Some(watched) = node.row.target() else {
+        return None;
+    };
+    if target == watched {
+        Some(&node.row)
+    } else {
+        None
+    }
 }
 
 /// The first slot whose row watches a target. Where it is the guessed one, the map is not asked.

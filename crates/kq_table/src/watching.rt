@@ -1,10 +1,11 @@
-ghost use Rattle.std.specs.Prelude.{◌≡◌, ◌≤◌, ◌+◌, ◌++◌, ◌↔◌, IsTrue, length, slice_get};
-ghost use Rattle.std.specs.Option.{option_map};
+ghost use Rattle.std.specs.Prelude.{◌≡◌, ◌≤◌, ◌+◌, ◌++◌, ◌∷◌, ◌↔◌, [], IsTrue, Some, length, slice_get};
+ghost use Rattle.std.specs.Option.{option_copied, option_map};
 ghost use Rattle.std.specs.Vec.{vec_len, vec_capacity};
 ghost use Rattle.kq_table.specs.Links.{keys_watching, next_watching};
+ghost use Rattle.kq_table.specs.Rows.{find_row};
 
 use crate::Keyed;
-use crate::find::{first_near, near, target_at, watcher_at};
+use crate::find::{first_near, lone_at, near, target_at, watcher_at};
 use crate::node::Thread;
 use crate::nodes::slot_behind;
 use crate::placed::{Place, Watcher};
@@ -12,6 +13,7 @@ use crate::table::Table;
 
 impl<T: Keyed> Table<T> {
     /// A guess of where the first row stands that watches a target.
+    #[inline(always)]
     fn guess_first(&self, target: T::Target) -> Place {
         self.guesses.of_target(T::number_of_target(target))
     }
@@ -24,6 +26,17 @@ impl<T: Keyed> Table<T> {
         let guess = self.guess_first(target);
         let first = first_near(&self.nodes, &self.targets, guess, target);
         watcher_at(&self.nodes, first)
+    }
+
+    /// The row that alone watches a target, where it stands at the guessed place. None says nothing.
+    #[inline(always)]
+    pub fn lone_watching(&self, target: T::Target) -> Option<&T>
+        ensures found { (row : T) → option_copied result ≡ Some row
+            → find_row T.Key.eq T.key_of (T.key_of row) self.now.rows ≡ Some row }
+        ensures alone { (row : T) → option_copied result ≡ Some row
+            → keys_watching T.Target.eq T.key_of T.target_of target self.now.rows ≡ T.key_of row ∷ [] }
+    {
+        lone_at(&self.nodes, self.guess_first(target).slot, target)
     }
 
     /// The row that watches the same target next behind that of a key; None where that is the last, or
