@@ -16,6 +16,7 @@ use kq_model::{Filter, View};
 /// A filter's look at its target, whose view is given: what the event is to say, or none where the
 /// filter's condition does not hold.
 #[tactic(auto, unfolding(kq_model::specs::Look::look))]
+#[inline(always)]
 pub fn look(knote: &Knote, view: Option<View>) -> Option<Seen>
     ensures seen { (views : world.Views) → view ≡ option_and_then views.view knote.now.target
         → result ≡ look views knote.now }
@@ -24,17 +25,18 @@ pub fn look(knote: &Knote, view: Option<View>) -> Option<Seen>
     ensures model { (views : world.Views) (m : model.Knote listed) → knote.now ≡ tallied_knote m
         → view ≡ option_and_then views.view m.target → result ≡ look views m }
 {
-    notice_or(knote.notice, look_by(knote, view))
+    notice_or(knote.notice, look_by(knote, &view))
 }
 
 /// The look of a filter that tells what its knote heard, or whether it was triggered: whatever there is to see of
 /// its target, it sees this. READ, WRITE and PROC look as at a target that is not there.
+#[inline(always)]
 pub fn look_alone(knote: &Knote) -> Option<Seen>
     ensures seen { result ≡ notice_or knote.now.notice (look_by knote.now.key.filter None knote.now) }
     ensures alone { reads_target knote.now.key.filter ≡ false → (views : world.Views)
         → result ≡ look views knote.now }
 {
-    notice_or(knote.notice, look_by(knote, None))
+    notice_or(knote.notice, look_by(knote, &None))
 }
 
 /// A knote that has a notice sees this alone.
@@ -54,8 +56,9 @@ pub fn notice_or(notice: Option<u32>, seen: Option<Seen>) -> Option<Seen>
 
 /// What a knote sees of its target, by its filter.
 #[tactic(auto, unfolding(kq_model::specs::Look::look_by))]
-fn look_by(knote: &Knote, view: Option<View>) -> Option<Seen>
-    ensures { result ≡ look_by knote.now.key.filter view knote.now }
+#[inline(always)]
+fn look_by(knote: &Knote, view: &Option<View>) -> Option<Seen>
+    ensures { result ≡ look_by knote.now.key.filter view.now knote.now }
 {
     match knote.key.filter {
         Filter::Read => look_read(knote, view),

@@ -68,11 +68,11 @@ fn pipe_mark(cap: i64) -> i64
 /// EVFILT_READ: connections that wait, bytes from the mark on, or what a file has behind the
 /// offset.
 #[tactic(auto, unfolding(kq_model::specs::Look::read_seen))]
-pub fn look_read(knote: &Knote, view: Option<View>) -> Option<Seen>
-    ensures { result ≡ read_seen (mark_of knote.now) view }
+pub fn look_read(knote: &Knote, view: &Option<View>) -> Option<Seen>
+    ensures { result ≡ read_seen (mark_of knote.now) view.now }
 {
     match view {
-        Some(View::Listen { pending }) => amount_seen(pending > 0, pending),
+        Some(View::Listen { pending }) => amount_seen(*pending > 0, *pending),
         Some(
             View::Sock {
                 readable,
@@ -82,12 +82,12 @@ pub fn look_read(knote: &Knote, view: Option<View>) -> Option<Seen>
                 ..
             },
         ) => {
-            let ready = readable >= mark_of(knote, read_mark);
-            side_seen(ready, read_shut, read_error, readable)
+            let ready = *readable >= mark_of(knote, *read_mark);
+            side_seen(ready, *read_shut, *read_error, *readable)
         }
-        Some(View::Pipe { bytes, writer, .. }) => side_seen(bytes > 0, !writer, 0, bytes),
+        Some(View::Pipe { bytes, writer, .. }) => side_seen(*bytes > 0, !*writer, 0, *bytes),
         Some(View::Open { size, offset }) => {
-            let rest = difference(size, offset);
+            let rest = difference(*size, *offset);
             amount_seen(is_some_amount(rest), rest)
         }
         _ => None,
@@ -96,8 +96,8 @@ pub fn look_read(knote: &Knote, view: Option<View>) -> Option<Seen>
 
 /// EVFILT_WRITE: space from the mark on. A listening socket is never ready.
 #[tactic(auto, unfolding(kq_model::specs::Look::write_seen))]
-pub fn look_write(knote: &Knote, view: Option<View>) -> Option<Seen>
-    ensures { result ≡ write_seen (mark_of knote.now) view }
+pub fn look_write(knote: &Knote, view: &Option<View>) -> Option<Seen>
+    ensures { result ≡ write_seen (mark_of knote.now) view.now }
 {
     match view {
         Some(
@@ -110,8 +110,8 @@ pub fn look_write(knote: &Knote, view: Option<View>) -> Option<Seen>
                 ..
             },
         ) => {
-            let ready = connected && space >= mark_of(knote, write_mark);
-            side_seen(ready, write_shut, write_error, space)
+            let ready = *connected && *space >= mark_of(knote, *write_mark);
+            side_seen(ready, *write_shut, *write_error, *space)
         }
         Some(
             View::Pipe {
@@ -121,8 +121,8 @@ pub fn look_write(knote: &Knote, view: Option<View>) -> Option<Seen>
                 ..
             },
         ) => {
-            let space = difference(cap, bytes);
-            side_seen(space >= pipe_mark(cap), !reader, 0, space)
+            let space = difference(*cap, *bytes);
+            side_seen(space >= pipe_mark(*cap), !*reader, 0, space)
         }
         _ => None,
     }

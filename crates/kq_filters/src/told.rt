@@ -23,11 +23,11 @@ pub fn notes_seen(notes: u32) -> Option<Seen>
 
 /// The exit status of a process that has exited.
 #[tactic(auto, unfolding(kq_model::specs::Look::status_of))]
-pub fn status_of(view: Option<View>) -> Option<u32>
-    ensures { result ≡ status_of view }
+pub fn status_of(view: &Option<View>) -> Option<u32>
+    ensures { result ≡ status_of view.now }
 {
     match view {
-        Some(View::Process { exited }) => exited,
+        Some(View::Process { exited }) => *exited,
         _ => None,
     }
 }
