@@ -23,3 +23,4 @@ pub mod BeginLemmas
 pub mod BeginSteps
 pub mod BeginTallied
 pub mod NamedLemmas
+pub mod NearLemmas

@@ -34,6 +34,7 @@ impl Live {
     /// A record that does not call this kqueue: whether it goes on, which it does unless its own number
     /// was closed. The knotes of the numbers that were closed in its process are gone, and then the others
     /// hear the hints.
+    #[inline(always)]
     pub fn happen<V: Views>(
         &mut self,
         pairs: &[(u32, u32)],
@@ -59,6 +60,7 @@ impl Live {
     }
 
     /// The same, where it was not shown the record in this round; whether it ended in it is kept.
+    #[inline(always)]
     pub fn show<V: Views>(
         &mut self,
         round: u64,
@@ -144,6 +146,7 @@ fn is_pair(pair: (u32, u32), pid: u32, number: u32) -> bool
 }
 
 /// These numbers, each of its process, were closed.
+#[inline(always)]
 fn close(kq: &mut Kq, pairs: &[(u32, u32)])
     ensures kq { kq.new.kq ≡ closed kq.old.owner (pairs_in pairs.now) kq.old.kq }
     ensures owner { kq.new.owner ≡ kq.old.owner }

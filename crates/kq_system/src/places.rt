@@ -2,13 +2,17 @@ ghost use Rattle.std.specs.Prelude.{◌≡◌, ◌∷◌, [], true, IfOk, OnOk};
 ghost use Rattle.kq_system.specs.Places.{KeepsPlaces, has_place};
 
 use kq_model::Memory;
+use smallvec::SmallVec;
 use std::alloc::Global;
 use std::marker::Model;
+
+/// So many places stand where the list itself stands. Most targets are watched by one kqueue.
+const PLACES_OF_MOST: usize = 2;
 
 /// Places of birth of kqueues, rising, each once.
 #[derive(Drop)]
 pub struct Places {
-    list: Vec<u64>,
+    list: SmallVec<u64, PLACES_OF_MOST>,
 }
 
 impl Model for Places {
@@ -24,7 +28,7 @@ impl Places {
     pub fn one(alloc: Global, place: u64) -> Result<Self, Memory>
         ensures { IfOk result (λ p. p ≡ place ∷ []) }
     {
-        let mut list = Vec::new(alloc);
+        let mut list = SmallVec::new(alloc);
         list.push(place)?;
         Ok(Places { list })
     }

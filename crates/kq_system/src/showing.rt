@@ -1,4 +1,6 @@
 // How the kqueues that a record concerns are shown it, each once.
+ghost use Rattle.std.specs.HashMap.{keys};
+ghost use Rattle.std.specs.List.{position_or_len};
 ghost use Rattle.std.specs.Prelude.{◌≡◌, ◌||◌, [], false, filter, nat_eq, not};
 ghost use Rattle.kq_model.specs.Following.{all_forks};
 ghost use Rattle.kq_process.specs.Effects.{pairs_in};
@@ -17,6 +19,7 @@ fn either(one: bool, other: bool) -> bool
 }
 
 /// Shows the record of a round to the kqueue of a place, where there is one: whether that has ended.
+#[inline(always)]
 fn show_one<V: Views>(
     live: &mut IndexMap<u64, Live>,
     place: u64,
@@ -35,8 +38,43 @@ fn show_one<V: Views>(
     }
 }
 
-/// Shows it to those of some places: whether one of them has ended.
-fn show_each<V: Views>(
+/// The index of the kqueue of a place, or how many there are where it is not there. What stands at the guess is
+/// looked at first.
+fn index_near(live: &IndexMap<u64, Live>, guess: usize, place: u64) -> usize
+    ensures { result ≡ position_or_len (nat_eq place) (keys live.now) }
+{
+    match live.as_slice().get_index(guess) {
+        Some((found, _)) if *found == place => guess,
+        _ => live.get_index_of(&place).unwrap_or(live.len()),
+    }
+}
+
+/// The same as `show_one`, where the kqueue may stand next. What is next then is what stands behind it.
+fn show_near<V: Views>(
+    live: &mut IndexMap<u64, Live>,
+    place: u64,
+    next: &mut usize,
+    round: u64,
+    pairs: &[(u32, u32)],
+    hints: &[(Target, Hint)],
+    views: &V,
+) -> bool
+    requires { all_forks hints.now ≡ [] }
+    ensures { AreShown round (IsTold (pairs_in pairs.now) hints.now (V.sees views.now)) (λ p. nat_eq p place) result
+        live.old.entries live.new.entries }
+{
+    let index = index_near(live, *next, place);
+    *next = index.saturating_add(1);
+    match live.get_index_mut(index) {
+        Some(one) => one.show(round, pairs, hints, views),
+        None => false,
+    }
+}
+
+/// Shows it to those of some places: whether one of them has ended. The places rise, and kqueues stand in the order
+/// of their places, so the next one mostly stands right behind.
+#[inline(never)]
+fn show_several<V: Views>(
     live: &mut IndexMap<u64, Live>,
     places: &[u64],
     round: u64,
@@ -49,11 +87,35 @@ fn show_each<V: Views>(
         (λ p. has_place p places.now) result live.old.entries live.new.entries }
 {
     let mut any = false;
+    let mut next = 0_usize;
     for place in places {
-        let ended = show_one(live, *place, round, pairs, hints, views);
+        let ended = show_near(live, *place, &mut next, round, pairs, hints, views);
         any = either(any, ended);
     }
     any
+}
+
+/// The same. Most often there is one place, and then there is nothing to guess.
+#[inline(always)]
+fn show_each<V: Views>(
+    live: &mut IndexMap<u64, Live>,
+    places: &[u64],
+    round: u64,
+    pairs: &[(u32, u32)],
+    hints: &[(Target, Hint)],
+    views: &V,
+) -> bool
+    requires { all_forks hints.now ≡ [] }
+    ensures { AreShown round (IsTold (pairs_in pairs.now) hints.now (V.sees views.now))
+        (λ p. has_place p places.now) result live.old.entries live.new.entries }
+{
+    if 1 < places.len() {
+        return show_several(live, places, round, pairs, hints, views);
+    }
+    match places.first() {
+        Some(place) => show_one(live, *place, round, pairs, hints, views),
+        None => false,
+    }
 }
 
 /// Shows it to those that it concerns: whether one of them has ended.

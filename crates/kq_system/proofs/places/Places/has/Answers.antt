@@ -5,5 +5,5 @@ use Rattle.kq_system.proofs.places.Places.has.Goals as goal
 
 pub returns-in-Ok : goal.returns-in-Ok
 returns-in-Ok c = λ _.
-    subst (λ ps. has_place c.args.place ps ≡ true) (c.deref.ensures.value ∙ c.self.view_is)
+    subst (λ ps. has_place c.args.place ps ≡ true) (c.deref.ensures ∙ c.self.view_is)
     (has-found c.args.place c.deref.result.now c.in-Ok.field-0 c.in-Ok.ensures.bound c.in-Ok.ensures.ok)
