@@ -47,5 +47,4 @@ pub use item::{Item, Source, What};
 pub use item_list::ItemList;
 pub use looking::Looking;
 pub use private::Private;
-pub use split::{Spent, Split};
-pub use splitting::Splitting;
+pub use split::Split;

@@ -13,15 +13,6 @@ use kq_model::{Event, Memory, Named, Row, Target, Trace, View};
 use std::alloc::Global;
 use std::marker::Model;
 
-/// What a split kept beside its trace, which is no longer used. It has nothing of the trace, so it can be let go of
-/// wherever that is.
-#[derive(Drop)]
-pub struct Spent {
-    seen: Shown,
-    said: Said,
-    plain: Vec<Row>,
-}
-
 /// A trace with what was seen of the world after each of its records, what these say to kqueues, and
 /// the rows of those that are impossible.
 #[derive(Drop)]
@@ -56,17 +47,6 @@ impl<'a> Split<'a> {
         let mut splitting = Splitting::new(alloc)?;
         splitting.take(0, events)?;
         splitting.end(trace)
-    }
-
-    /// What it kept, to be let go of. It costs nothing.
-    pub fn spend(self) -> Spent {
-        let Split {
-            seen,
-            said,
-            plain,
-            ..
-        } = self;
-        Spent { seen, said, plain }
     }
 
     /// The places where kqueues were made, rising.

@@ -12,7 +12,7 @@ use kq_model::{Event, Memory, Row, Trace};
 use kq_process::{Effect, World};
 use std::alloc::Global;
 
-/// A split of the records that came so far, part by part: so that it can run beside their reading.
+/// A split of the records that came so far.
 #[derive(Drop)]
 pub struct Splitting {
     pub(crate) world: World,

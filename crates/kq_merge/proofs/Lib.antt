@@ -1,9 +1,3 @@
 pub mod Places
 pub mod ReportLines
 pub mod WrittenRows
-pub mod PlacedRows
-pub mod SlotRows
-pub mod LineBounds
-pub mod PieceTexts
-pub mod SlotsPut
-pub mod PartsWritten

@@ -1,9 +1,4 @@
+pub mod Bounds
 pub mod ByPlace
 pub mod EventsText
 pub mod Written
-pub mod Merged
-pub mod AtPlaces
-pub mod Bounds
-pub mod Extents
-pub mod Pieces
-pub mod Unwritten

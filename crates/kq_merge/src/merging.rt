@@ -5,14 +5,11 @@ ghost use Rattle.std.specs.List.{All, flat_map};
 ghost use Rattle.std.specs.List.Sorted.{IsPermutation};
 ghost use Rattle.kq_merge.specs.ByPlace.{IsOnlyOrder, NeverFall, rows_in};
 
-use crate::row_lists::RowLists;
 use kq_model::{Memory, Row, Rows};
 use std::alloc::Global;
 
 /// All rows of these kqueues and the plain rows, each once, by place. The rows of each kqueue, and
 /// the plain ones, stand by place already. Rows of kqueues move; the plain ones are copied.
-///
-/// They are sorted. A report needs no rows in order: [`crate::write_by_place`] moves and sorts none.
 pub fn merge(alloc: Global, kqueues: Vec<Rows>, plain: &[Row]) -> Result<Vec<Row>, Memory>
     requires kqueues { All (λ kqueue. NeverFall kqueue.rows) kqueues.items }
     requires plain { NeverFall plain.now }
@@ -20,9 +17,8 @@ pub fn merge(alloc: Global, kqueues: Vec<Rows>, plain: &[Row]) -> Result<Vec<Row
     ensures by_place { IfOk result (λ rows. NeverFall rows.items) }
     ensures only { IfOk result (λ rows. IsOnlyOrder (rows_in kqueues.items plain.now) rows.items) }
 {
-    let RowLists { kqueues, mut plain } = RowLists::of(alloc, kqueues, plain)?;
     let mut rows = joined(alloc, kqueues)?;
-    rows.append(&mut plain)?;
+    rows.append(&mut copied(alloc, plain)?)?;
     rows.sort_unstable_by_key(|row| row.at);
     Ok(rows)
 }
@@ -37,4 +33,15 @@ fn joined(alloc: Global, kqueues: Vec<Rows>) -> Result<Vec<Row>, Memory>
         rows.append(&mut list)?;
     }
     Ok(rows)
+}
+
+/// Copies of these rows.
+fn copied(alloc: Global, rows: &[Row]) -> Result<Vec<Row>, Memory>
+    ensures { IfOk result (λ copies. copies.items ≡ rows.now) }
+{
+    let mut copies = Vec::with_capacity(alloc, rows.len())?;
+    for row in rows {
+        copies.push(row.copy()?)?;
+    }
+    Ok(copies)
 }

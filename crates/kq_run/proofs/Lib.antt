@@ -1,4 +1,3 @@
 mod FoldLemmas
 pub mod LiveFaults
 pub mod ReplayedTraces
-pub mod WrittenTexts

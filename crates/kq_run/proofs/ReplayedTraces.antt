@@ -1,31 +1,29 @@
--- The report of a trace whose kqueues were replayed alone, and its faults.
-use Rattle.std.proofs.Common.{◌≡◌, ◌∙◌, ℕ, ◌≤◌, ◌<◌, ◌⊎◌, List, length, Option, Some, Result, Ok, Err, IfOk, MatchResult, ap, subst, arith, ⊎_elim}
+-- The rows of a trace whose kqueues were replayed alone, and the faults of its report.
+use Rattle.std.proofs.Common.{◌≡◌, ℕ, ◌≤◌, ◌<◌, ◌⊎◌, List, length, Option, Some, Result, Ok, Err, IfOk, MatchResult, refl, subst, arith, ⊎_elim}
 use Rattle.std.proofs.lemmas.List.{length-map}
-use Rattle.std.specs.List.Sorted.{IsPermutation}
-use Rattle.std.proofs.lemmas.List.Sorted.{IsPermutation-refl, IsPermutation-sym, IsPermutation-trans}
+use Rattle.std.proofs.lemmas.List.Elements.{All-weaker}
+use Rattle.std.specs.List.{All}
 use Rattle.kq_model.specs.declared.event.Event.{Event}
 use Rattle.kq_model.specs.declared.row.Row.{Row}
 use Rattle.kq_model.specs.declared.rows.Rows.{Rows}
 use Rattle.kq_model.specs.Births.{Birth}
-use Rattle.kq_model.specs.Hearing.{listed}
-use Rattle.kq_model.specs.Objects as objects
 use Rattle.kq_model.specs.OwnedRows.{Rise}
 use Rattle.kq_model.specs.Reading.{Good, reading}
 use Rattle.kq_model.specs.Report.{report, report_of}
 use Rattle.kq_model.specs.System.{rows}
-use Rattle.kq_model.proofs.Projection.{merged}
 use Rattle.kq_history.specs.Traced.{Traced, births_of, places_of, plain_rows_of}
-use Rattle.kq_merge.specs.ByPlace.{rows_in}
-use Rattle.kq_merge.specs.Merged.{IsReportByPlace}
-use Rattle.kq_merge.proofs.Places.{only_order}
+use Rattle.kq_merge.specs.ByPlace.{IsOnlyOrder, NeverFall, rows_in}
+use Rattle.kq_merge.proofs.Places.{never_fall}
 use Rattle.kq_replay.specs.Replayed.{AreReplayed}
+use Rattle.kq_trace.specs.declared.fault.TraceError.{TraceError}
 use Rattle.kq_trace.specs.declared.fault.TraceError.TheVariants as error
 use Rattle.kq_trace.specs.Blocks.{IsInputFault as IsTraceInputFault}
+use Rattle.kq_trace.specs.Faults.{IsFault as IsTraceFault}
 use Rattle.kq_trace.specs.Source.{Ahead, Had as HadAhead}
 use Rattle.kq_trace.specs.declared.input_error.InputError.{InputError}
 use Rattle.kq_trace.specs.declared.input_error.InputError.TheVariants as input
-use Rattle.kq_run.specs.Fault.{input_fault_of}
-use Rattle.kq_run.specs.Replay.{AreRowsOf, IsFault, IsInputFault, IsReplayFault, IsSourceFault}
+use Rattle.kq_run.specs.Fault.{fault_of, input_fault_of}
+use Rattle.kq_run.specs.Replay.{IsFault, IsInputFault, IsReplayFault, IsSourceFault}
 use Rattle.kq_run.specs.Workers.{IsWorkerCount}
 use Rattle.kq_run.specs.declared.fault.Fault.{Fault}
 use Rattle.kq_run.specs.declared.fault.Fault.TheVariants.{Usage, Read, Trace, Memory, Spawn, Write}
@@ -38,35 +36,28 @@ given P (Ok y) q x same at is =
     subst P one is
 given P (Err e) q x same at is = absurd same
 
--- ---- the rows, and their report
+-- ---- the rows
 
--- the rows of kqueues and the plain ones are together the rows of the trace
-pub rows_again : (t : Traced) (kqueues : List Rows) (found : List Row) → AreReplayed t kqueues → IsPermutation (rows_in kqueues (plain_rows_of t)) found
-    → AreRowsOf t.version t.events found
-rows_again t kqueues found are same =
-    let all = rows_in kqueues (plain_rows_of t) in
-    (IsPermutation-trans found all (rows t.version t.events) (IsPermutation-sym all found same) are.whole, are.ordered)
+-- those of kqueues that were replayed alone, and the plain ones, stand by place, as a merge wants them
+pub kqueues_never_fall : (t : Traced) (kqueues : List Rows) → AreReplayed t kqueues
+    → All (λ (one : Rows). NeverFall one.rows) kqueues
+kqueues_never_fall t kqueues are =
+    All-weaker (λ (one : Rows). Rise one.rows) (λ (one : Rows). NeverFall one.rows)
+    (λ one rises. never_fall one.rows rises) kqueues are.rise
 
--- and their report by place is that of the trace
-pub report_again : (version records : ℕ) (events : List Event) (all : List Row) (text : List ℕ) → AreRowsOf version events all → records ≡ length events
-    → IsReportByPlace all records text → text ≡ report_of version events
+pub plain_never_falls : (t : Traced) (kqueues : List Rows) → AreReplayed t kqueues → NeverFall (plain_rows_of t)
+plain_never_falls t kqueues are = never_fall (plain_rows_of t) are.plain
+
+-- what it gives are the rows of the trace
+pub rows_again : (t : Traced) (kqueues : List Rows) (merged : List Row) → AreReplayed t kqueues
+    → IsOnlyOrder (rows_in kqueues (plain_rows_of t)) merged → merged ≡ rows t.version t.events
+rows_again t kqueues merged are only = only (rows t.version t.events) are.whole are.ordered
+
+-- and their report is that of the trace
+pub report_is : (version records : ℕ) (events : List Event) (found : List Row) (text : List ℕ) → records ≡ length events
+    → found ≡ rows version events → text ≡ report found records → text ≡ report_of version events
 unfolding report_of
-report_again version records events all text are counts (found, same, falls, is) =
-    is ∙ ap (λ rs. report rs records) (only_order all found same falls (rows version events) are.0 are.1)
-    ∙ ap (report (rows version events)) counts
-
--- ---- the rows of a trace as they stand
-
-rows_rise : (version : ℕ) (events : List Event) → Rise (rows version events)
-unfolding rows
-rows_rise version events = (merged listed objects.listed version events).1
-
--- their report by place is that of the trace
-pub own_report : (version records : ℕ) (events : List Event) (text : List ℕ) → records ≡ length events
-    → IsReportByPlace (rows version events) records text → text ≡ report_of version events
-own_report version records events text counts is =
-    let all = rows version events in
-    report_again version records events all text (IsPermutation-refl all, rows_rise version events) counts is
+report_is version records events found text counts are is = rw (is, counts, are) refl
 
 -- ---- the faults
 
@@ -87,6 +78,11 @@ fault_of_replay bytes workers version events good (Trace line fault) h = absurd 
 fault_of_replay bytes workers version events good Memory h = tt
 fault_of_replay bytes workers version events good Spawn h = (h.0, (version, events, good, h.1))
 fault_of_replay bytes workers version events good Write h = h
+
+-- a text that is no trace
+pub read_fault : (bytes : List ℕ) (workers : ℕ) (error : TraceError) → IsTraceFault bytes error → IsFault bytes workers (fault_of error)
+read_fault bytes workers error.Memory is = tt
+read_fault bytes workers (error.Bad line fault) is = is
 
 -- ---- the same of a source
 

@@ -4,8 +4,6 @@ use Rattle.kq_trace.specs.declared.fault.TraceError.{TraceError}
 use Rattle.kq_trace.specs.declared.fault.TraceError.TheVariants as error
 use Rattle.kq_trace.specs.declared.input_error.InputError.{InputError}
 use Rattle.kq_trace.specs.declared.input_error.InputError.TheVariants as input
-use Rattle.kq_merge.specs.declared.unwritten.Unwritten.{Unwritten}
-use Rattle.kq_merge.specs.declared.unwritten.Unwritten.TheVariants as unwritten
 use Rattle.kq_run.specs.declared.fault.Fault.{Fault}
 use Rattle.kq_run.specs.declared.fault.Fault.TheVariants.{Usage, Read, Trace, Memory, Spawn, Write}
 
@@ -24,7 +22,3 @@ fault_of (error.Bad line fault) = Trace line fault
 abbrev pub input_fault_of : InputError → Fault
 input_fault_of input.Read = Read
 input_fault_of (input.Trace error) = fault_of error
-
-abbrev pub unwritten_fault_of : Unwritten → Fault
-unwritten_fault_of unwritten.Memory = Memory
-unwritten_fault_of unwritten.Write = Write

@@ -2,6 +2,5 @@ pub mod Fault
 pub mod Folding
 pub mod Living
 pub mod Replay
-pub mod Splitter
 pub mod Workers
 pub mod Written

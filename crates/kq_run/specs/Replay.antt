@@ -1,20 +1,12 @@
 -- What `replay` promises: the report of one fold of the whole system over the trace that the bytes are,
 -- or a fault that was met.
 use Rattle.std.specs.Prelude.{◌≡◌, ◌≤◌, ℕ, List, length, Option}
-use Rattle.std.specs.List.Sorted.{IsPermutation}
 use Rattle.kq_model.specs.declared.event.Event.{Event}
-use Rattle.kq_model.specs.declared.row.Row.{Row}
-use Rattle.kq_model.specs.declared.trace.Trace.{Trace as TraceRead}
-use Rattle.kq_model.specs.OwnedRows.{Rise}
 use Rattle.kq_model.specs.Reading.{Good, Bad, reading}
 use Rattle.kq_model.specs.Report.{report_of}
-use Rattle.kq_model.specs.System.{rows}
-use Rattle.kq_history.specs.declared.splitting.Splitting.{Splitting}
-use Rattle.kq_history.specs.Splitting.{IsSplitSoFar}
-use Rattle.kq_history.specs.Traced.{births_of, traced}
+use Rattle.kq_history.specs.Traced.{births_of}
 use Rattle.kq_trace.specs.Source.{Ahead, WereGiven, Had as HadAhead}
 use Rattle.kq_run.specs.Workers.{IsWorkerCount}
-use Rattle.kq_run.specs.declared.replayed.Replayed.{Replayed}
 use Rattle.kq_run.specs.declared.fault.Fault.{Fault}
 use Rattle.kq_run.specs.declared.fault.Fault.TheVariants.{Usage, Read, Trace, Memory, Spawn, Write}
 
@@ -59,28 +51,9 @@ IsReplayFault version events workers Memory = Unit {0}
 IsReplayFault version events workers Spawn = (2 ≤ workers) × HasKqueues version events
 IsReplayFault version events workers Write = ⊥
 
--- these are the rows of the trace, each once; by rising place they stand as in the fold
-abbrev pub AreRowsOf : ℕ → List Event → List Row → Type 0
-AreRowsOf version events found = IsPermutation found (rows version events) × Rise (rows version events)
-
 -- the text is the report of the trace that a source had
 abbrev pub IsReportFrom : Ahead → List ℕ → Type 0
 IsReportFrom ahead text = (bytes : List ℕ) × HadAhead ahead bytes × IsReport bytes text
-
--- these bytes were read and replayed
-abbrev pub IsReplayed : List ℕ → Replayed → Type 0
-IsReplayed bytes r =
-    (reading bytes ≡ Good r.trace.version r.trace.events) × AreRowsOf r.trace.version r.trace.events r.rows
-
--- the trace that a source had was read and replayed
-abbrev pub IsReplayedFrom : Ahead → Replayed → Type 0
-IsReplayedFrom ahead r = (bytes : List ℕ) × HadAhead ahead bytes × IsReplayed bytes r
-
--- the trace that a source had was read and split
-abbrev pub IsSplitFrom : Ahead → TraceRead → Splitting → Type 0
-IsSplitFrom ahead trace splitting =
-    (bytes : List ℕ) × HadAhead ahead bytes × (reading bytes ≡ Good trace.version trace.events)
-    × IsSplitSoFar (traced trace) splitting
 
 -- the fault can come from what a source had and so many workers
 abbrev pub IsSourceFault : Type 0 → Ahead → ℕ → Fault → Type 0

@@ -1,6 +1,5 @@
 ghost use Rattle.std.specs.Prelude.{◌≡◌};
 
-use kq_merge::Unwritten;
 use kq_model::{LineFault, Memory};
 use kq_trace::{InputError, TraceError};
 use thiserror::Error;
@@ -79,19 +78,6 @@ impl From<InputError> for Fault {
         match error {
             InputError::Read => Fault::Read,
             InputError::Trace(error) => Fault::from(error),
-        }
-    }
-}
-
-impl From<Unwritten> for Fault {
-    ghost use Rattle.kq_run.specs.Fault.{unwritten_fault_of};
-
-    ghost from_gives = { λ error fault. fault ≡ unwritten_fault_of error };
-
-    fn from(error: Unwritten) -> Fault {
-        match error {
-            Unwritten::Memory => Fault::Memory,
-            Unwritten::Write => Fault::Write,
         }
     }
 }

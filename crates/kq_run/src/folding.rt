@@ -121,15 +121,17 @@ impl Sink for Folder {
     }
 }
 
-/// The report of the trace that a source has, by one fold of the whole system over it on the calling thread.
+/// The report of the trace that a source has, by one fold of the whole system over it on the calling thread. Further
+/// workers read what comes behind.
 pub fn fold_from<R: AllocGlobal + Threads + Sync, I: Source + Send>(
     rt: &R,
     source: &mut I,
+    workers: u32,
 ) -> Result<Vec<u8>, Fault>
     ensures report { IfOk result (λ text. IsReportFrom (I.ahead source.old) text.items) }
-    ensures fault { IfErr result (IsSourceFault I.may_fail (I.ahead source.old) 1) }
+    ensures fault { IfErr result (IsSourceFault I.may_fail (I.ahead source.old) workers) }
 {
     let mut folder = Folder::new(rt.alloc());
-    let _ = read_trace_into(rt, source, 1, &mut folder)?;
+    let _ = read_trace_into(rt, source, workers, &mut folder)?;
     Ok(folder.report()?)
 }

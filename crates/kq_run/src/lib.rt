@@ -6,9 +6,8 @@ mod folding;
 mod input;
 mod living;
 mod output;
-mod replayed;
+mod projecting;
 mod replaying;
-mod splitter;
 mod workers;
 
 pub use fault::Fault;

@@ -7,13 +7,15 @@ ghost use Rattle.kq_run.specs.Workers.{IsThreadCount};
 ghost use Rattle.kq_run.specs.Written.{Leaves, Writes};
 
 use crate::fault::Fault;
+use crate::output::write_out;
 use crate::workers::is_thread_count;
 use kq_gate::{Always, Gate, Open, Starts};
 use kq_live::Book;
-use kq_merge::{RowLists, write_by_place};
-use kq_model::Trace;
+use kq_merge::report_text;
+use kq_model::{Memory, Trace};
 use kq_serve::ServeError;
 use kq_trace::{read_trace_with, write_trace};
+use std::alloc::Global;
 use std::io::Write;
 use std::sync::Wait;
 use std::thread::Threads;
@@ -89,27 +91,16 @@ pub fn live_report<R: AllocGlobal + Threads + Wait + Sync, O: Write>(
         (O.contents out.old) (O.contents out.new)) }
 {
     let book = book_of(rt, bytes, threads)?;
-    write_book(rt, &book, threads, out)
+    let text = report_of(rt.alloc(), &book)?;
+    write_out(text.as_slice(), out)
 }
 
-/// Writes the report of a book's trace, by so many threads.
-fn write_book<R: AllocGlobal + Threads + Sync, O: Write>(
-    rt: &R,
-    book: &Book,
-    threads: u32,
-    out: &mut O,
-) -> Result<(), Fault>
-    ensures whole { OnOk result (Writes (IsReportOf book.now.version book.now.events)
-        (O.contents out.old) (O.contents out.new)) }
-    ensures fault { IfErr result (λ f.
-        Leaves (IsReportOf book.now.version book.now.events) (λ g. g ≡ Fault.Memory) f
-        (O.contents out.old) (O.contents out.new)) }
+/// The report of a book's trace.
+fn report_of(alloc: Global, book: &Book) -> Result<Vec<u8>, Memory>
+    ensures { IfOk result (λ text. IsReportOf book.now.version book.now.events text.items) }
 {
     let rows = book.rows()?;
-    let records = book.len() as u64;
-    let rows = RowLists::one(rt.alloc(), rows);
-    write_by_place(rt, &rows, records, threads, out)?;
-    Ok(())
+    report_text(alloc, rows.as_slice(), book.len() as u64)
 }
 
 /// The canonical text of the trace of such a book.

@@ -6,12 +6,12 @@ ghost use Rattle.kq_run.specs.Written.{Leaves, Writes};
 use crate::fault::Fault;
 use crate::folding::fold_from;
 use crate::output::write_out;
-use crate::replayed::Replayed;
+use crate::projecting::rows_of;
 use crate::workers::is_worker_count;
-use kq_gate::{Always, Gate, Open, Starts};
-use kq_trace::{Input, Lent};
+use kq_gate::{Gate, Starts};
+use kq_merge::report_text;
+use kq_trace::{Input, Lent, read_trace_with};
 use std::io::{Read, Write};
-use std::mem::forget;
 use std::sync::Wait;
 use std::thread::Threads;
 
@@ -21,7 +21,9 @@ use std::thread::Threads;
 /// For every trace and every number of workers, the report is byte for byte the report of one fold
 /// of the whole system over the trace on one thread; where memory or a thread is refused, there is
 /// an error and no report.
-pub fn replay<R: AllocGlobal + Threads + Wait + Sync>(
+///
+/// One worker folds, and the others read what comes behind.
+pub fn replay<R: AllocGlobal + Threads + Sync>(
     rt: &R,
     bytes: &[u8],
     workers: u32,
@@ -30,15 +32,14 @@ pub fn replay<R: AllocGlobal + Threads + Wait + Sync>(
     ensures report { IfOk result (λ text. IsReport bytes.now text.items) }
     ensures fault { IfErr result (IsFault bytes.now workers) }
 {
-    if workers == 1 {
-        return fold_from(rt, &mut Lent::new(bytes));
+    if !is_worker_count(workers) {
+        return Err(Fault::Usage);
     }
-    replay_with(rt, bytes, workers, &Open, &Always)
+    fold_from(rt, &mut Lent::new(bytes), workers)
 }
 
-/// The same, where the gate is asked before each kqueue is replayed, with the number of the worker
-/// and that of the kqueue in order of birth, both from 1 on, and `starts` before each worker but
-/// the first is started.
+/// The same, where each kqueue is replayed alone: the gate is asked before each of them, with the number of the worker
+/// and that of the kqueue in order of birth, both from 1 on, and `starts` before each worker but the first is started.
 pub fn replay_with<R: AllocGlobal + Threads + Wait + Sync, G: Gate + Sync, S: Starts>(
     rt: &R,
     bytes: &[u8],
@@ -53,24 +54,18 @@ pub fn replay_with<R: AllocGlobal + Threads + Wait + Sync, G: Gate + Sync, S: St
     if !is_worker_count(workers) {
         return Err(Fault::Usage);
     }
-    let replayed = Replayed::of(rt, &mut Lent::new(bytes), workers, gate, starts)?;
-    let mut text = Vec::new(rt.alloc());
-    match replayed.write(rt, workers, &mut text) {
-        Ok(()) => Ok(text),
-        // What a vector does not take is a growth that was refused.
-        Err(_) => Err(Fault::Memory),
-    }
+    let trace = read_trace_with(rt, bytes, workers)?;
+    let rows = rows_of(rt, &trace, workers, gate, starts)?;
+    let records = trace.events.len() as u64;
+    Ok(report_text(rt.alloc(), rows.as_slice(), records)?)
 }
 
 /// Writes the report of the trace that an input has, which is no more bytes than so many, as [`replay`] gives it, by so
-/// many workers, 1 to 256. By two and more it is read while it comes. A read that fails, an interrupted one too, and an
-/// input of more bytes are [`Fault::Read`], whatever the trace.
+/// many workers, 1 to 256. It is read while it comes. A read that fails, an interrupted one too, and an input of more
+/// bytes are [`Fault::Read`], whatever the trace.
 ///
 /// After [`Fault::Write`] a prefix of the report was written, after any other fault nothing.
-///
-/// It is for a program that ends once the report is out: the trace, its rows and what the split kept are left to the
-/// end of the process, which gives all memory back at once.
-pub fn replay_input<R: AllocGlobal + Threads + Wait + Sync, I: Read + Send, O: Write>(
+pub fn replay_input<R: AllocGlobal + Threads + Sync, I: Read + Send, O: Write>(
     rt: &R,
     input: &mut I,
     limit: usize,
@@ -84,13 +79,6 @@ pub fn replay_input<R: AllocGlobal + Threads + Wait + Sync, I: Read + Send, O: W
         Leaves (IsReportIn (I.remaining input.old) limit) (IsInputFault (I.remaining input.old) limit workers) f
         (O.contents out.old) (O.contents out.new)) }
 {
-    let mut source = Input::new(input, limit);
-    if workers == 1 {
-        let text = fold_from(rt, &mut source)?;
-        return write_out(text.as_slice(), out);
-    }
-    let replayed = Replayed::of(rt, &mut source, workers, &Open, &Always)?;
-    let written = replayed.write(rt, workers, out);
-    forget(replayed);
-    written
+    let text = fold_from(rt, &mut Input::new(input, limit), workers)?;
+    write_out(text.as_slice(), out)
 }

@@ -20,16 +20,3 @@ pub fn is_thread_count(threads: u32) -> bool
 {
     1 <= threads && threads <= MOST_THREADS
 }
-
-/// From so many workers on, what is done beside reading gets a thread of its own.
-pub const MANY_WORKERS: u32 = 4;
-
-/// The threads that read, and one for what is done beside that: as many as workers, or one more where there are many,
-/// because what is done beside seldom keeps a thread busy.
-pub fn threads_of(workers: u32) -> u32 {
-    if workers < MANY_WORKERS {
-        workers
-    } else {
-        workers.saturating_add(1)
-    }
-}

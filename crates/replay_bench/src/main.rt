@@ -2,8 +2,7 @@
 //! error: its name, and the ns that it took by the clock and of the processors.
 //!
 //!     replay_bench fold         reads, folds the whole system over the trace and writes, on one thread
-//!     replay_bench stream       the same fold, each record as soon as it is read, keeping neither records nor rows
-//!     replay_bench parts N      reads, splits, replays by N workers, merges and writes, as `kqsim replay --workers N`
+//!     replay_bench parts N      reads, splits, replays each kqueue alone by N workers, merges and writes
 //!
 //! Both print the report.
 #![tactic(auto)]
@@ -14,7 +13,7 @@ mod task;
 mod watch;
 
 use anyhow::Context;
-use fold::{fold, stream};
+use fold::fold;
 use parts::parts;
 use std::env;
 use std::io::Read;
@@ -25,13 +24,12 @@ fn main(rt: HostRuntime) -> anyhow::Result<()> {
     let mut words = words.skip(1);
     let (word, count) = (words.next(), words.next());
     let task = Task::named(word.as_deref(), count.as_deref());
-    let task = task.context("usage: replay_bench fold | stream | parts N")?;
+    let task = task.context("usage: replay_bench fold | parts N")?;
     let mut bytes = Vec::new(rt.alloc());
     rt.stdin().read_to_end(&mut bytes)?;
     let mut times = rt.stderr();
     match task {
         Task::Fold => fold(&rt, bytes.as_slice(), &mut rt.stdout(), &mut times),
-        Task::Stream => stream(&rt, bytes.as_slice(), &mut rt.stdout(), &mut times),
         Task::Parts { workers } => parts(
             &rt,
             bytes.as_slice(),

@@ -4,8 +4,8 @@ use crate::watch::Watch;
 use anyhow::Context;
 use kq_gate::Open;
 use kq_history::Split;
-use kq_merge::{RowLists, write_by_place};
-use kq_model::Trace;
+use kq_merge::{merge, report_text};
+use kq_model::{Row, Trace};
 use kq_replay::replay_all;
 use kq_trace::read_trace_with;
 use std::alloc::AllocError;
@@ -14,7 +14,8 @@ use std::sync::Wait;
 use std::thread::Threads;
 use std::time::{Clock, CpuClock};
 
-/// Reads the trace, splits it, replays its kqueues by so many workers, puts their rows together and writes the report.
+/// Reads the trace, splits it, replays each of its kqueues alone by so many workers, puts their rows in order and writes
+/// the report.
 pub fn parts<R: AllocGlobal + Clock + CpuClock + Threads + Wait + Sync, O: Write, W: Write>(
     rt: &R,
     bytes: &[u8],
@@ -53,23 +54,21 @@ fn of_split<R: AllocGlobal + Clock + CpuClock + Threads + Wait + Sync, O: Write,
     watch.lap(rt, "split", times)?;
     let kqueues = replay_all(rt, split, workers, &Open)?;
     watch.lap(rt, "replay", times)?;
-    let rows = RowLists::of(rt.alloc(), kqueues, split.plain_rows()).map_err(|_| AllocError)?;
-    of_rows(rt, &rows, split.record_count(), workers, watch, out, times)
+    let rows = merge(rt.alloc(), kqueues, split.plain_rows()).map_err(|_| AllocError)?;
+    of_rows(rt, rows.as_slice(), split.record_count(), watch, out, times)
 }
 
 /// The parts behind the merging.
-fn of_rows<R: AllocGlobal + Clock + CpuClock + Threads + Sync, O: Write, W: Write>(
+fn of_rows<R: AllocGlobal + Clock + CpuClock, O: Write, W: Write>(
     rt: &R,
-    rows: &RowLists,
+    rows: &[Row],
     records: u64,
-    workers: u32,
     watch: &mut Watch,
     out: &mut O,
     times: &mut W,
 ) -> anyhow::Result<()> {
     watch.lap(rt, "merge", times)?;
-    let mut report = Vec::new(rt.alloc());
-    write_by_place(rt, rows, records, workers, &mut report).map_err(|_| AllocError)?;
+    let report = report_text(rt.alloc(), rows, records).map_err(|_| AllocError)?;
     out.write_all(report.as_slice())?;
     watch.lap(rt, "write", times)?;
     Ok(())

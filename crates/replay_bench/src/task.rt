@@ -2,7 +2,6 @@
 #[derive(Drop, Clone, Copy)]
 pub enum Task {
     Fold,
-    Stream,
     Parts { workers: u32 },
 }
 
@@ -11,7 +10,6 @@ impl Task {
     pub fn named(word: Option<&str>, count: Option<&str>) -> Option<Task> {
         match (word, count) {
             (Some("fold"), None) => Some(Task::Fold),
-            (Some("stream"), None) => Some(Task::Stream),
             (Some("parts"), Some(count)) => {
                 let workers = count.parse().ok()?;
                 Some(Task::Parts { workers })

@@ -3,8 +3,7 @@ use Rattle.std.proofs.Common.{rules}
 use Rattle.std.specs.List.Sorted.{IsPermutation}
 use Rattle.std.proofs.lemmas.List.Sorted.{IsNonDecreasingBy-from_sort_by_key}
 use Rattle.kq_merge.specs.ByPlace.{rows_in}
-use Rattle.kq_merge.proofs.PlacedRows.{sorted_never_falls}
-use Rattle.kq_merge.proofs.Places.{only_order}
+use Rattle.kq_merge.proofs.Places.{only_order, sorted_never_falls}
 use Rattle.kq_merge.proofs.merging.merge.Goals as goal
 
 pub returns-clause-by_place : goal.returns-clause-by_place

@@ -1,0 +1,34 @@
+-- Each kqueue's rows and the plain ones stand by place, and in one order only they are the rows of the trace.
+use Rattle.std.proofs.Common.{◌≡◌, ◌∙◌, List, ap, rules, sym, subst}
+use Rattle.kq_model.specs.declared.row.Row.{Row}
+use Rattle.kq_model.specs.System.{rows}
+use Rattle.kq_model.proofs.Results.{error_passed}
+use Rattle.kq_history.specs.Traced.{Traced, plain_rows_of}
+use Rattle.kq_merge.specs.ByPlace.{IsOnlyOrder, NeverFall, rows_in}
+use Rattle.kq_run.specs.Replay.{IsReplayFault}
+use Rattle.kq_run.specs.declared.fault.Fault.TheVariants.{Memory}
+use Rattle.kq_run.proofs.ReplayedTraces.{kqueues_never_fall, plain_never_falls, rows_again}
+use Rattle.kq_run.proofs.projecting.rows_of.Goals as goal
+
+pub merge-requires-clause-kqueues : goal.merge-requires-clause-kqueues
+merge-requires-clause-kqueues g c =
+    kqueues_never_fall c.in_ok-split.split c.in-Ok.kqueues.items c.in-Ok.ensures.ok
+
+pub merge-requires-clause-plain : goal.merge-requires-clause-plain
+merge-requires-clause-plain g c =
+    let are : c.plain_rows.result.now ≡ plain_rows_of c.in_ok-split.split = search rules in
+    subst NeverFall (sym are) (plain_never_falls c.in_ok-split.split c.in-Ok.kqueues.items c.in-Ok.ensures.ok)
+
+pub returns-clause-rows : goal.returns-clause-rows
+returns-clause-rows g c =
+    let split = c.in_ok-split.split in
+    let kqueues = c.in-Ok.kqueues.items in
+    let merged = c.in_ok-merge.field-0.items in
+    let are : c.plain_rows.result.now ≡ plain_rows_of split = search rules in
+    let only = subst (λ (plain : List Row). IsOnlyOrder (rows_in kqueues plain) merged) are c.in_ok-merge.ensures.only in
+    rows_again split kqueues merged c.in-Ok.ensures.ok only ∙ ap (λ (t : Traced). rows t.version t.events) c.in_ok-split.ensures
+
+pub returns-in_err-merge-clause-fault : goal.returns-in_err-merge-clause-fault
+returns-in_err-merge-clause-fault g c =
+    let trace = c.args.trace.now in
+    error_passed c.from_residual-in_err-merge.result Memory (IsReplayFault trace.version trace.events c.args.workers) c.from_residual-in_err-merge.ensures.1 tt
