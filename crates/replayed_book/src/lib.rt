@@ -6,9 +6,6 @@
 ghost use Rattle.std.specs.Prelude.{◌≡◌, ◌<◌, ◌⊎◌, IfErr, IfOk};
 ghost use Rattle.kq_model.specs.System.{rows};
 
-#[cfg(test)]
-mod tests;
-
 use kq_gate::Open;
 use kq_history::Split;
 use kq_live::Book;
