@@ -1,5 +1,5 @@
 -- What writing leaves, and the faults, by the bytes that a reader had.
-use Rattle.std.proofs.Common.{◌≡◌, ◌++◌, ℕ, List, Option, Result, Ok, Err, IfErr, inr, subst}
+use Rattle.std.proofs.Common.{◌≡◌, ◌++◌, ℕ, List, Option, Result, Ok, Err, IfErr, inl, inr, subst}
 use Rattle.std.specs.Prelude.{OnErr}
 use Rattle.std.specs.Io.KnownBytes.{Appends}
 use Rattle.kq_run.specs.Living.{IsLiveFault}
@@ -40,3 +40,10 @@ pub bytes_left : (A : List ℕ → Type 0) (F : Fault → Type 0) (r : Result (U
     → IfErr r (λ f. f ≡ Write) → IfErr r (λ f. Leaves A F f before after)
 bytes_left A F (Ok x) before after bytes is part fault = tt
 bytes_left A F (Err f) before after bytes is (done, rest, cut, appended) fault = inr (fault, (done, rest, subst A cut is, appended))
+
+-- a text that is one of these, too, and a fault
+pub leaves_as : (A B : List ℕ → Type 0) (F G : Fault → Type 0) (before after : Option (List ℕ)) → ((text : List ℕ) → A text → B text)
+    → ((fault : Fault) → F fault → G fault) → (fault : Fault) → Leaves A F fault before after → Leaves B G fault before after
+leaves_as A B F G before after as_other as_fault fault (inl (is, keeps)) = inl (as_fault fault is, keeps)
+leaves_as A B F G before after as_other as_fault fault (inr (is, (done, rest, text, appended))) =
+    inr (is, (done, rest, as_other (done ++ rest) text, appended))

@@ -7,10 +7,9 @@ use Rattle.kq_run.specs.Living.{IsLiveFault, IsLiveReport}
 use Rattle.kq_run.specs.Replay.{Had, IsInputFault, IsReportIn}
 use Rattle.kq_run.specs.Workers.{IsThreadCount}
 use Rattle.kq_run.specs.Written.{Leaves}
-use Rattle.kq_run.proofs.WrittenTexts.{leaves_as}
 use Rattle.kqsim.specs.Run.{IsInRange, IsReaderFault, IsReaderOutput, most_bytes}
 use Rattle.kqsim.specs.declared.order.Order.TheVariants as order
-use Rattle.kqsim.proofs.Outputs.{bytes_left, input_fault_given, live_fault_given}
+use Rattle.kqsim.proofs.Outputs.{bytes_left, input_fault_given, leaves_as, live_fault_given}
 use Rattle.kqsim.proofs.running.write_output.Goals as goal
 
 pub returns-in-Replay-clause-fault : goal.returns-in-Replay-clause-fault
