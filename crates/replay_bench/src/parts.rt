@@ -14,8 +14,8 @@ use std::sync::Wait;
 use std::thread::Threads;
 use std::time::{Clock, CpuClock};
 
-/// Reads the trace, splits it, replays each of its kqueues alone by so many workers, puts their rows in order and writes
-/// the report.
+/// Reads the trace, splits it, replays each of its kqueues alone by so many workers, puts their rows in order and
+/// writes the report.
 pub fn parts<R: AllocGlobal + Clock + CpuClock + Threads + Wait + Sync, O: Write, W: Write>(
     rt: &R,
     bytes: &[u8],
