@@ -22,6 +22,7 @@ impl Objects {
     }
 
     /// The same, and gives whom the plan tells. Takes no memory.
+    #[inline(always)]
     pub fn commit_and_tell(&mut self, plan: Plan) -> Vec<(Target, Hint)>
         requires { IsReady plan.doings self.old }
         ensures done { objects_of self.new ≡ all_done plan.doings (objects_of self.old) }
@@ -33,6 +34,7 @@ impl Objects {
     }
 
     #[tactic(auto, unfolding(kq_model::specs::Objects::all_done))]
+    #[inline(always)]
     fn note_in_turn(&mut self, first: Option<Doing>, rest: &[Doing])
         requires { IsReady (in_turn first rest.now) self.old }
         ensures { objects_of self.new ≡ all_done (in_turn first rest.now) (objects_of self.old) }

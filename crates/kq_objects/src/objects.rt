@@ -41,6 +41,7 @@ impl Objects {
     /// What a filter sees of a target: nothing of what was not made yet, of a socket, a pipe or a
     /// description whose last descriptor was closed, and of what is not an object.
     #[tactic(auto, unfolding(kq_model::specs::Objects::view_of, kq_model::specs::Objects::description_view))]
+    #[inline(always)]
     pub fn view(&self, target: Target) -> Option<View>
         ensures { result ≡ view_of target (objects_of self.now) }
     {

@@ -151,6 +151,7 @@ impl Object for Socket {
 impl Socket {
     /// What a filter sees of it.
     #[tactic(auto, unfolding(kq_model::specs::Sockets::socket_view))]
+    #[inline(always)]
     pub fn view(&self) -> View
         ensures { result ≡ socket_view self.now }
     {

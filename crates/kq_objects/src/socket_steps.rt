@@ -41,6 +41,7 @@ impl Socket {
     }
 
     /// How many more bytes fit into the send buffer.
+    #[inline(always)]
     pub fn space(&self) -> i64
         ensures exact { result ≡ socket_space self.now }
         ensures small { (result +ℤ self.now.unsent) <ℤ pos (2 ^ 32) }

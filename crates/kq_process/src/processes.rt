@@ -89,6 +89,7 @@ impl Processes {
     }
 
     /// What an open descriptor of a live process names. NoProcess; NoDescriptor: the number is not open.
+    #[inline(always)]
     pub fn on(&self, pid: u32, number: u32) -> Result<Named, Why>
         ensures planned { (planned : NamedObject → Planned) (o : Objects counted) (now : ℕ) →
             on_descriptor pid number planned (world_with self.now o now) ≡ planned_on planned result }

@@ -9,6 +9,7 @@ impl Views for World {
     ghost sees = { λ w. views_of (world_of w) };
 
     #[tactic(auto, unfolding(kq_model::specs::World::views_of))]
+    #[inline(always)]
     fn view(&self, target: Target) -> Option<View> {
         World::view(self, target)
     }

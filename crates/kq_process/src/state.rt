@@ -45,6 +45,7 @@ impl State {
 
     /// What a record's descriptor names, or NoProcess or NoDescriptor.
     #[tactic(auto, unfolding(kq_model::specs::World::named_by))]
+    #[inline(always)]
     pub fn on(&self, pid: u32, fd: u32) -> Result<Named, Why>
         ensures planned { (planned : NamedObject → Planned) →
             on_descriptor pid fd planned (state_of self.now) ≡ planned_on planned result }

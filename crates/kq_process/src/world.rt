@@ -116,6 +116,7 @@ impl World {
     /// What a filter sees of a target. A process keeps its view once it has exited; a signal and a
     /// knote's own target have none.
     #[tactic(auto, unfolding(kq_model::specs::World::view_in))]
+    #[inline(always)]
     pub fn view(&self, target: Target) -> Option<View>
         ensures { result ≡ view_in (world_of self.now) target }
     {
