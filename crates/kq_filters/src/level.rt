@@ -68,6 +68,7 @@ fn pipe_mark(cap: i64) -> i64
 /// EVFILT_READ: connections that wait, bytes from the mark on, or what a file has behind the
 /// offset.
 #[tactic(auto, unfolding(kq_model::specs::Look::read_seen))]
+#[inline(always)]
 pub fn look_read(knote: &Knote, view: &Option<View>) -> Option<Seen>
     ensures { result ≡ read_seen (mark_of knote.now) view.now }
 {
@@ -96,6 +97,7 @@ pub fn look_read(knote: &Knote, view: &Option<View>) -> Option<Seen>
 
 /// EVFILT_WRITE: space from the mark on. A listening socket is never ready.
 #[tactic(auto, unfolding(kq_model::specs::Look::write_seen))]
+#[inline(always)]
 pub fn look_write(knote: &Knote, view: &Option<View>) -> Option<Seen>
     ensures { result ≡ write_seen (mark_of knote.now) view.now }
 {

@@ -1,11 +1,13 @@
 -- The turns make up the retrieval.
-use Rattle.std.proofs.Common.{◌≡◌, ℕ, suc, ◌+◌, ◌-◌, ◌≤◌, Bool, false, cond, List, [], ◌∷◌, ◌++◌, length, take, drop, Option, Some, None, refl, sym, ap, ◌∙◌, subst, arith}
+use Rattle.std.proofs.Common.{◌≡◌, ℕ, suc, ◌+◌, ◌-◌, ◌≤◌, Bool, true, false, not, cond, ◌||◌, List, [], ◌∷◌, ◌++◌, length, slice_get, take, drop, Option, Some, None, refl, sym, ap, ◌∙◌, subst, arith}
+use Rattle.std.proofs.lemmas.Bool.{or_parts, or_from}
+use Rattle.std.proofs.lemmas.Option.{same_Some}
 use Rattle.std.proofs.lemmas.List.{append_assoc, take_all, drop_all, take-append-drop, take-append-le, drop-append-le, append-nil, length_push}
 use Rattle.kq_model.specs.declared.kevent.Kevent.{Kevent}
 use Rattle.kq_model.specs.declared.key.Key.{Key}
-use Rattle.kq_model.specs.Knote.{find_knote}
+use Rattle.kq_model.specs.Knote.{find_knote, with_knote, without_knote}
 use Rattle.kq_model.specs.Look.{Seen, look}
-use Rattle.kq_model.specs.Retrieval.{event_of, stays, back_after, with_idle, without_notice, with_notice_told, settled, with_delivered, turned_at_look, turned_at, turned, delivered, after_turn, retrieve, retrieval}
+use Rattle.kq_model.specs.Retrieval.{event_of, rested, stays, knotes_after, back_after, with_idle, without_notice, with_notice_told, settled, with_delivered, turned_at_look, turned_at, turned, delivered, after_turn, retrieve, retrieval}
 use Rattle.kq_model.specs.Tallied.{Knote, Kqueue, Retrieved, Turned}
 use Rattle.kq_model.specs.Views.{Views}
 use Rattle.kq_model.proofs.KnoteLaws.{by_test}
@@ -43,6 +45,27 @@ length-with_told k kq (Some seen) = length-with_knote k kq.knotes
 
 abbrev pushed : Knote → List Key → Bool → List Key
 pushed k q b = cond b (q ++ k.key ∷ []) q
+
+-- the key at the front is the first of the queue
+pub front-key : (queue : List Key) (front key : Key) (rest : List Key) → slice_get queue 0 ≡ Some front → queue ≡ key ∷ rest → front ≡ key
+front-key queue front key rest first is = sym (same_Some key front (ap (λ (q : List Key). slice_get q 0) (sym is) ∙ first))
+
+-- a knote that has no notice, and stays as it is, has its key taken to the back
+pub delivered-level : (views : Views) (k : Knote) (ks : List Knote) (rest : List Key) → stays k ≡ true → k.notice ≡ None
+    → with_delivered views k (kqueue_of ks rest) ≡ kqueue_of ks (rest ++ k.key ∷ [])
+unfolding settled knotes_after back_after stays
+delivered-level views k ks rest level none =
+    let all = sym (not-not (k.oneshot || k.clear || k.dispatch)) ∙ ap not level in
+    let two = or_parts (k.oneshot || k.clear) k.dispatch all in
+    let one = or_parts k.oneshot k.clear two.0 in
+    ap (settled views k (kqueue_of ks rest)) none
+    ∙ ap (λ b. kqueue_of (cond b (without_knote k.key ks) (cond (k.clear || k.dispatch) (with_knote (rested k) ks) ks)) (back_after k rest)) one.0
+    ∙ ap (λ b. kqueue_of (cond b (with_knote (rested k) ks) ks) (back_after k rest)) (or_from k.clear k.dispatch one.1 two.1)
+    ∙ ap (λ b. kqueue_of ks (pushed k rest b)) level
+  where
+    not-not : (b : Bool) → not (not b) ≡ b
+    not-not true = refl
+    not-not false = refl
 
 take-back_after : (k : Knote) (n : ℕ) (q : List Key) → n ≤ length q → take n (back_after k q) ≡ take n q
 unfolding back_after

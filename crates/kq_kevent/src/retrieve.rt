@@ -1,14 +1,16 @@
-ghost use Rattle.std.specs.Prelude.{◌≡◌, ◌+◌, ◌<◌, ◌≤◌, ◌∷◌, ◌++◌, List, [], Some, false, true, is_some, length, min};
+ghost use Rattle.std.specs.Prelude.{◌≡◌, ◌+◌, ◌<◌, ◌≤◌, ◌∷◌, ◌++◌, List, [], Some, false, true, is_some, length, min, None};
 ghost use Rattle.std.specs.Vec.{vec_capacity};
 ghost use Rattle.kq_model.specs.Knote.{has_key, find_knote};
 ghost use Rattle.kq_model.specs.Look.{look};
 ghost use Rattle.kq_model.specs.Retrieval.{knotes_after, back_after, without_notice, with_notice_told};
-ghost use Rattle.kq_model.specs.Retrieval.{with_delivered, turned, retrieval};
+ghost use Rattle.kq_model.specs.Retrieval.{with_delivered, turned, retrieval, stays};
+ghost use Rattle.kq_model.specs.Tallied.{Knote as Tallied};
 ghost use Rattle.kq_model.specs.declared.key.Key.{Key};
 ghost use Rattle.kq_kevent.specs.Owned.{kqueue_in, limit};
 
 use crate::Kq;
 use crate::look::{event_of, look_in};
+use kq_filters::Seen;
 use kq_knote::{Knote, Knotes};
 use kq_model::{Kevent, Key, Views};
 use kq_table::{Place, Placed};
@@ -84,11 +86,51 @@ fn deliver<V: Views>(knotes: &mut Knotes, delivered: &Placed<Knote>, views: &V)
     }
 }
 
+/// Whether a knote that is delivered stays as it is: it has no notice, and neither ONESHOT nor CLEAR nor DISPATCH.
+#[tactic(auto, unfolding(kq_model::specs::Retrieval::stays))]
+#[inline(always)]
+fn stays(knote: &Knote) -> bool
+    ensures level { result ≡ true → stays knote.now ≡ true }
+    ensures told { result ≡ true → knote.now.notice ≡ None }
+{
+    !(knote.oneshot || knote.clear || knote.dispatch) && knote.notice.is_none()
+}
+
 impl Kq {
-    /// Takes the key at the front out of the queue and looks at its knote: an event is delivered
-    /// where the condition still holds, else the knote becomes inactive.
+    /// Looks at the knote whose key is at the front of the queue: an event is delivered where the condition still
+    /// holds, else the knote becomes inactive. A knote that stays as it is has only its key taken to the back.
+    #[inline(always)]
     fn turn<V: Views>(&mut self, views: &V) -> Option<Kevent>
         requires { 0 < length self.old.kq.queue }
+        ensures kq { (key : Key) (rest : List Key) → self.old.kq.queue ≡ key ∷ rest
+            → self.new.kq ≡ (turned (V.sees views.now) key (record self.old.kq { queue = rest })).kq }
+        ensures event { (key : Key) (rest : List Key) → self.old.kq.queue ≡ key ∷ rest
+            → result ≡ (turned (V.sees views.now) key (record self.old.kq { queue = rest })).event }
+        ensures owner { self.new.owner ≡ self.old.owner }
+        ensures version { self.new.version ≡ self.old.version }
+        ensures room { self.old.room ≤ self.new.room }
+        ensures limit { limit self.new ≡ limit self.old }
+    {
+        let Some(front) = self.knotes.look_front() else {
+            unreachable!();
+        };
+        let found = look_in(views, front);
+        if let Some(seen) = found
+            && stays(front)
+        {
+            let event = event_of(front, seen);
+            self.knotes.turn();
+            return Some(event);
+        }
+        self.turn_out(views, found)
+    }
+
+    /// The same, where this is what the knote sees. The key is taken out of the queue, and the knote with it.
+    #[inline(never)]
+    fn turn_out<V: Views>(&mut self, views: &V, seen: Option<Seen>) -> Option<Kevent>
+        requires some { 0 < length self.old.kq.queue }
+        requires seen { (knote : Tallied) (rest : List Key) → self.old.kq.queue ≡ knote.key ∷ rest
+            → find_knote knote.key self.old.kq.knotes ≡ Some knote → look (V.sees views.now) knote ≡ seen }
         ensures kq { (key : Key) (rest : List Key) → self.old.kq.queue ≡ key ∷ rest
             → self.new.kq ≡ (turned (V.sees views.now) key (record self.old.kq { queue = rest })).kq }
         ensures event { (key : Key) (rest : List Key) → self.old.kq.queue ≡ key ∷ rest
@@ -101,7 +143,7 @@ impl Kq {
         let Some(found) = self.knotes.take_front() else {
             unreachable!();
         };
-        match look_in(views, &found.row) {
+        match seen {
             None => {
                 let mut idle = found.row;
                 idle.active = false;

@@ -78,3 +78,10 @@ pub taken-knote : (o : Option (Placed Knote)) (before after : List Key) (ks : Li
     → MatchOption o (IsEmptied before after) (λ (p : Placed Knote). (before ≡ p.row.key ∷ after) × (find_knote p.row.key ks ≡ Some p.row))
 taken-knote None before after ks fact = fact
 taken-knote (Some p) before after ks fact = (fact.0, sym (find_row-knotes p.row.key ks) ∙ fact.1)
+
+-- the knote whose key is at the front
+pub front-knote : (o : Option Knote) (queue : List Key) (ks : List Knote)
+    → MatchOption o (queue ≡ []) (λ (k : Knote). (slice_get queue 0 ≡ Some k.key) × (find_row same key_of k.key ks ≡ Some k))
+    → MatchOption o (queue ≡ []) (λ (k : Knote). (slice_get queue 0 ≡ Some k.key) × (find_knote k.key ks ≡ Some k))
+front-knote None queue ks fact = fact
+front-knote (Some k) queue ks fact = (fact.0, sym (find_row-knotes k.key ks) ∙ fact.1)

@@ -9,27 +9,19 @@ use kq_table::{Keyed, number_of};
 use std::marker::Model;
 
 /// What a kqueue keeps of one registered kevent (kqueue(2)).
-// Fields lie in memory in the order of the source, so the wide ones stand first: there may be many knotes.
+// Fields lie in memory in the order of the source, and there may be many knotes: what each look reads stands first.
 #[derive(Debug, Drop, Clone, Copy)]
 pub struct Knote {
     /// Which knote of its kqueue it is.
     pub key: Key,
     /// What is watched; none where the change named nothing that is there.
     pub target: Option<Target>,
-    /// What was heard since the last reset.
-    pub tally: Tally,
     /// The filter's own number, of the last change that set it.
     pub datum: i64,
     /// The caller's own, of the last change.
     pub udata: u64,
-    /// Of a timer, the moment at which it was started, in nanoseconds.
-    pub start: u64,
-    /// Of a timer, in nanoseconds.
-    pub period: u64,
     /// The filter's own flags, of the last change that set them.
     pub fflags: u32,
-    /// Of a user event, its low 24 bits.
-    pub bits: u32,
     /// Of a process that is followed from its parent: that one's pid, until this was told.
     pub notice: Option<u32>,
     /// Of a user event: triggered since it was reset.
@@ -44,6 +36,14 @@ pub struct Knote {
     pub enabled: bool,
     /// Its condition was seen to hold, and nothing has taken that back.
     pub active: bool,
+    /// Of a user event, its low 24 bits.
+    pub bits: u32,
+    /// What was heard since the last reset.
+    pub tally: Tally,
+    /// Of a timer, the moment at which it was started, in nanoseconds.
+    pub start: u64,
+    /// Of a timer, in nanoseconds.
+    pub period: u64,
 }
 
 impl Model for Knote {

@@ -1,7 +1,8 @@
 ghost use Rattle.std.specs.Prelude.{◌≡◌, ◌∷◌, [], Some, length, slice_get, MatchOption, if◌then◌else◌};
 ghost use Rattle.std.specs.Prelude.{is_some};
+ghost use Rattle.std.specs.Option.{option_copied};
 ghost use Rattle.kq_model.specs.Knote.{key_eq, find_knote, has_key, queued, without_key};
-ghost use Rattle.kq_table.specs.Rows.{key_behind};
+ghost use Rattle.kq_table.specs.Rows.{key_behind, turned};
 
 use crate::{Knote, Knotes};
 use kq_model::Key;
@@ -56,6 +57,25 @@ impl Knotes {
         ensures { result ≡ key_behind key_eq key self.now.queue }
     {
         self.rows.behind(key)
+    }
+
+    /// The knote whose key is at the front, without a copy.
+    #[inline(always)]
+    pub fn look_front(&self) -> Option<&Knote>
+        ensures { MatchOption (option_copied result) (self.now.queue ≡ [])
+            (λ knote. (slice_get self.now.queue 0 ≡ Some knote.key)
+            × (find_knote knote.key self.now.knotes ≡ Some knote)) }
+    {
+        self.rows.look_front()
+    }
+
+    /// Takes the key at the front to the back.
+    pub fn turn(&mut self)
+        ensures queue { self.new.queue ≡ turned self.old.queue }
+        ensures knotes { self.new.knotes ≡ self.old.knotes }
+        ensures room { self.new.room ≡ self.old.room }
+    {
+        self.rows.turn();
     }
 
     /// Takes out the key at the front, and gives its knote with its place.

@@ -1,10 +1,10 @@
 -- Keys in a queue are the keys of rows: what is found among the rows is found among the keys.
-use Rattle.std.proofs.Common.{◌≡◌, Bool, true, false, cond, ◌||◌, not, List, [], ◌∷◌, ◌++◌, map, Some, None, is_some, slice_get, refl, sym, ap, ◌∙◌}
+use Rattle.std.proofs.Common.{◌≡◌, Bool, true, false, cond, ◌||◌, not, List, [], ◌∷◌, ◌++◌, map, Some, None, is_some, slice_get, refl, sym, ap, ◌∙◌, subst}
 use Rattle.std.proofs.lemmas.Bool.{or_parts, not_from_true, not_from_false}
 use Rattle.std.proofs.lemmas.Option.{none-some, same_Some, slice_get-map}
 use Rattle.std.specs.Cmp.{IsEquivalence}
 use Rattle.std.specs.Option.{option_map}
-use Rattle.kq_table.specs.Rows.{find_row, row_after, without_row, HaveOwnKeys, waits_in, enqueued, put_in, without_waiting, key_behind, AreOnce}
+use Rattle.kq_table.specs.Rows.{find_row, row_after, without_row, HaveOwnKeys, waits_in, enqueued, put_in, without_waiting, key_behind, turned, AreOnce, HaveRows}
 use Rattle.kq_table.proofs.RowLaws.{by_test, find_row-none, find_row-cons}
 
 module _ {K T : Type 0} (same : K → K → Bool) (key_of : T → K) where
@@ -67,3 +67,21 @@ module _ {K T : Type 0} (same : K → K → Bool) (key_of : T → K) (key : K) (
 
   pub put_in-new : (row : T) → find_row same key_of key rows ≡ Some row → waits_in same key queue ≡ false → put_in same key_of key rows queue ≡ queue ++ key ∷ []
   put_in-new row found waits = ap (λ o. cond (is_some o) (enqueued same key queue) queue) found ∙ ap (λ b. cond b queue (queue ++ key ∷ [])) waits
+
+module _ {K T : Type 0} (same : K → K → Bool) (laws : IsEquivalence same) (key_of : T → K) (key : K) (rows : List T) where
+  turned-cons : (rest : List K) → AreOnce same (key ∷ rest) → HaveRows same key_of (key ∷ rest) rows
+      → put_in same key_of key rows (without_waiting same key (key ∷ rest)) ≡ turned (key ∷ rest)
+  unfolding turned
+  turned-cons rest once have =
+      let some = have key (ap (λ b. b || waits_in same key rest) (laws.refl key)) in
+      ap (put_in same key_of key rows) (without_waiting-front same laws key rest once)
+      ∙ ap (λ b. cond b (enqueued same key rest) rest) some
+      ∙ ap (λ b. cond b rest (rest ++ key ∷ [])) once.0
+
+  -- the key at the front, taken out and put in again, stands at the back
+  pub turned-front : (queue : List K) → slice_get queue 0 ≡ Some key → AreOnce same queue → HaveRows same key_of queue rows
+      → put_in same key_of key rows (without_waiting same key queue) ≡ turned queue
+  turned-front queue first =
+      let front = front-of queue key first in
+      subst (λ (q : List K). AreOnce same q → HaveRows same key_of q rows → put_in same key_of key rows (without_waiting same key q) ≡ turned q)
+      (sym front.1) (turned-cons front.0)

@@ -1,5 +1,5 @@
 -- Who watches a target, and who watches the same target next behind a key.
-use Rattle.std.proofs.Common.{◌≡◌, ℕ, ◌+◌, ◌≤◌, Bool, true, cond, eqb, List, [], ◌∷◌, ◌++◌, map, length, Option, Some, None, slice_get, is_some, sym, ap, ◌∙◌, subst, arith}
+use Rattle.std.proofs.Common.{◌≡◌, ℕ, ◌+◌, ◌≤◌, Bool, true, cond, eqb, List, [], ◌∷◌, ◌++◌, map, length, Option, Some, None, MatchOption, slice_get, is_some, sym, ap, ◌∙◌, subst, arith}
 use Rattle.std.proofs.lemmas.Bool.{false≢true, or_right}
 use Rattle.std.proofs.lemmas.Option.{none-some, same_Some, slice_get-map}
 use Rattle.std.specs.HashMap.{HashMap, get as found}
@@ -15,7 +15,8 @@ use Rattle.kq_table.specs.Threads.{is_in, AreDistinct, AreLinked, head_or, last_
 use Rattle.kq_table.specs.Kept.{ends_of, watches, watching, AreApart, AreLed, IsLeading, IsLone, HasNoRow, StandsAt}
 use Rattle.kq_table.proofs.AlongLaws.{IsAlong, keys-watching, along-more, along-there, along-end}
 use Rattle.kq_table.proofs.EnterLaws.{in_watching}
-use Rattle.kq_table.proofs.KeptLaws.{IsSeen, first-at, filled, apart, there, missed-row, stands-row}
+use Rattle.kq_table.proofs.KeptLaws.{IsSeen, first-at, first-waiting, filled, apart, there, missed-row, stands-row}
+use Rattle.kq_table.proofs.QueueLaws.{none-of}
 use Rattle.kq_table.proofs.SeatLaws.{AreFilled, parted, find_row-parted, rows_behind-parted}
 use Rattle.kq_table.proofs.ThreadLaws.{at_split, last-named, in_right, AreLinked-between, IsThread-at}
 use Rattle.kq_table.proofs.WithoutLaws.{filter-append, in_filter-from}
@@ -36,6 +37,12 @@ module _ {K T G S R : Type 0} {same : K → K → Bool} {alike : G → G → Boo
   pub row-found : (o : Option ℕ) (row : T) → option_and_then (rows_in nodes) o ≡ Some row → find_row same key_of (key_of row) v.rows ≡ Some row
   row-found None row none = absurd (none-some row none)
   row-found (Some slot) row here = stands-row table (record { row = row; here = here; is = table.laws.refl (key_of row) })
+
+  -- the row of the key at the front of the queue
+  pub front-row : (o : Option T) → o ≡ option_and_then (rows_in nodes) queue.first
+      → MatchOption o (v.queue ≡ []) (λ row. (slice_get v.queue 0 ≡ Some (key_of row)) × (find_row same key_of (key_of row) v.rows ≡ Some row))
+  front-row None none = none-of v.queue (sym (first-waiting table) ∙ ap (option_map key_of) (sym none))
+  front-row (Some row) here = (sym (first-waiting table) ∙ ap (option_map key_of) (sym here), row-found queue.first row (sym here))
 
   module _ (target : G) where
     abbrev slots : List ℕ

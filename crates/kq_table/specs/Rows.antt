@@ -49,6 +49,11 @@ module _ {K T : Type 0} (same : K → K → Bool) (key_of : T → K) where
 
 -- ---- the queue
 
+-- the key at the front goes to the back
+unfoldable pub turned : {K : Type 0} → List K → List K
+turned [] = []
+turned (key ∷ queue) = queue ++ key ∷ []
+
 module _ {K : Type 0} (same : K → K → Bool) where
   -- the key is in the queue
   abbrev pub waits_in : K → List K → Bool

@@ -8,6 +8,7 @@ use crate::nodes::{links_at, put_links};
 use slab::Slab;
 
 /// Links a slot, where one is named and in the thread, with another one behind it.
+#[inline(always)]
 fn set_after<T: Copy>(
     nodes: &mut Slab<Node<T>>,
     thread: Thread,
@@ -26,6 +27,7 @@ fn set_after<T: Copy>(
 }
 
 /// Links a slot, where one is named and in the thread, with another one before it.
+#[inline(always)]
 fn set_before<T: Copy>(
     nodes: &mut Slab<Node<T>>,
     thread: Thread,
@@ -44,6 +46,7 @@ fn set_before<T: Copy>(
 }
 
 /// Links a slot behind the last one.
+#[inline(always)]
 pub(crate) fn link_last<T: Copy>(
     nodes: &mut Slab<Node<T>>,
     thread: Thread,
@@ -73,6 +76,7 @@ pub(crate) fn link_last<T: Copy>(
 }
 
 /// Makes two slots neighbours; None is what is beyond the ends.
+#[inline(always)]
 fn join<T: Copy>(
     nodes: &mut Slab<Node<T>>,
     thread: Thread,
@@ -95,6 +99,7 @@ fn join<T: Copy>(
 }
 
 /// Makes the neighbours of a slot neighbours of each other.
+#[inline(always)]
 pub(crate) fn unlink<T: Copy>(
     nodes: &mut Slab<Node<T>>,
     thread: Thread,

@@ -34,16 +34,17 @@ pub enum Thread {
 }
 
 /// A row with its links.
+// Fields lie in memory in the order of the source: what a turn of the queue reads stands side by side.
 #[derive(Drop)]
 pub struct Node<T> {
+    /// None where its key is not in the queue.
+    pub(crate) queue: Option<Links>,
     pub(crate) row: T,
+    /// Nothing where the row watches nothing that others watch.
+    pub(crate) watch: Links,
     /// It rises in the order of attachment.
     pub(crate) born: u64,
     pub(crate) order: Links,
-    /// Nothing where the row watches nothing that others watch.
-    pub(crate) watch: Links,
-    /// None where its key is not in the queue.
-    pub(crate) queue: Option<Links>,
 }
 
 /// No slots before and behind.

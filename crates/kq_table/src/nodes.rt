@@ -58,6 +58,7 @@ pub(crate) fn seen_at<T: Copy>(nodes: &Slab<Node<T>>, slot: Option<usize>) -> Op
 }
 
 /// The links at a slot.
+#[inline(always)]
 pub(crate) fn links_at<T: Copy>(nodes: &Slab<Node<T>>, thread: Thread, slot: usize) -> Option<Links>
     ensures { result ≡ links_in thread nodes.now slot }
 {
@@ -82,6 +83,7 @@ pub(crate) fn slot_behind<T: Copy>(
 }
 
 /// Gives the node at a slot these links.
+#[inline(always)]
 pub(crate) fn put_links<T: Copy>(
     nodes: &mut Slab<Node<T>>,
     thread: Thread,
@@ -96,6 +98,7 @@ pub(crate) fn put_links<T: Copy>(
 }
 
 /// Takes the node at a slot out of the queue, whose neighbours are no longer linked with it.
+#[inline(always)]
 pub(crate) fn leave_queue<T: Copy>(nodes: &mut Slab<Node<T>>, slot: usize)
     requires { IsSome (get nodes.old slot) }
     ensures links { links_in Queue nodes.new ≡ written slot None (links_in Queue nodes.old) }

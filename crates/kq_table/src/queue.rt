@@ -1,12 +1,13 @@
 ghost use Rattle.std.specs.Prelude.{◌≡◌, ◌∷◌, [], Some, MatchOption};
 ghost use Rattle.std.specs.Prelude.{length, slice_get};
+ghost use Rattle.std.specs.Option.{option_copied};
 ghost use Rattle.kq_table.specs.Rows.{find_row, key_behind, put_in, waits_in, without_waiting, AreOnce};
-ghost use Rattle.kq_table.specs.Rows.{HaveOwnKeys, HaveRows};
+ghost use Rattle.kq_table.specs.Rows.{turned, HaveOwnKeys, HaveRows};
 
 use crate::Keyed;
 use crate::find::{key_at, near, placed_at};
 use crate::node::Thread;
-use crate::nodes::{links_at, slot_behind};
+use crate::nodes::{links_at, seen_at, slot_behind};
 use crate::placed::{Place, Placed};
 use crate::table::Table;
 use crate::waiting::{dequeue, enqueue};
@@ -53,6 +54,7 @@ impl<T: Keyed> Table<T> {
 
     /// Puts a key that has a row at the back of the queue, where it is not in it. Where its row stands
     /// at the guessed place, it is not looked up.
+    #[inline(always)]
     pub fn put_in_at(&mut self, guess: Place, key: T::Key)
         ensures rows { self.new.rows ≡ self.old.rows }
         ensures queue { self.new.queue ≡ put_in T.Key.eq T.key_of key self.old.rows self.old.queue }
@@ -69,6 +71,7 @@ impl<T: Keyed> Table<T> {
 
     /// Takes a key out of the queue, where it is in it. Where its row stands at the guessed place, it is
     /// not looked up.
+    #[inline(always)]
     pub fn take_out_at(&mut self, guess: Place, key: T::Key)
         ensures rows { self.new.rows ≡ self.old.rows }
         ensures queue { self.new.queue ≡ without_waiting T.Key.eq key self.old.queue }
@@ -78,6 +81,38 @@ impl<T: Keyed> Table<T> {
             return;
         };
         dequeue(&mut self.nodes, &mut self.queue, &mut self.waiting, slot);
+    }
+
+    /// The row of the key at the front of the queue, without a copy.
+    #[inline(always)]
+    pub fn look_front(&self) -> Option<&T>
+        ensures { MatchOption (option_copied result) (self.now.queue ≡ [])
+            (λ row. (slice_get self.now.queue 0 ≡ Some (T.key_of row))
+            × (find_row T.Key.eq T.key_of (T.key_of row) self.now.rows ≡ Some row)) }
+    {
+        seen_at(&self.nodes, self.queue.first)
+    }
+
+    /// A guess of where the row of the key at the front of the queue stands.
+    fn guess_front(&self) -> Place {
+        match self.queue.first {
+            Some(slot) => Place { slot },
+            None => Place::nowhere(),
+        }
+    }
+
+    /// Takes the key at the front of the queue to its back.
+    pub fn turn(&mut self)
+        ensures rows { self.new.rows ≡ self.old.rows }
+        ensures queue { self.new.queue ≡ turned self.old.queue }
+        ensures room { self.new.room ≡ self.old.room }
+    {
+        let guess = self.guess_front();
+        let Some(key) = self.front() else {
+            return;
+        };
+        self.take_out_at(guess, key);
+        self.put_in_at(guess, key);
     }
 
     /// Takes the key at the front out of the queue, and gives its row.

@@ -9,6 +9,7 @@ use crate::nodes::{leave_queue, links_at};
 use slab::Slab;
 
 /// Puts a slot at the back of the queue, where it is not in it.
+#[inline(always)]
 pub(crate) fn enqueue<T: Copy>(
     nodes: &mut Slab<Node<T>>,
     queue: &mut Ends,
@@ -27,6 +28,7 @@ pub(crate) fn enqueue<T: Copy>(
 }
 
 /// Takes a slot out of the queue, where it is in it.
+#[inline(always)]
 pub(crate) fn dequeue<T: Copy>(
     nodes: &mut Slab<Node<T>>,
     queue: &mut Ends,
