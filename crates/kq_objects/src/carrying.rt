@@ -7,10 +7,11 @@ ghost use Rattle.kq_objects.specs.Plans.{in_turn};
 
 use crate::Plan;
 use crate::objects::Objects;
-use kq_model::{Doing, Hint, Target};
+use kq_model::Doing;
 
 impl Objects {
     /// Carries out a plan that was made for the objects as they are. Takes no memory.
+    #[inline(always)]
     pub fn commit(&mut self, plan: Plan)
         requires { IsReady plan.doings self.old }
         ensures done { objects_of self.new ≡ all_done plan.doings (objects_of self.old) }
@@ -18,19 +19,7 @@ impl Objects {
         ensures model { (m : Kept listed) → objects_of self.old ≡ quantities m
             → objects_of self.new ≡ quantities (all_done plan.doings m) }
     {
-        let _ = self.commit_and_tell(plan);
-    }
-
-    /// The same, and gives whom the plan tells. Takes no memory.
-    #[inline(always)]
-    pub fn commit_and_tell(&mut self, plan: Plan) -> Vec<(Target, Hint)>
-        requires { IsReady plan.doings self.old }
-        ensures done { objects_of self.new ≡ all_done plan.doings (objects_of self.old) }
-        ensures hints { result.items ≡ plan.hints }
-    {
-        let Plan { first, rest, hints } = plan;
-        self.note_in_turn(first, &rest);
-        hints
+        self.note_in_turn(plan.first, &plan.rest);
     }
 
     #[tactic(auto, unfolding(kq_model::specs::Objects::all_done))]

@@ -42,7 +42,7 @@ impl Objects {
             place,
             told: DescriptionRecord::Sought { offset },
         };
-        Ok(Plan::of_one(self.alloc, doing, Target::Open(place), Some(Hint::Readable))?)
+        Ok(Plan::of_one(self.alloc, doing, Target::Open(place), Some(Hint::Readable)))
     }
 
     #[tactic(auto, unfolding(crate::proofs::Unfolded::reading))]
@@ -67,7 +67,7 @@ impl Objects {
             told: DescriptionRecord::Moved { bytes },
         };
         let hint = Hint::Note(NOTE_READ);
-        Ok(Plan::of_one(self.alloc, doing, Target::File(number), Some(hint))?)
+        Ok(Plan::of_one(self.alloc, doing, Target::File(number), Some(hint)))
     }
 
     /// What is noted of a file where so many bytes were written up to this end: of none, nothing.
@@ -107,12 +107,12 @@ impl Objects {
             return Err(PlanError::Why(Why::WrongKind));
         };
         let bits = extending(NOTE_WRITE, grows(file.size(), bytes, end));
-        let hints = hints_to(self.alloc, file.descriptions(), noted(number, bits))?;
+        let (told, hints) = hints_to(self.alloc, file.descriptions(), noted(number, bits))?;
         let moved = Doing::ToDescription {
             place,
             told: DescriptionRecord::Moved { bytes },
         };
         let reached = self.reached(number, bytes, end)?;
-        Ok(Plan::of(Some(moved), reached, hints))
+        Ok(Plan::of(Some(moved), reached, told, hints))
     }
 }

@@ -56,20 +56,24 @@ pub fn extending(bits: u32, grows: bool) -> u32
     if grows { bits + NOTE_EXTEND } else { bits }
 }
 
-/// Each of these open descriptions is readable, and then one hint more.
+/// Each of these open descriptions is readable, and then one hint more: the first of the hints, and
+/// those behind.
 pub fn hints_to(
     alloc: Global,
     descriptions: &[u64],
     last: (Target, Hint),
-) -> Result<Vec<(Target, Hint)>, Memory>
-    ensures { IfOk result (λ hints. hints.items ≡ readable_each descriptions.now ++ last ∷ []) }
+) -> Result<((Target, Hint), Vec<(Target, Hint)>), Memory>
+    ensures { IfOk result (λ hints. hints.0 ∷ hints.1.items ≡ readable_each descriptions.now ++ last ∷ []) }
 {
-    let mut hints = Vec::with_capacity(alloc, descriptions.len() + 1)?;
-    for place in descriptions {
+    let [first, others @ ..] = descriptions else {
+        return Ok((last, Vec::new(alloc)));
+    };
+    let mut hints = Vec::with_capacity(alloc, descriptions.len())?;
+    for place in others {
         hints.push((Target::Open(*place), Hint::Readable))?;
     }
     hints.push(last)?;
-    Ok(hints)
+    Ok(((Target::Open(*first), Hint::Readable), hints))
 }
 
 /// What is noted of a file: a deletion, and of all else nothing.
@@ -104,7 +108,7 @@ impl Objects {
         self.reserve_file(number)?;
         let told = FileRecord::Made { size };
         let doing = Doing::ToFile { file: number, told };
-        Ok(Plan::of_one(self.alloc, doing, Target::File(number), None)?)
+        Ok(Plan::of_one(self.alloc, doing, Target::File(number), None))
     }
 
     /// A file that is there and not deleted.
@@ -161,12 +165,12 @@ impl Objects {
             return Err(PlanError::Why(Why::TooMany));
         };
         let last = noted(number, extending(NOTE_ATTRIB, file.size() < size));
-        let hints = hints_to(self.alloc, file.descriptions(), last)?;
+        let (told, hints) = hints_to(self.alloc, file.descriptions(), last)?;
         let sized = Doing::ToFile {
             file: number,
             told: FileRecord::Sized { size },
         };
-        Ok(Plan::of(Some(sized), Vec::new(self.alloc), hints))
+        Ok(Plan::of(Some(sized), Vec::new(self.alloc), told, hints))
     }
 
     #[tactic(auto, unfolding(kq_model::specs::FilePlans::plan_note, kq_model::specs::FilePlans::said))]
@@ -178,7 +182,8 @@ impl Objects {
         let Some(_present) = self.present(number) else {
             return Err(PlanError::Why(Why::Absent));
         };
-        let hints = vec![in self.alloc; noted(number, bit_of(note))].map_err(|_| Memory)?;
-        Ok(Plan::of(deletion(number, note), Vec::new(self.alloc), hints))
+        let told = noted(number, bit_of(note));
+        let (rest, hints) = (Vec::new(self.alloc), Vec::new(self.alloc));
+        Ok(Plan::of(deletion(number, note), rest, told, hints))
     }
 }

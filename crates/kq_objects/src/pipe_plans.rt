@@ -31,7 +31,7 @@ impl Objects {
             place,
             told: PipeRecord::Made { cap },
         };
-        Ok(Plan::of_one(self.alloc, doing, Target::Pipe(place), None)?)
+        Ok(Plan::of_one(self.alloc, doing, Target::Pipe(place), None))
     }
 
     /// The plan of one step at a pipe.
@@ -43,7 +43,7 @@ impl Objects {
     {
         let (told, hint) = step?;
         let doing = Doing::ToPipe { place, told };
-        Ok(Plan::of_one(self.alloc, doing, Target::Pipe(place), hint)?)
+        Ok(Plan::of_one(self.alloc, doing, Target::Pipe(place), hint))
     }
 
     #[tactic(auto, unfolding(kq_model::specs::PipePlans::plan_at_pipe))]

@@ -1,4 +1,4 @@
-ghost use Rattle.std.specs.Prelude.{◌≡◌, [], ◌∷◌, Some, IfOk};
+ghost use Rattle.std.specs.Prelude.{◌≡◌, [], ◌∷◌, Some, IfOk, OnOk};
 ghost use Rattle.kq_model.specs.ObjectPlan.{hints_for};
 ghost use Rattle.kq_objects.specs.Plans.{in_turn};
 
@@ -13,6 +13,8 @@ pub struct Plan {
     /// What is noted first: most records note one thing alone.
     pub(crate) first: Option<Doing>,
     pub(crate) rest: Vec<Doing>,
+    /// Whom it tells first: most records tell one target alone.
+    pub(crate) told: Option<(Target, Hint)>,
     pub(crate) hints: Vec<(Target, Hint)>,
 }
 
@@ -22,43 +24,56 @@ impl Model for Plan {
 
     ghost Value = { ObjectPlan };
 
-    ghost view = { λ p. record { doings = in_turn p.first p.rest.items; hints = p.hints.items } };
+    ghost view = { λ p. record { doings = in_turn p.first p.rest.items; hints = in_turn p.told p.hints.items } };
 }
 
 impl Plan {
-    /// What the knotes of these targets are told, in order. They see the objects after `commit`.
-    pub fn hints(&self) -> &[(Target, Hint)]
-        ensures { result.now ≡ self.now.hints }
+    /// Puts what the knotes of the targets are told into an empty list, in order. They see the objects
+    /// after `commit`.
+    pub fn put_hints(&self, hints: &mut Vec<(Target, Hint)>) -> Result<(), Memory>
+        requires { hints.old.items ≡ [] }
+        ensures { OnOk result (hints.new.items ≡ self.now.hints) }
     {
-        self.hints.as_slice()
+        if let Some(told) = self.told {
+            hints.push(told)?;
+        }
+        hints.extend_from_slice(&self.hints)?;
+        Ok(())
     }
 
-    /// These things are noted, if there is a first one it before the rest.
-    pub(crate) fn of(first: Option<Doing>, rest: Vec<Doing>, hints: Vec<(Target, Hint)>) -> Self
-        ensures { result ≡ record { doings = in_turn first rest.items; hints = hints.items } }
+    /// These things are noted, if there is a first one it before the rest, and there is a first hint
+    /// before the others.
+    pub(crate) fn of(
+        first: Option<Doing>,
+        rest: Vec<Doing>,
+        told: (Target, Hint),
+        hints: Vec<(Target, Hint)>,
+    ) -> Self
+        ensures { result ≡ record { doings = in_turn first rest.items; hints = told ∷ hints.items } }
     {
-        Plan { first, rest, hints }
+        Plan {
+            first,
+            rest,
+            told: Some(told),
+            hints,
+        }
     }
 
-    /// One thing is noted, and the target gets at most one hint.
+    /// One thing is noted, and the target gets at most one hint. Takes no memory.
     #[tactic(auto, unfolding(kq_model::specs::ObjectPlan::hints_for))]
-    pub(crate) fn of_one(
-        alloc: Global,
-        doing: Doing,
-        target: Target,
-        hint: Option<Hint>,
-    ) -> Result<Self, Memory>
-        ensures { IfOk result (λ p. p ≡ record { doings = doing ∷ []; hints = hints_for target hint }) }
+    pub(crate) fn of_one(alloc: Global, doing: Doing, target: Target, hint: Option<Hint>) -> Self
+        ensures { result ≡ record { doings = doing ∷ []; hints = hints_for target hint } }
     {
-        let hints = match hint {
-            Some(hint) => vec![in alloc; (target, hint)]?,
-            None => Vec::new(alloc),
+        let told = match hint {
+            Some(hint) => Some((target, hint)),
+            None => None,
         };
-        Ok(Plan {
+        Plan {
             first: Some(doing),
             rest: Vec::new(alloc),
-            hints,
-        })
+            told,
+            hints: Vec::new(alloc),
+        }
     }
 
     /// Two things are noted, and there is one hint.
@@ -71,11 +86,11 @@ impl Plan {
         ensures { IfOk result (λ p. p ≡ record { doings = first ∷ second ∷ []; hints = hint ∷ [] }) }
     {
         let rest = vec![in alloc; second]?;
-        let hints = vec![in alloc; hint]?;
         Ok(Plan {
             first: Some(first),
             rest,
-            hints,
+            told: Some(hint),
+            hints: Vec::new(alloc),
         })
     }
 
@@ -91,6 +106,7 @@ impl Plan {
         let Plan {
             first: third,
             rest: later,
+            told,
             hints,
         } = self;
         let mut rest = vec![in alloc; second]?;
@@ -101,6 +117,7 @@ impl Plan {
         Ok(Plan {
             first: Some(first),
             rest,
+            told,
             hints,
         })
     }

@@ -39,7 +39,7 @@ impl Objects {
             send_buffer,
         };
         let doing = Doing::ToSocket { place, told };
-        Ok(Plan::of_one(self.alloc, doing, Target::Socket(place), None)?)
+        Ok(Plan::of_one(self.alloc, doing, Target::Socket(place), None))
     }
 
     /// The socket that a descriptor names, with its place.
@@ -67,7 +67,7 @@ impl Objects {
     {
         let (told, hint) = step?;
         let doing = Doing::ToSocket { place, told };
-        Ok(Plan::of_one(self.alloc, doing, Target::Socket(place), hint)?)
+        Ok(Plan::of_one(self.alloc, doing, Target::Socket(place), hint))
     }
 
     /// The plan of a step at the socket that a descriptor names, if it listens and one may be

@@ -66,7 +66,8 @@ impl State {
                 Ok(())
             }
             Ok(plan) => {
-                let hints = self.objects.commit_and_tell(plan);
+                let hints = effect.take_hints_of(alloc, &plan)?;
+                self.objects.commit(plan);
                 effect.telling(alloc, hints);
                 Ok(())
             }
@@ -108,8 +109,9 @@ impl State {
                 let Some(descriptors) = self.descriptors.checked_add(1) else {
                     return Err(Memory);
                 };
+                let hints = effect.take_hints_of(alloc, &plan)?;
                 self.processes.name(pid, number, named)?;
-                let hints = self.objects.commit_and_tell(plan);
+                self.objects.commit(plan);
                 self.descriptors = descriptors;
                 effect.telling(alloc, hints);
                 Ok(())
@@ -308,10 +310,11 @@ impl State {
                 let Some(descriptors) = self.descriptors.checked_add(2) else {
                     return Err(Memory);
                 };
+                let hints = effect.take_hints_of(alloc, &plan)?;
                 let read = (read_fd, Named::PipeRead(place));
                 self.processes
                     .name_both(pid, read, (write_fd, Named::PipeWrite(place)))?;
-                let hints = self.objects.commit_and_tell(plan);
+                self.objects.commit(plan);
                 self.descriptors = descriptors;
                 effect.telling(alloc, hints);
                 Ok(())

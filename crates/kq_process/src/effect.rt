@@ -1,6 +1,7 @@
-ghost use Rattle.std.specs.Prelude.{◌≡◌, ◌∷◌, [], OnOk, IsOk};
+ghost use Rattle.std.specs.Prelude.{◌≡◌, ◌∷◌, [], IfOk, OnOk, IsOk};
 
 use kq_model::{Hint, Memory, Series, Target, Why};
+use kq_objects::Plan;
 use std::alloc::Global;
 use std::mem;
 
@@ -100,5 +101,18 @@ impl Effect {
         let mut hints = mem::replace(&mut self.hints, none).into_vec();
         hints.clear();
         hints
+    }
+
+    /// The hints of a plan, in the room of the list that stood here.
+    pub(crate) fn take_hints_of(
+        &mut self,
+        alloc: Global,
+        plan: &Plan,
+    ) -> Result<Vec<(Target, Hint)>, Memory>
+        ensures { IfOk result (λ hints. hints.items ≡ plan.now.hints) }
+    {
+        let mut hints = self.take_hints(alloc);
+        plan.put_hints(&mut hints)?;
+        Ok(hints)
     }
 }

@@ -10,4 +10,4 @@ pub returns-clause-ready : goal.returns-clause-ready
 returns-clause-ready c =
     let note : IsPipeNote c.in_ok-told.told (object_at c.args.self.now.pipes c.args.place) = c.requires _ c.in_ok-told.was in
     let Ready : ObjectPlan → Type 0 = λ p. IsReady p.doings c.args.self.now in
-    subst Ready (sym c.in_ok-of_one.ensures) (ready-pipe c.args.self.now c.args.place c.in_ok-told.told note)
+    subst Ready (sym c.of_one.ensures) (ready-pipe c.args.self.now c.args.place c.in_ok-told.told note)

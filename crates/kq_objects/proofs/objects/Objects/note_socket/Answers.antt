@@ -10,10 +10,10 @@ pub returns-clause-ready : goal.returns-clause-ready
 returns-clause-ready c =
     let note : IsNote c.in_ok-told.told (object_at c.args.self.now.sockets c.args.place) = c.requires _ c.in_ok-told.was in
     let Ready : ObjectPlan → Type 0 = λ p. IsReady p.doings c.args.self.now in
-    subst Ready (sym c.in_ok-of_one.ensures) (ready-socket c.args.self.now c.args.place c.in_ok-told.told note)
+    subst Ready (sym c.of_one.ensures) (ready-socket c.args.self.now c.args.place c.in_ok-told.told note)
 
 pub returns-clause-notes : goal.returns-clause-notes
 returns-clause-notes c =
     let note : IsNote c.in_ok-told.told (object_at c.args.self.now.sockets c.args.place) = c.requires _ c.in_ok-told.was in
     let Notes : ObjectPlan → Type 0 = λ p. AreSocketNotes p.doings (objects_of c.args.self.now) in
-    subst Notes (sym c.in_ok-of_one.ensures) note
+    subst Notes (sym c.of_one.ensures) note

@@ -12,6 +12,6 @@ returns-clause-ready c =
     let after : Objects = c.reserve_file.new.self in
     let Ready : ObjectPlan → Type 0 = λ p. IsReady p.doings after in
     let none : file_at c.args.self.now.files c.args.number ≡ None = search rules in
-    subst Ready (sym c.in_ok-of_one.ensures)
+    subst Ready (sym c.of_one.ensures)
     (ready-new_file after c.args.number c.in-Some.size
     (ap (λ (o : model.Objects model.counted). o.file c.args.number) c.reserve_file.ensures.same ∙ none) c.in-Some.ensures.within c.in_ok-reserve_file.ensures.room)

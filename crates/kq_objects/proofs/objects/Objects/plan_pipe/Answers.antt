@@ -10,6 +10,6 @@ pub returns-clause-ready : goal.returns-clause-ready
 returns-clause-ready c =
     let after : Objects = c.reserve_pipe.new.self in
     let Ready : ObjectPlan → Type 0 = λ p. IsReady p.doings after in
-    subst Ready (sym c.in_ok-of_one.ensures)
+    subst Ready (sym c.of_one.ensures)
     (ready-new_pipe after c.args.place c.args.cap
     (ap (λ (o : model.Objects model.counted). o.pipe c.args.place) c.reserve_pipe.ensures.same ∙ c.requires) c.in_ok-reserve_pipe.ensures.room)

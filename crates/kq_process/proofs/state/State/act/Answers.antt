@@ -18,19 +18,19 @@ invariant_of-self-in-Ok c =
     let fits = old.sound.fits in
     record {
       sound = sound-act c.args.place c.args.act.now (state_of old) c.in-Ok.plan c.in-Ok.ensures.plan [] old.descriptors old.descriptors
-          old.sound (sym c.requires.none) (omega arith) fits (table_of old.processes) (objects_of c.commit_and_tell-hints.new.self) refl
-          (c.commit_and_tell-hints.ensures.done ∙ ap (all_done c.in-Ok.plan.doings) c.plan.ensures.same);
+          old.sound (sym c.requires.none) (omega arith) fits (table_of old.processes) (objects_of c.commit.new.self) refl
+          (c.commit.ensures.done ∙ ap (all_done c.in-Ok.plan.doings) c.plan.ensures.same);
       moment = old.moment;
     }
 
-pub returns-in-Ok-clause-effect : goal.returns-in-Ok-clause-effect
-returns-in-Ok-clause-effect c =
+pub returns-in_ok-hints-in-Ok-clause-effect : goal.returns-in_ok-hints-in-Ok-clause-effect
+returns-in_ok-hints-in-Ok-clause-effect c =
     rw (act_plan c.args.place c.args.act.now (state_of c.args.self.now) c.in-Ok.plan c.in-Ok.ensures.plan [])
-    (c.telling.ensures _ refl (sym c.commit_and_tell-hints.ensures.hints))
+    (c.telling.ensures _ refl (sym c.in_ok-hints-in-Ok.ensures))
 
-pub returns-in-Ok-clause-world : goal.returns-in-Ok-clause-world
+pub returns-in_ok-hints-in-Ok-clause-world : goal.returns-in_ok-hints-in-Ok-clause-world
 unfolding with_descriptors
-returns-in-Ok-clause-world c =
+returns-in_ok-hints-in-Ok-clause-world c =
     let old = c.args.self.now in
     act_world c.args.place c.args.act.now (state_of old) c.in-Ok.plan c.in-Ok.ensures.plan [] _ _ _ refl refl
-    (c.commit_and_tell-hints.ensures.done ∙ ap (all_done c.in-Ok.plan.doings) c.plan.ensures.same)
+    (c.commit.ensures.done ∙ ap (all_done c.in-Ok.plan.doings) c.plan.ensures.same)

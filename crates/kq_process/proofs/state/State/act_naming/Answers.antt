@@ -21,10 +21,10 @@ invariant_of-self-in-Ok c =
     record {
       sound = sound-act c.args.place c.args.act.now (state_of old) c.in-Ok.plan c.in-Ok.ensures.plan
           (descriptor_in c.args.pid (c.args.number, c.args.named) ∷ []) old.descriptors c.in-Some.descriptors
-          old.sound (sym c.requires.made) c.in-Some.ensures.1 fits (table_of c.name.new.self) (objects_of c.commit_and_tell-hints.new.self)
+          old.sound (sym c.requires.made) c.in-Some.ensures.1 fits (table_of c.name.new.self) (objects_of c.commit.new.self)
           (opened-anew c.args.pid c.args.number c.args.named (table_of old.processes) (table_of c.name.new.self) _
           c.requires.absent c.in_ok-name-in-Ok.ensures.table)
-          (c.commit_and_tell-hints.ensures.done ∙ ap (all_done c.in-Ok.plan.doings) c.plan.ensures.same);
+          (c.commit.ensures.done ∙ ap (all_done c.in-Ok.plan.doings) c.plan.ensures.same);
       moment = old.moment;
     }
 
@@ -32,7 +32,7 @@ pub returns-in_ok-name-in-Ok-clause-effect : goal.returns-in_ok-name-in-Ok-claus
 returns-in_ok-name-in-Ok-clause-effect c =
     rw (act_plan c.args.place c.args.act.now (state_of c.args.self.now) c.in-Ok.plan c.in-Ok.ensures.plan
     (descriptor_in c.args.pid (c.args.number, c.args.named) ∷ []))
-    (c.telling.ensures _ refl (sym c.commit_and_tell-hints.ensures.hints))
+    (c.telling.ensures _ refl (sym c.in_ok-hints-in-Ok.ensures))
 
 pub returns-in_ok-name-in-Ok-clause-world : goal.returns-in_ok-name-in-Ok-clause-world
 unfolding with_descriptors named_by
@@ -42,4 +42,4 @@ returns-in_ok-name-in-Ok-clause-world c =
     (descriptor_in c.args.pid (c.args.number, c.args.named) ∷ []) _ _ _ c.name.ensures.processes
     (opened-anew c.args.pid c.args.number c.args.named (table_of old.processes) (table_of c.name.new.self) _
     c.requires.absent c.in_ok-name-in-Ok.ensures.table)
-    (c.commit_and_tell-hints.ensures.done ∙ ap (all_done c.in-Ok.plan.doings) c.plan.ensures.same)
+    (c.commit.ensures.done ∙ ap (all_done c.in-Ok.plan.doings) c.plan.ensures.same)

@@ -30,9 +30,9 @@ invariant_of-self-in-Ok c =
     record {
       sound = sound-act c.args.place (act.Pipe c.args.cap) (state_of old) c.in-Ok.plan c.in-Ok.ensures.plan
           (pipe_ends c.args.place c.args.pid c.args.read_fd c.args.write_fd) old.descriptors c.in-Some.descriptors
-          old.sound refl c.in-Some.ensures.1 fits (table_of c.name_both.new.self) (objects_of c.commit_and_tell-hints.new.self)
+          old.sound refl c.in-Some.ensures.1 fits (table_of c.name_both.new.self) (objects_of c.commit.new.self)
           c.in_ok-name_both-in-Ok.ensures.table
-          (c.commit_and_tell-hints.ensures.done ∙ ap (all_done c.in-Ok.plan.doings) c.plan.ensures.same);
+          (c.commit.ensures.done ∙ ap (all_done c.in-Ok.plan.doings) c.plan.ensures.same);
       moment = old.moment;
     }
 
@@ -40,7 +40,7 @@ pub returns-in_ok-name_both-in-Ok-clause-effect : goal.returns-in_ok-name_both-i
 returns-in_ok-name_both-in-Ok-clause-effect c =
     rw (act_plan c.args.place (act.Pipe c.args.cap) (state_of c.args.self.now) c.in-Ok.plan c.in-Ok.ensures.plan
     (pipe_ends c.args.place c.args.pid c.args.read_fd c.args.write_fd))
-    (c.telling.ensures _ refl (sym c.commit_and_tell-hints.ensures.hints))
+    (c.telling.ensures _ refl (sym c.in_ok-hints-in-Ok.ensures))
 
 pub returns-in_ok-name_both-in-Ok-clause-world : goal.returns-in_ok-name_both-in-Ok-clause-world
 returns-in_ok-name_both-in-Ok-clause-world c =
@@ -48,4 +48,4 @@ returns-in_ok-name_both-in-Ok-clause-world c =
     act_world c.args.place (act.Pipe c.args.cap) (state_of old) c.in-Ok.plan c.in-Ok.ensures.plan
     (pipe_ends c.args.place c.args.pid c.args.read_fd c.args.write_fd) _ _ _ c.name_both.ensures.processes
     c.in_ok-name_both-in-Ok.ensures.table
-    (c.commit_and_tell-hints.ensures.done ∙ ap (all_done c.in-Ok.plan.doings) c.plan.ensures.same)
+    (c.commit.ensures.done ∙ ap (all_done c.in-Ok.plan.doings) c.plan.ensures.same)
