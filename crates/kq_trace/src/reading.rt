@@ -184,12 +184,12 @@ fn round<R: AllocGlobal + Threads + Sync, S: Source + Send, K: Sink>(
             × IfErr result (IsFaultFrom number (lines_behind block.entry.now.items)) }
     { part_of(rt, number, block.as_slice(), decoders) };
     let mut take = ||
-        requires { HasTaken K.took before sink.now
+        requires { IsSync R.row × HasTaken K.took before sink.now
             × (before + length (flat_map (λ piece. piece.items) pieces.items) < 2 ^ 31) }
         ensures { OnOk result ((version : ℕ) (so_far : List Event) → length so_far ≡ before
             → K.took version sink.entry.now so_far
             → K.took version sink.exit.now (so_far ++ flat_map (λ piece. piece.items) pieces.entry.items)) }
-    { sink.accept(before, replace(&mut pieces, Vec::new(alloc))) };
+    { sink.accept(rt, before, replace(&mut pieces, Vec::new(alloc))) };
     if threads < 2 {
         return (read(), decode(), take());
     }

@@ -7,6 +7,7 @@ ghost use Rattle.kq_trace.specs.Sink.{HasTaken};
 
 use kq_model::{Event, Memory};
 use std::alloc::Global;
+use std::thread::Threads;
 
 /// Takes the records of a trace, a part after the other.
 pub trait Sink {
@@ -22,8 +23,14 @@ pub trait Sink {
         requires fresh { fresh self.old }
         ensures { OnOk result (took version self.new []) };
 
-    /// Takes the events of the records that follow so many, in pieces. After Memory nothing is known.
-    fn accept(&mut self, before: u64, pieces: Vec<Vec<Event>>) -> Result<(), Memory>
+    /// Takes the events of the records that follow so many, in pieces, and may start threads for that. After Memory
+    /// nothing is known.
+    fn accept<R: AllocGlobal + Threads + Sync>(
+        &mut self,
+        rt: &R,
+        before: u64,
+        pieces: Vec<Vec<Event>>,
+    ) -> Result<(), Memory>
         requires before { HasTaken took before self.old }
         requires few { before + length (flat_map (λ piece. piece.items) pieces.items) < 2 ^ 31 }
         ensures { OnOk result ((version : ℕ) (so_far : List Event) → length so_far ≡ before
@@ -68,7 +75,12 @@ impl Sink for Kept {
         Ok(())
     }
 
-    fn accept(&mut self, _before: u64, pieces: Vec<Vec<Event>>) -> Result<(), Memory> {
+    fn accept<R: AllocGlobal + Threads + Sync>(
+        &mut self,
+        _rt: &R,
+        _before: u64,
+        pieces: Vec<Vec<Event>>,
+    ) -> Result<(), Memory> {
         for mut piece in pieces {
             self.events.append(&mut piece)?;
         }

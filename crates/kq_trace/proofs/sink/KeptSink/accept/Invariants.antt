@@ -4,4 +4,4 @@ use Rattle.std.specs.Prelude.{flat_map}
 use Rattle.kq_trace.proofs.sink.KeptSink.accept.Given as goal
 
 abbrev pub invariant-loop-piece : goal.invariant-loop-piece
-invariant-loop-piece l = l.self.events.items ≡ l.initial.self.events.items ++ flat_map (λ piece. piece.items) l.yielded
+invariant-loop-piece g l = l.self.events.items ≡ l.initial.self.events.items ++ flat_map (λ piece. piece.items) l.yielded
