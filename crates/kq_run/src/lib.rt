@@ -2,12 +2,14 @@
 #![tactic(auto)]
 
 mod fault;
+mod fold;
 mod folding;
 mod input;
 mod living;
 mod output;
 mod projecting;
 mod replaying;
+mod row_sink;
 mod workers;
 
 pub use fault::Fault;

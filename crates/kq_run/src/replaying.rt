@@ -22,7 +22,7 @@ use std::thread::Threads;
 /// of the whole system over the trace on one thread; where memory or a thread is refused, there is
 /// an error and no report.
 ///
-/// One worker folds, and the others read what comes behind.
+/// One worker folds. The others read what comes behind, and write the lines of the rows before.
 pub fn replay<R: AllocGlobal + Threads + Sync>(
     rt: &R,
     bytes: &[u8],

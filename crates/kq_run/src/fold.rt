@@ -1,0 +1,161 @@
+//! The whole system, folded over the records of a trace, and the report of what it answers.
+
+ghost use Rattle.std.specs.Prelude.{◌≡◌, ◌<◌, ◌+◌, ◌^◌, ◌++◌, [], IfOk, List, flat_map, length, ℕ};
+ghost use Rattle.kq_merge.specs.Written.{written};
+ghost use Rattle.kq_model.specs.declared.event.Event.{Event};
+ghost use Rattle.kq_model.specs.declared.row.Row.{Row};
+ghost use Rattle.kq_model.specs.Limits.{IsVersion};
+ghost use Rattle.kq_model.specs.Report.{report_of};
+ghost use Rattle.kq_run.specs.Folding.{Answers, GoesOn, IsFolded};
+
+use crate::row_sink::RowSink;
+use kq_merge::ReportText;
+use kq_model::{Event, Memory, Row};
+use kq_system::System;
+use std::alloc::Global;
+use std::thread::{Threads, join};
+
+/// The whole system after the records so far, and the report of what it answered.
+#[derive(Drop)]
+pub struct Fold {
+    pub system: System,
+    pub text: ReportText,
+    /// The last rows, whose lines are not yet written.
+    pub waiting: Vec<Row>,
+}
+
+impl Fold {
+    /// Before the first record of a trace of this version.
+    pub fn new(alloc: Global, version: u32) -> Result<Self, Memory>
+        requires { IsVersion version }
+        ensures { IfOk result (λ fold. IsFolded version fold []) }
+    {
+        Ok(Fold {
+            system: System::new(alloc, version)?,
+            text: ReportText::new(alloc),
+            waiting: Vec::new(alloc),
+        })
+    }
+
+    /// After these pieces of records more; where another thread may write lines beside, their rows wait.
+    pub fn after<R: AllocGlobal + Threads>(
+        self,
+        rt: &R,
+        beside: bool,
+        pieces: &[Vec<Event>],
+    ) -> Result<Self, Memory>
+        requires { self.system.applied + length (flat_map (λ piece. piece.items) pieces.now) < 2 ^ 31 }
+        ensures { IfOk result (λ fold. GoesOn self fold (flat_map (λ piece. piece.items) pieces.now)) }
+    {
+        if beside {
+            self.after_beside(rt, pieces)
+        } else {
+            self.after_alone(rt.alloc(), pieces)
+        }
+    }
+
+    /// The same, the line of each row written at once.
+    fn after_alone(self, alloc: Global, pieces: &[Vec<Event>]) -> Result<Self, Memory>
+        requires { self.system.applied + length (flat_map (λ piece. piece.items) pieces.now) < 2 ^ 31 }
+        ensures { IfOk result (λ fold. GoesOn self fold (flat_map (λ piece. piece.items) pieces.now)) }
+    {
+        let Fold {
+            system,
+            text,
+            waiting,
+        } = self;
+        let text = with_rows(text, waiting.as_slice())?;
+        let (system, text) = answered(system, text, pieces)?;
+        Ok(Fold {
+            system,
+            text,
+            waiting: Vec::new(alloc),
+        })
+    }
+
+    /// The same: these rows wait, and another thread writes the lines of those that waited. A thread that does not start
+    /// is no error.
+    fn after_beside<R: AllocGlobal + Threads>(
+        self,
+        rt: &R,
+        pieces: &[Vec<Event>],
+    ) -> Result<Self, Memory>
+        requires { self.system.applied + length (flat_map (λ piece. piece.items) pieces.now) < 2 ^ 31 }
+        ensures { IfOk result (λ fold. GoesOn self fold (flat_map (λ piece. piece.items) pieces.now)) }
+    {
+        let Fold {
+            system,
+            text,
+            waiting,
+        } = self;
+        let rows = Vec::new(rt.alloc());
+        let (written, folded) = join(
+            rt,
+            move || with_rows(text, waiting.as_slice()),
+            move || answered(system, rows, pieces),
+        );
+        let text = written?;
+        let (system, waiting) = folded?;
+        Ok(Fold {
+            system,
+            text,
+            waiting,
+        })
+    }
+
+    /// The report of the records so far.
+    pub fn report(self) -> Result<Vec<u8>, Memory>
+        ensures { IfOk result (λ text. (version : ℕ) (events : List Event) → IsFolded version self events
+            → text.items ≡ report_of version events) }
+    {
+        let Fold {
+            system,
+            text,
+            waiting,
+        } = self;
+        with_rows(text, waiting.as_slice())?.end(system.applied())
+    }
+}
+
+/// The text with the lines of these rows.
+fn with_rows(mut text: ReportText, rows: &[Row]) -> Result<ReportText, Memory>
+    ensures { IfOk result (λ after. (before : List Row) → text ≡ written before
+        → after ≡ written (before ++ rows.now)) }
+{
+    for row in rows {
+        text = text.with_row(row.at, &row.reply)?;
+    }
+    Ok(text)
+}
+
+/// The system after these pieces of records more, and what took the rows.
+fn answered<K: RowSink + Drop>(
+    mut system: System,
+    mut rows: K,
+    pieces: &[Vec<Event>],
+) -> Result<(System, K), Memory>
+    requires { system.applied + length (flat_map (λ piece. piece.items) pieces.now) < 2 ^ 31 }
+    ensures { IfOk result (λ after.
+        Answers K.took system rows after.0 after.1 (flat_map (λ piece. piece.items) pieces.now)) }
+{
+    for piece in pieces {
+        (system, rows) = answered_piece(system, rows, piece.as_slice())?;
+    }
+    Ok((system, rows))
+}
+
+/// The system after these records more, and what took the rows.
+fn answered_piece<K: RowSink + Drop>(
+    mut system: System,
+    mut rows: K,
+    events: &[Event],
+) -> Result<(System, K), Memory>
+    requires { system.applied + length events.now < 2 ^ 31 }
+    ensures { IfOk result (λ after. Answers K.took system rows after.0 after.1 events.now) }
+{
+    for event in events {
+        let reply = system.apply(event)?;
+        rows = rows.with_reply(system.applied(), reply)?;
+    }
+    Ok((system, rows))
+}
