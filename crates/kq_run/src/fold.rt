@@ -73,8 +73,8 @@ impl Fold {
         })
     }
 
-    /// The same: these rows wait, and another thread writes the lines of those that waited. A thread that does not start
-    /// is no error.
+    /// The same: these rows wait, and another thread writes the lines of those that waited. A thread that does not
+    /// start is no error.
     fn after_beside<R: AllocGlobal + Threads>(
         self,
         rt: &R,
