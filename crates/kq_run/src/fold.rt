@@ -64,7 +64,7 @@ impl Fold {
             text,
             waiting,
         } = self;
-        let text = with_rows(text, waiting.as_slice())?;
+        let text = with_rows(text, waiting)?;
         let (system, text) = answered(system, text, pieces)?;
         Ok(Fold {
             system,
@@ -91,7 +91,7 @@ impl Fold {
         let rows = Vec::new(rt.alloc());
         let (written, folded) = join(
             rt,
-            move || with_rows(text, waiting.as_slice()),
+            move || with_rows(text, waiting),
             move || answered(system, rows, pieces),
         );
         let text = written?;
@@ -113,16 +113,16 @@ impl Fold {
             text,
             waiting,
         } = self;
-        with_rows(text, waiting.as_slice())?.end(system.applied())
+        with_rows(text, waiting)?.end(system.applied())
     }
 }
 
 /// The text with the lines of these rows.
-fn with_rows(mut text: ReportText, rows: &[Row]) -> Result<ReportText, Memory>
+fn with_rows(mut text: ReportText, rows: Vec<Row>) -> Result<ReportText, Memory>
     ensures { IfOk result (λ after. (before : List Row) → text ≡ written before
-        → after ≡ written (before ++ rows.now)) }
+        → after ≡ written (before ++ rows.items)) }
 {
-    for row in rows {
+    for row in rows.as_slice() {
         text = text.with_row(row.at, &row.reply)?;
     }
     Ok(text)

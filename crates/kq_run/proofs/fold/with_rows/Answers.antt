@@ -10,7 +10,7 @@ loop-row-init c = λ before is. is ∙ ap written (sym (append-nil before))
 
 pub loop-row-preserved : goal.loop-row-preserved
 loop-row-preserved c =
-    let rows = c.args.rows.now in
+    let rows = c.as_slice-row-items.result.now in
     let i = c.loop-row.row-index in
     let row = c.row-item.result in
     λ before is.
@@ -20,5 +20,7 @@ loop-row-preserved c =
 
 pub returns : goal.returns
 returns c =
-    let rows = c.args.rows.now in
-    λ before is. c.loop-row.invariant before is ∙ ap (λ rs. written (before ++ rs)) (take_all c.loop-row.row-index rows c.loop-row-test.false)
+    let rows = c.as_slice-row-items.result.now in
+    λ before is.
+    c.loop-row.invariant before is
+    ∙ ap (λ rs. written (before ++ rs)) (take_all c.loop-row.row-index rows c.loop-row-test.false ∙ c.as_slice-row-items.ensures.value)

@@ -6,4 +6,4 @@ use Rattle.kq_run.proofs.fold.with_rows.Given as goal
 
 abbrev pub invariant-loop-row : goal.invariant-loop-row
 invariant-loop-row l =
-    (before : List Row) → l.initial.text ≡ written before → l.text ≡ written (before ++ take l.row-index l.rows)
+    (before : List Row) → l.initial.text ≡ written before → l.text ≡ written (before ++ take l.row-index l.row-items)

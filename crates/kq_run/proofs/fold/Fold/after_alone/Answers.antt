@@ -1,7 +1,5 @@
 -- What waited is written, and then each row at once.
-use Rattle.std.proofs.Common.{◌≡◌, ◌++◌, List, rules, subst}
-use Rattle.kq_model.specs.declared.row.Row.{Row}
-use Rattle.kq_merge.specs.Written.{written}
+use Rattle.std.proofs.Common.{rules}
 use Rattle.kq_trace.proofs.TakenParts.{events_in}
 use Rattle.kq_run.specs.declared.fold.Fold.{Fold}
 use Rattle.kq_run.proofs.FoldLemmas.{goes_on_alone}
@@ -12,5 +10,4 @@ returns c =
     let text = c.in_ok-text.text in
     let new : Fold = record { system = c.in_ok-system.system; text = c.in_ok-system.text; waiting = c.new.result } in
     goes_on_alone c.args.self new (events_in c.args.pieces.now) text
-    (λ (before : List Row) is. subst (λ rs. text ≡ written (before ++ rs)) c.as_slice.ensures.value (c.in_ok-text.ensures before is))
-    c.in_ok-system.ensures (search rules)
+    c.in_ok-text.ensures c.in_ok-system.ensures (search rules)
