@@ -1,4 +1,5 @@
-ghost use Rattle.std.specs.Prelude.{◌≡◌, ◌<◌, ◌≤◌, ◌+◌, ◌∷◌, [], true, false, MatchOption, IsPermutation, length, All};
+ghost use Rattle.std.specs.Prelude.{◌≡◌, ◌<◌, ◌≤◌, ◌+◌, ◌∷◌, [], true, false};
+ghost use Rattle.std.specs.Prelude.{MatchOption, IsPermutation, length, All};
 ghost use Rattle.kq_alarm.specs.Armed.{entry_of, IsEarliest};
 
 use crate::Alarm;
@@ -88,7 +89,8 @@ impl Alarms {
             ((self.new ≡ self.old) × All (λ e. moment < e.0.moment) self.old.entries)
             (λ alarm. (alarm.moment ≤ moment) × All (λ e. alarm.moment ≤ e.0.moment) self.old.entries
             × IsPermutation self.old.entries (entry_of alarm ∷ self.new.entries)) }
-        ensures room { MatchOption result (self.new.room ≡ self.old.room) (λ _. self.new.room ≡ self.old.room + 1) }
+        ensures room { MatchOption result (self.new.room ≡ self.old.room)
+            (λ _. self.new.room ≡ self.old.room + 1) }
     {
         let Some(alarm) = self.earliest() else {
             return None;

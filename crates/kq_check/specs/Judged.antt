@@ -1,6 +1,7 @@
 -- What the answers to a trace come to: a fold over its records, which ends at the first answer that no order gives, or
 -- the first record that could not be, unless these are permitted.
-use Rattle.std.specs.Prelude.{◌≡◌, ◌⊎◌, ◌+◌, ℕ, Bool, true, false, List, [], ◌∷◌, Option, Some, None}
+use Rattle.std.specs.Prelude.{◌≡◌, ◌⊎◌, ◌+◌, ℕ, Bool, true, false, List, [], ◌∷◌}
+use Rattle.std.specs.Prelude.{Option, Some, None}
 use Rattle.kq_answers.specs.declared.answer.Answer.{Answer}
 use Rattle.kq_judge.specs.declared.member.Ignored.{Ignored}
 use Rattle.kq_model.specs.declared.event.Event.{Event}
@@ -40,7 +41,8 @@ EndsAt permits place verdict.Refused o = o ≡ Refused place
 EndsAt permits place (verdict.Impossible why) o = (permits ≡ false) × (o ≡ Impossible place why)
 
 -- the outcome of the records from a place on
-abbrev pub IsJudgedFrom : List Ignored → Bool → ℕ → System → List Event → List Answer → Option ℕ → Outcome → Type 0
+abbrev pub IsJudgedFrom : List Ignored → Bool → ℕ → System → List Event → List Answer → Option ℕ
+    → Outcome → Type 0
 IsJudgedFrom ignored permits place s [] answers first o = o ≡ ended first
 IsJudgedFrom ignored permits place s (e ∷ es) answers first o =
     (v : Verdict) × (next : System) × IsStepped ignored place e (given_at place answers) s v next

@@ -1,5 +1,6 @@
 -- An answer that is the reply to its record.
-use Rattle.std.specs.Prelude.{◌≡◌, ◌⊎◌, ℕ, List, [], ◌∷◌, Option, Some, None, if◌then◌else◌, ◌==◌}
+use Rattle.std.specs.Prelude.{◌≡◌, ◌⊎◌, ℕ, List, [], ◌∷◌, Option, Some, None}
+use Rattle.std.specs.Prelude.{if◌then◌else◌, ◌==◌}
 use Rattle.kq_answers.specs.declared.answer.Answer.{Answer}
 use Rattle.kq_answers.specs.declared.answer.Given.{Given}
 use Rattle.kq_answers.specs.declared.answer.Given.TheVariants as given

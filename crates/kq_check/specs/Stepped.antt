@@ -56,12 +56,14 @@ arranged_by pid fd own Allowed s = arranged_in pid fd (map key_of_event own) s
 arranged_by pid fd own _ s = s
 
 -- the order in which events are read that are answered by these
-abbrev pub IsArrangedOf : List Ignored → ℕ → ℕ → ℕ → List Kevent → Option Live → System → Verdict → System → Type 0
+abbrev pub IsArrangedOf : List Ignored → ℕ → ℕ → ℕ → List Kevent → Option Live → System → Verdict
+    → System → Type 0
 IsArrangedOf ignored pid fd room own live s v next =
     IsOrder ignored room own live s v × (next ≡ arranged_by pid fd own v s)
 
 -- the same by the answer, if there is one
-abbrev pub IsArranged : List Ignored → ℕ → ℕ → ℕ → Option Given → System → Verdict → System → Type 0
+abbrev pub IsArranged : List Ignored → ℕ → ℕ → ℕ → Option Given → System → Verdict → System
+    → Type 0
 IsArranged ignored pid fd room None s v next = (v ≡ Equal) × (next ≡ s)
 IsArranged ignored pid fd room (Some (given.Events own)) s v next =
     IsArrangedOf ignored pid fd room own (live_named pid fd s) s v next
@@ -74,13 +76,15 @@ IsReadBy Refused place pid fd room s next = Unit {0}
 IsReadBy _ place pid fd room s next = next ≡ system_read place pid fd room s
 
 -- a call that reads events, from the system that its changes left to the next one
-abbrev pub IsRead : List Ignored → ℕ → ℕ → ℕ → ℕ → Option Given → System → Verdict → System → Type 0
+abbrev pub IsRead : List Ignored → ℕ → ℕ → ℕ → ℕ → Option Given → System → Verdict → System
+    → Type 0
 IsRead ignored place pid fd room given s v next =
     (arranged : System) × IsArranged ignored pid fd room given s v arranged
     × IsReadBy v place pid fd room arranged next
 
 -- a call that began, by its reply, if it has one already
-abbrev pub IsCalled : List Ignored → ℕ → ℕ → ℕ → ℕ → Option Given → Option Reply → System → Verdict → System → Type 0
+abbrev pub IsCalled : List Ignored → ℕ → ℕ → ℕ → ℕ → Option Given → Option Reply → System
+    → Verdict → System → Type 0
 IsCalled ignored place pid fd room given (Some reply) s v next = IsVerdictOf reply given v × (next ≡ s)
 IsCalled ignored place pid fd room given None s v next = IsRead ignored place pid fd room given s v next
 
@@ -90,4 +94,5 @@ abbrev pub IsStepped : List Ignored → ℕ → Event → Option Given → Syste
 IsStepped ignored place (KeventRecord pid fd changes room) given s v next =
     IsCalled ignored place pid fd room given (begun place (KeventRecord pid fd changes room) s).answer
     (begun place (KeventRecord pid fd changes room) s).system v next
-IsStepped ignored place e given s v next = IsVerdictOf (step place e s).reply given v × (next ≡ (step place e s).system)
+IsStepped ignored place e given s v next =
+    IsVerdictOf (step place e s).reply given v × (next ≡ (step place e s).system)

@@ -71,7 +71,8 @@ fn event_due<V: Views>(kq: &Kq, key: Key, views: &V) -> Option<Kevent>
 
 /// Whether these are the events, one by one, but for members that are not compared.
 pub fn are_same(events: &[Kevent], own: &[Kevent], ignored: &[Ignored]) -> bool
-    ensures { MatchBool result (AreSame ignored.now events.now own.now) (AreSame ignored.now events.now own.now → ⊥) }
+    ensures { MatchBool result (AreSame ignored.now events.now own.now)
+        (AreSame ignored.now events.now own.now → ⊥) }
 {
     let mut expected = events;
     let mut rest = own;

@@ -1,4 +1,5 @@
-ghost use Rattle.std.specs.Prelude.{◌≡◌, ◌≤◌, ◌⊎◌, ◌∷◌, ◌++◌, [], length, take, Any, Err, IfOk, IfErr, OnErr};
+ghost use Rattle.std.specs.Prelude.{◌≡◌, ◌≤◌, ◌⊎◌, ◌∷◌, ◌++◌, [], length, take};
+ghost use Rattle.std.specs.Prelude.{Any, Err, IfOk, IfErr, OnErr};
 ghost use Rattle.kq_freebsd.specs.Kevents.{AreChanges, IsChange, IsNoChange, as_c, handed_out};
 ghost use Rattle.kq_freebsd.specs.declared.refusal.Refusal.TheVariants.{Argument, Memory};
 ghost use Rattle.kq_model.specs.declared.change.Change.{Change};

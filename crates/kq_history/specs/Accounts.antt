@@ -23,4 +23,5 @@ Accounts has o (ToPipe place r) = has (target.Pipe place) ≡ true
 Accounts has o (ToDescription place r) = has (target.Open place) ≡ true
 Accounts has o (ToFile number r) =
     (has (target.File number) ≡ true)
-    × (resizes r ≡ true → (place : ℕ) → is_listed place (o.file number) ≡ true → has (target.Open place) ≡ true)
+    × (resizes r ≡ true → (place : ℕ) → is_listed place (o.file number) ≡ true
+    → has (target.Open place) ≡ true)

@@ -22,5 +22,6 @@ abbrev pub IsHeardBy : Result (Unit {0}) Why → Bool → ℕ → Event → Effe
 IsHeardBy (Err why) silent place e effect before after old new = new ≡ old
 IsHeardBy (Ok done) silent place e effect before after old new = IsSaidOnce silent place e effect before after old new
 
-abbrev pub IsHeard : Bool → ℕ → Event → Effect → World counted → World counted → Hearing → Hearing → Type 0
+abbrev pub IsHeard : Bool → ℕ → Event → Effect → World counted → World counted → Hearing → Hearing
+    → Type 0
 IsHeard silent place e effect before after old new = IsHeardBy effect.verdict silent place e effect before after old new

@@ -1,6 +1,7 @@
 -- What a log says: all that the records say, but for closes of processes that are gone and made no kqueue. These
 -- concern no kqueue, since a pid is not used again.
-use Rattle.std.specs.Prelude.{◌≡◌, ℕ, ◌==◌, Bool, true, false, not, ◌&&◌, ◌||◌, List, [], filter, if◌then◌else◌}
+use Rattle.std.specs.Prelude.{◌≡◌, ℕ, ◌==◌, Bool, true, false, not, ◌&&◌, ◌||◌, List, []}
+use Rattle.std.specs.Prelude.{filter, if◌then◌else◌}
 use Rattle.std.specs.List.{list_any}
 use Rattle.kq_model.specs.declared.event.Event.{Event}
 use Rattle.kq_model.specs.declared.event.Event.TheVariants as event
@@ -24,7 +25,8 @@ is_kept bs ps pid = has_owner pid bs || not (is_gone pid ps)
 -- of closes the test passes those of such processes alone
 abbrev pub KeepsTo : (ℕ → Bool) → (Item → Bool) → Type 0
 KeepsTo kept test =
-    (place pid number : ℕ) → test (record { place = place; what = Closed pid number }) ≡ true → kept pid ≡ true
+    (place pid number : ℕ) → test (record { place = place; what = Closed pid number }) ≡ true
+    → kept pid ≡ true
 
 abbrev pub SaysAll : (ℕ → Bool) → List Item → List Item → Type 0
 SaysAll kept all items = (test : Item → Bool) → KeepsTo kept test → filter test items ≡ filter test all

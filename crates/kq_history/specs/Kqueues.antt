@@ -1,5 +1,6 @@
 -- The kqueues that a trace makes: by rising place, each with its owner and the sources of what concerns it.
-use Rattle.std.specs.Prelude.{◌≡◌, ◌≢◌, ◌<◌, ◌==◌, ◌||◌, nat_eq, ℕ, false, List, [], ◌∷◌, length, slice_index}
+use Rattle.std.specs.Prelude.{◌≡◌, ◌≢◌, ◌<◌, ◌==◌, ◌||◌, nat_eq, ℕ, false, List, []}
+use Rattle.std.specs.Prelude.{◌∷◌, length, slice_index}
 use Rattle.std.specs.Prelude.{slice_index_or}
 use Rattle.std.specs.HashSet.{contains}
 use Rattle.std.specs.List.{list_any}
@@ -40,7 +41,8 @@ pub record IsNamedAt (place : ℕ) (views : Views) (changes : List Change) (old 
   pub length_is : length new.concerned.items ≡ length old.concerned.items
   pub owners : (index : ℕ) (c : Concerned)
       → (slice_index_or new.concerned.items index c).owner ≡ (slice_index_or old.concerned.items index c).owner
-  pub named : (index : ℕ) (c : Concerned) → index < length old.places.items → slice_index old.places.items index ≡ place
+  pub named : (index : ℕ) (c : Concerned) → index < length old.places.items
+      → slice_index old.places.items index ≡ place
       → Grows (call_sources views (slice_index_or old.concerned.items index c).owner changes)
       (slice_index_or old.concerned.items index c).sources (slice_index_or new.concerned.items index c).sources
   pub follows : (index : ℕ) (c : Concerned) → index < length old.places.items

@@ -1,5 +1,6 @@
 -- Where the items of each source stand in a log.
-use Rattle.std.specs.Prelude.{◌≡◌, ℕ, ◌<◌, Bool, true, false, not, ◌&&◌, All, length, map, nat_le, List, []}
+use Rattle.std.specs.Prelude.{◌≡◌, ℕ, ◌<◌, Bool, true, false, not, ◌&&◌, All, length, map}
+use Rattle.std.specs.Prelude.{nat_le, List, []}
 use Rattle.std.specs.Prelude.{filter, slice_index_or, if◌then◌else◌}
 use Rattle.std.specs.List.{flat_map}
 use Rattle.std.specs.List.Sorted.{IsNonDecreasing}

@@ -1,5 +1,6 @@
 -- What the records of a trace say to kqueues, as far as it was gone through.
-use Rattle.std.specs.Prelude.{◌≡◌, ◌<◌, ℕ, ◌+◌, nat_eq, Bool, List, [], ◌∷◌, ◌++◌, length, map, All, Option, Some, None}
+use Rattle.std.specs.Prelude.{◌≡◌, ◌<◌, ℕ, ◌+◌, nat_eq, Bool, List, [], ◌∷◌, ◌++◌}
+use Rattle.std.specs.Prelude.{length, map, All, Option, Some, None}
 use Rattle.std.specs.HashSet.{contains}
 use Rattle.kq_model.specs.Births.{Birth}
 use Rattle.kq_model.specs.Clock.{Span}

@@ -35,7 +35,8 @@ left_at numbers place tells p = targets_left tells (named_at numbers place p.0 p
 -- at every place what was seen is what these worlds show, whose clock is within its range
 pub record Shows (worlds seen : ℕ → Views) : Type 0 where
   pub view : (place : ℕ) (t : Target) → (seen place).view t ≡ (worlds place).view t
-  pub descriptor : (place pid number : ℕ) → (seen place).descriptor pid number ≡ (worlds place).descriptor pid number
+  pub descriptor : (place pid number : ℕ)
+      → (seen place).descriptor pid number ≡ (worlds place).descriptor pid number
   pub now : (place : ℕ) → (seen place).now ≡ (worlds place).now
   pub within : (place : ℕ) → (worlds place).now ≤ last_moment
 

@@ -1,5 +1,6 @@
 -- What was seen of targets from place to place: sights in the order in which they came.
-use Rattle.std.specs.Prelude.{◌≤◌, ◌&&◌, ℕ, Bool, All, nat_le, List, [], ◌∷◌, Option, None, if◌then◌else◌}
+use Rattle.std.specs.Prelude.{◌≤◌, ◌&&◌, ℕ, Bool, All, nat_le, List, [], ◌∷◌, Option, None}
+use Rattle.std.specs.Prelude.{if◌then◌else◌}
 use Rattle.std.specs.List.Sorted.{IsNonDecreasingBy}
 use Rattle.kq_model.specs.declared.object.Target.{Target}
 use Rattle.kq_model.specs.declared.object.View.{View}
@@ -20,7 +21,8 @@ is_of t s = target_key s.target t
 -- what is seen of a target at a place, where something else was seen before these sights
 abbrev pub view_from : ℕ → Target → Option View → List Sight → Option View
 view_from place t before [] = before
-view_from place t before (s ∷ ss) = view_from place t (if is_of t s && nat_le s.place place then s.view else before) ss
+view_from place t before (s ∷ ss) =
+    view_from place t (if is_of t s && nat_le s.place place then s.view else before) ss
 
 -- before all sights nothing is seen
 abbrev pub view_at : List Sight → ℕ → Target → Option View

@@ -25,7 +25,8 @@ abbrev pub left_in : Bool → ℕ × Option Named → List Target
 left_in tells slot = targets_left tells slot.1
 
 -- the process, unless none of its numbers names another thing after a record, where these were its slots
-pub record IsChanged (process : Option ℕ) (slots : List (ℕ × Option Named)) (after : World counted) (changed : Option ℕ)
+pub record IsChanged (process : Option ℕ) (slots : List (ℕ × Option Named)) (after : World counted)
+    (changed : Option ℕ)
     : Type 0 where
   pub is_it : (pid : ℕ) → is_of process pid ≡ false → is_of changed pid ≡ false
   pub same : (before : World counted) → AreSlotsOf process before slots → (pid number : ℕ)
@@ -33,7 +34,8 @@ pub record IsChanged (process : Option ℕ) (slots : List (ℕ × Option Named))
       → (views_of after).descriptor pid number ≡ (views_of before).descriptor pid number
 
 -- what a record touched, where these were the slots of the process that it starts or ends
-pub record AreTouched (e : Event) (closed : List (ℕ × ℕ)) (hints : List Posted) (slots : List (ℕ × Option Named))
+pub record AreTouched (e : Event) (closed : List (ℕ × ℕ)) (hints : List Posted)
+    (slots : List (ℕ × Option Named))
     (after : World counted) (t : Touched) : Type 0 where
   pub process : IsChanged (spoken_process e) slots after t.process
   pub numbers : t.numbers.items ≡ without_process (spoken_process e) (touched_numbers e closed)

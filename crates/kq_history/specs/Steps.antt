@@ -7,7 +7,8 @@ use Rattle.kq_history.specs.declared.item.What.TheVariants as what
 
 -- two items in a row, each with its place; two steps are one, at the later place
 unfoldable pub joined_two : ℕ → What → ℕ → What → List Item
-joined_two p (what.Clocked from to) q (what.Clocked again end) = record { place = q; what = what.Clocked from end } ∷ []
+joined_two p (what.Clocked from to) q (what.Clocked again end) =
+    record { place = q; what = what.Clocked from end } ∷ []
 joined_two p v q w = record { place = p; what = v } ∷ record { place = q; what = w } ∷ []
 
 unfoldable pub joined_to : Item → List Item → List Item

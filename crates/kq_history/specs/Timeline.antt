@@ -1,5 +1,6 @@
 -- A value that changes from place to place: what it was before all marks, and from each mark on what the mark says.
-use Rattle.std.specs.Prelude.{◌≡◌, ℕ, nat_le, List, [], ◌∷◌, Bool, true, false, if◌then◌else◌, ◌≤◌, All, Option}
+use Rattle.std.specs.Prelude.{◌≡◌, ℕ, nat_le, List, [], ◌∷◌, Bool, true, false}
+use Rattle.std.specs.Prelude.{if◌then◌else◌, ◌≤◌, All, Option}
 use Rattle.std.specs.Prelude.{None, Some}
 use Rattle.std.specs.List.Sorted.{IsNonDecreasingBy, IsPartitionPoint}
 use Rattle.kq_history.specs.declared.marks.Mark.{Mark}
@@ -42,5 +43,6 @@ module _ {V : Type 0} where
   -- so many marks are at the place or before it
   abbrev pub HaveBegun : ℕ → ℕ → List (Mark V) → Type 0
   HaveBegun place count ms =
-      IsPartitionPoint (λ (m : Mark V). nat_le m.place place ≡ true) (λ (m : Mark V). nat_le m.place place ≡ false) ms
+      IsPartitionPoint (λ (m : Mark V). nat_le m.place place ≡ true)
+      (λ (m : Mark V). nat_le m.place place ≡ false) ms
       count

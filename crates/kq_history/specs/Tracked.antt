@@ -32,7 +32,8 @@ pub record IsTracked (t : Traced) (w : World) (s : Seen) : Type 0 where
 -- ---- one record more, with the worlds before it and after it
 
 -- all that it touches was noted: where what is seen goes on with the world after it, that is shown now
-abbrev pub IsNoted : ℕ → Event → List (ℕ × ℕ) → List Posted → model.World counted → model.World counted → (ℕ → Views)
+abbrev pub IsNoted : ℕ → Event → List (ℕ × ℕ) → List Posted → model.World counted
+    → model.World counted → (ℕ → Views)
     → (ℕ → Views) → Type 0
 IsNoted place e closed hints before after old new =
     (worlds next : ℕ → Views)
@@ -40,13 +41,15 @@ IsNoted place e closed hints before after old new =
     (touched_targets e closed hints (views_of before) (views_of after)) worlds next
     → Shows worlds old → Shows next new
 
-abbrev pub IsFollowedBy : ℕ → Event → Result (Unit {0}) Why → List (ℕ × ℕ) → List Posted → model.World counted
+abbrev pub IsFollowedBy : ℕ → Event → Result (Unit {0}) Why → List (ℕ × ℕ) → List Posted
+    → model.World counted
     → model.World counted → Seen → Seen → Type 0
 IsFollowedBy place e (Err why) closed hints before after old new = new ≡ old
 IsFollowedBy place e (Ok done) closed hints before after old new =
     AreAllUpTo place new × IsNoted place e closed hints before after (seen_by old) (seen_by new)
 
 -- of an impossible record nothing is noted
-abbrev pub IsFollowed : ℕ → Event → Effect → model.World counted → model.World counted → Seen → Seen → Type 0
+abbrev pub IsFollowed : ℕ → Event → Effect → model.World counted → model.World counted → Seen → Seen
+    → Type 0
 IsFollowed place e effect before after old new =
     IsFollowedBy place e effect.verdict effect.closed effect.hints before after old new

@@ -25,13 +25,15 @@ module _ (opens numbers : List (ℕ × ℕ)) (targets : List Target) (w : World 
     pub opened : All (λ (d : Descriptor). has_number d.pid d.number opens ≡ true
         → HasEach has (targets_named (Some d.named))) p.opened
     -- of a number that is neither opened nor closed
-    pub numbered : (pid number : ℕ) → has_number pid number numbers ≡ true → has_number pid number opens ≡ false
+    pub numbered : (pid number : ℕ) → has_number pid number numbers ≡ true
+        → has_number pid number opens ≡ false
         → has_pair pid number p.closed ≡ false → HasEach has (targets_named (named_among pid number w.table))
     pub closed : (pid number : ℕ) → has_pair pid number p.closed ≡ true
         → HasEach has (targets_left (tells_file p.hints) (named_among pid number w.table))
 
   pub record IsWithin (p : Plan) : Type 0 where
-    pub opened : All (λ (d : Descriptor). (has_number d.pid d.number opens || starts d.pid p.started) ≡ true) p.opened
+    pub opened : All (λ (d : Descriptor). (has_number d.pid d.number opens || starts d.pid p.started)
+        ≡ true) p.opened
     pub born : (x : Pair) → p.born ≡ Some x → has_number x.pid x.number opens ≡ true
     pub process : (pid : ℕ) → (starts pid p.started || ends pid p.ended) ≡ true
         → has_target (Process pid) targets ≡ true

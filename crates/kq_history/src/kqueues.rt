@@ -1,4 +1,5 @@
-ghost use Rattle.std.specs.Prelude.{◌≡◌, ◌==◌, ◌&&◌, ◌||◌, not, false, nat_eq, ℕ, ◌<◌, ◌++◌, ◌∷◌, [], length};
+ghost use Rattle.std.specs.Prelude.{◌≡◌, ◌==◌, ◌&&◌, ◌||◌, not, false, nat_eq, ℕ, ◌<◌};
+ghost use Rattle.std.specs.Prelude.{◌++◌, ◌∷◌, [], length};
 ghost use Rattle.std.specs.Prelude.{slice_index, None, IfOk, IfSome, OnOk};
 ghost use Rattle.std.specs.HashSet.{contains};
 ghost use Rattle.std.specs.List.{Contains, list_any};
@@ -181,7 +182,8 @@ fn index_of(places: &[u64], place: u64) -> usize
     requires there { Contains places.now place }
     ensures inside { result < length places.now }
     ensures there { slice_index places.now result ≡ place }
-    ensures alone { (index : ℕ) → index < length places.now → slice_index places.now index ≡ place → index ≡ result }
+    ensures alone { (index : ℕ) → index < length places.now → slice_index places.now index ≡ place
+        → index ≡ result }
 {
     places.partition_point(|made| *made < place)
 }

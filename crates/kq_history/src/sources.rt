@@ -55,7 +55,8 @@ impl Sources {
     /// Those of a list, each once.
     pub fn of(alloc: Global, list: &[Source]) -> Result<Self, Memory>
         ensures known { IfOk result AreKnown }
-        ensures sources { IfOk result (λ s. (x : declared_source) → has_source s.list.items x ≡ has_source list.now x) }
+        ensures sources { IfOk result (λ s. (x : declared_source)
+            → has_source s.list.items x ≡ has_source list.now x) }
     {
         let mut sources = Sources::new(alloc);
         sources.add_all(list)?;

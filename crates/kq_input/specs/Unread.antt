@@ -1,5 +1,6 @@
 -- The lines of an input of which some bytes wait in a reader, and what reading one line more leaves.
-use Rattle.std.specs.Prelude.{◌≡◌, ◌==◌, ℕ, Bool, true, false, List, [], ◌∷◌, ◌++◌, take, Option, Some, None}
+use Rattle.std.specs.Prelude.{◌≡◌, ◌==◌, ℕ, Bool, true, false, List, [], ◌∷◌, ◌++◌, take}
+use Rattle.std.specs.Prelude.{Option, Some, None}
 use Rattle.std.specs.List.{list_any}
 use Rattle.std.specs.Io.KnownBytes.{IsAtEnd}
 use Rattle.kq_model.specs.Lines.{line_feed, pieces_of, without_empty_end}

@@ -1,5 +1,6 @@
 -- The rule of the counter's table, and what each step tells the seat that takes it.
-use Rattle.std.specs.Prelude.{◌≡◌, ℕ, ◌+◌, ◌-◌, ◌<◌, ◌≤◌, ltb, List, [], ◌∷◌, ◌++◌, filter}
+use Rattle.std.specs.Prelude.{◌≡◌, ℕ, ◌+◌, ◌-◌, ◌<◌, ◌≤◌, ltb, List, [], ◌∷◌}
+use Rattle.std.specs.Prelude.{◌++◌, filter}
 use Rattle.std.specs.Prelude.{sum_by}
 use mathlib.Core.Option.{some}
 use lib.ListN.{get_elem?}

@@ -1,5 +1,6 @@
 -- What jobs gave, and what becomes of a run where it fails.
-use Rattle.std.specs.Prelude.{◌≡◌, ℕ, ◌<◌, ◌≤◌, ◌⊎◌, List, [], ◌∷◌, length, slice_get, Option}
+use Rattle.std.specs.Prelude.{◌≡◌, ℕ, ◌<◌, ◌≤◌, ◌⊎◌, List, [], ◌∷◌, length}
+use Rattle.std.specs.Prelude.{slice_get, Option}
 use Rattle.std.specs.Prelude.{Some}
 use Rattle.kq_jobs.specs.declared.worker.Ran.{Ran}
 use Rattle.kq_jobs.specs.declared.fault.RunFault.{RunFault}

@@ -1,5 +1,6 @@
 //! The counter that hands out the numbers of the jobs.
-ghost use Rattle.std.specs.Prelude.{◌≡◌, ℕ, ◌+◌, ◌-◌, ◌^◌, ◌<◌, ◌≤◌, ◌++◌, ◌∷◌, [], true, false};
+ghost use Rattle.std.specs.Prelude.{◌≡◌, ℕ, ◌+◌, ◌-◌, ◌^◌, ◌<◌, ◌≤◌, ◌++◌};
+ghost use Rattle.std.specs.Prelude.{◌∷◌, [], true, false};
 ghost use Rattle.std.specs.Prelude.{None, All, IfOk, IfSome, IfNone};
 ghost use Rattle.kq_jobs.specs.Claims.{IsAtMostOnce, HasAll};
 

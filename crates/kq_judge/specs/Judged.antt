@@ -30,7 +30,8 @@ pub record AreRight {S : Type 0} {h : Hearing S} (ignored : List Ignored) (views
   pub once : AreOnce (map key_of_event events)
 
 -- what is wrong first with an event behind those of these keys, where there is room
-abbrev pub IsOwnFault : {S : Type 0} {h : Hearing S} → List Ignored → Views → List (Knote h) → List Key → Kevent
+abbrev pub IsOwnFault : {S : Type 0} {h : Hearing S} → List Ignored → Views → List (Knote h) → List Key
+    → Kevent
     → Fault → Type 0
 IsOwnFault ignored views knotes before e PastRoom = ⊥
 IsOwnFault ignored views knotes before e Twice = has_key (key_of_event e) before ≡ true
@@ -46,7 +47,8 @@ pub record IsRightBehind {S : Type 0} {h : Hearing S} (ignored : List Ignored) (
   pub new : has_key (key_of_event e) before ≡ false
 
 -- what is wrong first with an event behind these
-abbrev pub IsFault : {S : Type 0} {h : Hearing S} → List Ignored → Views → ℕ → List (Knote h) → List Kevent → Kevent
+abbrev pub IsFault : {S : Type 0} {h : Hearing S} → List Ignored → Views → ℕ → List (Knote h)
+    → List Kevent → Kevent
     → Fault → Type 0
 IsFault ignored views room knotes before e PastRoom = room ≤ length before
 IsFault ignored views room knotes before e fault =
@@ -64,7 +66,8 @@ pub record IsWrongAt {S : Type 0} {h : Hearing S} (ignored : List Ignored) (view
 -- of these keys, those of which an event is pending are among those that were returned
 abbrev pub AreReturned : {S : Type 0} {h : Hearing S} → Views → List (Knote h) → List Key → List Key → Type 0
 AreReturned views knotes keys returned =
-    (key : Key) (e : Kevent) → has_key key keys ≡ true → IsPending views knotes key e → has_key key returned ≡ true
+    (key : Key) (e : Kevent) → has_key key keys ≡ true → IsPending views knotes key e
+    → has_key key returned ≡ true
 
 -- an event of this key is pending, and it is not among those that were returned; it is the first such key of the queue
 pub record IsFirstHeldBack {S : Type 0} {h : Hearing S} (views : Views) (knotes : List (Knote h))

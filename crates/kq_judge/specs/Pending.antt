@@ -32,4 +32,5 @@ module _ {S : Type 0} {h : Hearing S} where
       (k : Knote h) × (find_knote key knotes ≡ Some k) × (k.enabled ≡ true) × (k.active ≡ false)
       × (holds ≡ is_some (look views k))
   IsAbsence views knotes key Idle =
-      (k : Knote h) × (find_knote key knotes ≡ Some k) × (k.enabled ≡ true) × (k.active ≡ true) × (look views k ≡ None)
+      (k : Knote h) × (find_knote key knotes ≡ Some k) × (k.enabled ≡ true) × (k.active ≡ true)
+      × (look views k ≡ None)

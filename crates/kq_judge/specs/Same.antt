@@ -40,7 +40,8 @@ pub record IsSame (ignored : List Ignored) (a b : Kevent) : Type 0 where
 pub record IsFirstDifference (ignored : List Ignored) (a b : Kevent) (member : Member) : Type 0 where
   pub compared : is_ignored ignored b.filter member ≡ false
   pub differ : AgreeOn member a b → ⊥
-  pub first : (other : Member) → member_number other < member_number member → is_ignored ignored b.filter other ≡ false
+  pub first : (other : Member) → member_number other < member_number member
+      → is_ignored ignored b.filter other ≡ false
       → AgreeOn other a b
 
 -- as many events, each the same as the one at its place

@@ -1,4 +1,5 @@
-ghost use Rattle.std.specs.Prelude.{◌≡◌, ◌≤◌, ◌<◌, ◌-◌, ℕ, if◌then◌else◌, [], IfOk, IsOk, MatchBool, length};
+ghost use Rattle.std.specs.Prelude.{◌≡◌, ◌≤◌, ◌<◌, ◌-◌, ℕ, if◌then◌else◌, [], IfOk};
+ghost use Rattle.std.specs.Prelude.{IsOk, MatchBool, length};
 ghost use Rattle.kq_model.specs.Kqueue.{IsSound};
 ghost use Rattle.kq_judge.specs.Allowed.{event_due};
 ghost use Rattle.kq_model.specs.declared.kevent.Kevent.{Kevent};
@@ -133,7 +134,8 @@ pub fn verdict_of<V: Views>(
     ensures is { IsVerdict outcome (V.sees views.now) kq.now.kq key result }
 
     // And no other verdict is.
-    ensures alone { (other : Verdict) → IsVerdict outcome (V.sees views.now) kq.now.kq key other → other ≡ result }
+    ensures alone { (other : Verdict) → IsVerdict outcome (V.sees views.now) kq.now.kq key other
+        → other ≡ result }
 {
     let looked = was_returned(looked_at, key);
     match pending_event(kq, key, views) {

@@ -1,5 +1,6 @@
 // The order of the queue: a look at it, and another order of it.
-ghost use Rattle.std.specs.Prelude.{◌≡◌, ◌≤◌, ◌++◌, [], length, drop, take, filter, slice_get, IfOk, IsPermutation};
+ghost use Rattle.std.specs.Prelude.{◌≡◌, ◌≤◌, ◌++◌, [], length, drop, take, filter, slice_get};
+ghost use Rattle.std.specs.Prelude.{IfOk, IsPermutation};
 ghost use Rattle.std.specs.Prelude.{if◌then◌else◌};
 ghost use Rattle.kq_model.specs.Hearing.{listed};
 ghost use Rattle.kq_model.specs.Knote.{find_knote, queued};

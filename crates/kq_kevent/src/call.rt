@@ -1,4 +1,5 @@
-ghost use Rattle.std.specs.Prelude.{◌≡◌, ◌↔◌, ◌≤◌, ◌+◌, [], length, max, min, IsTrue, IfOk, IsOk, OnErr};
+ghost use Rattle.std.specs.Prelude.{◌≡◌, ◌↔◌, ◌≤◌, ◌+◌, [], length, max, min, IsTrue};
+ghost use Rattle.std.specs.Prelude.{IfOk, IsOk, OnErr};
 ghost use Rattle.kq_model.specs.Call.{call};
 ghost use Rattle.kq_model.specs.Hearing.{listed};
 ghost use Rattle.kq_model.specs.Kqueue.{Kqueue};

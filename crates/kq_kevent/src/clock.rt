@@ -1,4 +1,5 @@
-ghost use Rattle.std.specs.Prelude.{◌≡◌, ℤ, pos, ◌≤ℤ◌, unsigned_abs, ◌<◌, ◌≤◌, ◌+◌, ◌∷◌, Some, [], map, min, nat_le};
+ghost use Rattle.std.specs.Prelude.{◌≡◌, ℤ, pos, ◌≤ℤ◌, unsigned_abs, ◌<◌, ◌≤◌};
+ghost use Rattle.std.specs.Prelude.{◌+◌, ◌∷◌, Some, [], map, min, nat_le};
 ghost use Rattle.std.specs.Prelude.{if◌then◌else◌, MatchOption};
 ghost use Rattle.kq_model.specs.Clock.{clocked};
 ghost use Rattle.kq_model.specs.Hearing.{listed};
@@ -48,7 +49,8 @@ impl Kq {
 
         // Any moment between may be stopped at: so the expirations of many steps add up.
         ensures steps { (between : ℤ) → from ≤ℤ between → between ≤ℤ to
-            → self.new.kq ≡ clocked (Some (span_of between to)) (clocked (Some (span_of from between)) self.old.kq) }
+            → self.new.kq ≡ clocked (Some (span_of between to))
+            (clocked (Some (span_of from between)) self.old.kq) }
 
         // The same in the words of the definitions, which keep all that was heard.
         ensures model { (m : Kqueue listed) → self.old.kq ≡ recast.tallied m

@@ -181,7 +181,8 @@ impl Kq {
     #[inline(always)]
     fn is_unmoved(&self, target: Target, hints: &[(Target, Hint)]) -> bool
         requires { IsOnly target hints.now }
-        ensures unmoved { result ≡ true → (seen : world.Views) → notified seen hints.now self.now.kq ≡ self.now.kq }
+        ensures unmoved { result ≡ true → (seen : world.Views)
+            → notified seen hints.now self.now.kq ≡ self.now.kq }
         ensures sound { IsSound self.now.kq }
     {
         let Some(knote) = self.knotes.lone_watcher(target) else {

@@ -1,5 +1,6 @@
 -- Which knotes watch which targets: what is found; and what holds of the knotes and of the alarms.
-use Rattle.std.specs.Prelude.{◌≡◌, ◌≤◌, ℕ, Bool, true, false, List, map, filter, Some, None, Option, slice_get}
+use Rattle.std.specs.Prelude.{◌≡◌, ◌≤◌, ℕ, Bool, true, false, List, map, filter, Some, None}
+use Rattle.std.specs.Prelude.{Option, slice_get}
 use Rattle.std.specs.Prelude.{if◌then◌else◌}
 use Rattle.std.specs.List.{list_any}
 use Rattle.kq_model.specs.declared.key.Key.{Key}
@@ -55,7 +56,8 @@ shares k = is_shared k.target
 
 -- all hints are for this one target, which the knotes that watch it share
 abbrev pub IsOnly : Target → List Posted → Type 0
-IsOnly target posted = (is_shared (Some target) ≡ true) × ((k : Knote) → is_hinted posted k ≡ is_target k.target target)
+IsOnly target posted =
+    (is_shared (Some target) ≡ true) × ((k : Knote) → is_hinted posted k ≡ is_target k.target target)
 
 -- what it watches, where others may watch it too
 abbrev pub shared_of : Knote → Option Target

@@ -101,7 +101,8 @@ impl Knote {
     /// low 24 bits are stored, whatever the control bits. `target` is what the change names.
     #[tactic(auto, unfolding(kq_model::specs::ChangedKnote::begun, kq_model::specs::ChangedKnote::fresh))]
     pub fn first(change: &Change, target: Option<Target>, version: u32, now: u64) -> Knote
-        ensures { (caller : Caller) → target ≡ target_of caller.views caller.owner change.now.filter change.now.ident
+        ensures { (caller : Caller) → target
+            ≡ target_of caller.views caller.owner change.now.filter change.now.ident
             → version ≡ caller.version → now ≡ caller.views.now
             → result ≡ begun change.now.filter caller change.now (fresh caller change.now) }
     {

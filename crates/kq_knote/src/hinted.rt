@@ -60,7 +60,8 @@ impl Knotes {
         ensures found { (knote : tallied.Knote) → option_copied result ≡ Some knote
             → find_knote knote.key self.now.knotes ≡ Some knote }
         ensures alone { (knote : tallied.Knote) → option_copied result ≡ Some knote
-            → (posted : List Posted) → IsOnly target posted → hinted_keys posted self.now.knotes ≡ knote.key ∷ [] }
+            → (posted : List Posted) → IsOnly target posted
+            → hinted_keys posted self.now.knotes ≡ knote.key ∷ [] }
     {
         self.rows.lone_watching(target)
     }

@@ -1,4 +1,5 @@
-ghost use Rattle.std.specs.Prelude.{List, ◌≡◌, ◌<◌, ◌≤◌, ◌+◌, ◌++◌, ◌↔◌, ◌∷◌, IsTrue, true, [], None, OnOk, OnErr};
+ghost use Rattle.std.specs.Prelude.{List, ◌≡◌, ◌<◌, ◌≤◌, ◌+◌, ◌++◌, ◌↔◌};
+ghost use Rattle.std.specs.Prelude.{◌∷◌, IsTrue, true, [], None, OnOk, OnErr};
 ghost use Rattle.std.specs.Prelude.{if◌then◌else◌, Some, MatchOption, slice_get, length, filter, not, max};
 ghost use Rattle.std.specs.Option.{option_copied, option_map};
 ghost use Rattle.kq_model.specs.Close.{is_of_number};
@@ -207,7 +208,8 @@ impl Knotes {
         ensures room { self.new.room + 1 ≡ self.old.room }
 
         // The same of knotes that keep all that they heard.
-        ensures model { (ms : List (model.Knote listed)) (m : model.Knote listed) → self.old.knotes ≡ tallied_knotes ms
+        ensures model { (ms : List (model.Knote listed)) (m : model.Knote listed)
+            → self.old.knotes ≡ tallied_knotes ms
             → knote ≡ tallied_knote m → self.new.knotes ≡ tallied_knotes (ms ++ m ∷ []) }
     {
         let first = knote.first_after(self.since);
@@ -223,7 +225,8 @@ impl Knotes {
         ensures room { self.new.room ≡ self.old.room }
 
         // The same of knotes that keep all that they heard.
-        ensures model { (ms : List (model.Knote listed)) (m : model.Knote listed) → self.old.knotes ≡ tallied_knotes ms
+        ensures model { (ms : List (model.Knote listed)) (m : model.Knote listed)
+            → self.old.knotes ≡ tallied_knotes ms
             → knote ≡ tallied_knote m → self.new.knotes ≡ tallied_knotes (with_knote m ms) }
     {
         if let Some(found) = self.locate(knote.key) {
@@ -239,7 +242,8 @@ impl Knotes {
         ensures room { self.new.room ≡ self.old.room }
 
         // The same of knotes that keep all that they heard.
-        ensures model { (ms : List (model.Knote listed)) (m : model.Knote listed) → self.old.knotes ≡ tallied_knotes ms
+        ensures model { (ms : List (model.Knote listed)) (m : model.Knote listed)
+            → self.old.knotes ≡ tallied_knotes ms
             → knote ≡ tallied_knote m → self.new.knotes ≡ tallied_knotes (with_knote m ms) }
     {
         if self.modify_there(guess, &knote) {
@@ -252,7 +256,8 @@ impl Knotes {
     /// same moments, and says whether it does; else nothing changes.
     #[inline(always)]
     fn modify_there(&mut self, guess: Place, knote: &Knote) -> bool
-        ensures knotes { self.new.knotes ≡ (if result then with_knote knote.now self.old.knotes else self.old.knotes) }
+        ensures knotes { self.new.knotes
+            ≡ (if result then with_knote knote.now self.old.knotes else self.old.knotes) }
         ensures queue { self.new.queue ≡ self.old.queue }
         ensures room { self.new.room ≡ self.old.room }
     {
@@ -291,7 +296,8 @@ impl Knotes {
         ensures removed { result ≡ find_knote key self.old.knotes }
         ensures knotes { self.new.knotes ≡ without_knote key self.old.knotes }
         ensures queue { self.new.queue ≡ without_key key self.old.queue }
-        ensures room { MatchOption result (self.new.room ≡ self.old.room) (λ _. self.new.room ≡ self.old.room + 1) }
+        ensures room { MatchOption result (self.new.room ≡ self.old.room)
+            (λ _. self.new.room ≡ self.old.room + 1) }
         ensures limit { length self.new.knotes + self.new.room ≡ length self.old.knotes + self.old.room }
 
         // The same of knotes that keep all that they heard.
@@ -308,7 +314,8 @@ impl Knotes {
         ensures removed { result ≡ find_knote key self.old.knotes }
         ensures knotes { self.new.knotes ≡ without_knote key self.old.knotes }
         ensures queue { self.new.queue ≡ without_key key self.old.queue }
-        ensures room { MatchOption result (self.new.room ≡ self.old.room) (λ _. self.new.room ≡ self.old.room + 1) }
+        ensures room { MatchOption result (self.new.room ≡ self.old.room)
+            (λ _. self.new.room ≡ self.old.room + 1) }
         ensures limit { length self.new.knotes + self.new.room ≡ length self.old.knotes + self.old.room }
 
         // The same of knotes that keep all that they heard.

@@ -27,7 +27,8 @@ AwaitsThere f place new = (l : Live) × (find_live place new.live ≡ Some l) ×
 abbrev pub FollowsChildren : ℕ → Event → System → System → Type 0
 FollowsChildren applied e old new =
     (events : List Event) → HaveLedTo events applied old → old.version ≡ 2
-    → (pid child : ℕ) → e ≡ Fork pid child → (p : Plan) → plan (applied + 1) e (seen_world old.world) ≡ Possible p
+    → (pid child : ℕ) → e ≡ Fork pid child → (p : Plan)
+    → plan (applied + 1) e (seen_world old.world) ≡ Possible p
     → (l : Live) → find_live l.place old.live ≡ Some l → tracks pid l.kq ≡ true
     → find_knote (process_key child) l.kq.knotes ≡ None
     → AwaitsThere (record { parent = pid; child = child }) l.place new

@@ -1,5 +1,6 @@
 -- Runs of the whole system: the events of a trace, one after the other from its start.
-use Rattle.std.specs.Prelude.{◌≡◌, ◌≤◌, ◌==◌, ◌&&◌, ◌+◌, ℕ, Bool, false, List, [], ◌∷◌, Option, None, Some}
+use Rattle.std.specs.Prelude.{◌≡◌, ◌≤◌, ◌==◌, ◌&&◌, ◌+◌, ℕ, Bool, false, List, []}
+use Rattle.std.specs.Prelude.{◌∷◌, Option, None, Some}
 use Rattle.std.specs.Prelude.{if◌then◌else◌, length, All}
 use Rattle.kq_model.specs.declared.change.Change.{Change}
 use Rattle.kq_model.specs.declared.event.Event.{Event}
@@ -43,7 +44,8 @@ find_live place (l ∷ live) = if place == l.place then Some l else find_live pl
 
 -- the event at this place is a kevent call, with these changes and room for so many events, of a number that names
 -- this live kqueue; and it is possible
-pub record IsCallOf (place : ℕ) (e : Event) (s : System) (l : Live) (changes : List Change) (room : ℕ) : Type 0 where
+pub record IsCallOf (place : ℕ) (e : Event) (s : System) (l : Live) (changes : List Change)
+    (room : ℕ) : Type 0 where
   pub pid : ℕ
   pub number : ℕ
   pub event : e ≡ Kevent pid number changes room
@@ -65,7 +67,8 @@ ReturnsAllDue applied e old new reply =
     (events : List Event) → HaveLedTo events applied old
     → (l : Live) (changes : List Change) (room : ℕ) → IsCallOf (applied + 1) e old l changes room
     → AreQuiet (owner_in new l) changes l.kq
-    → ReturnsDue (views_of (seen_world new.world)) room (kqueue_after_changes (owner_in new l) room changes l.kq) reply
+    → ReturnsDue (views_of (seen_world new.world)) room
+    (kqueue_after_changes (owner_in new l) room changes l.kq) reply
 
 -- ---- timers
 

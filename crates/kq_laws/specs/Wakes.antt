@@ -1,7 +1,8 @@
 -- That no wake-up is lost (kqueue(2): a filter without EV_CLEAR is level-triggered): where the condition of a knote
 -- holds that is enabled and has neither ONESHOT nor CLEAR nor DISPATCH, a call with room for it returns it. So it does
 -- with the enabled knote of a child whose notice was not told yet.
-use Rattle.std.specs.Prelude.{◌≡◌, ℕ, suc, ◌<◌, Bool, true, false, ◌||◌, List, [], ◌∷◌, Option, Some, None}
+use Rattle.std.specs.Prelude.{◌≡◌, ℕ, suc, ◌<◌, Bool, true, false, ◌||◌, List, [], ◌∷◌}
+use Rattle.std.specs.Prelude.{Option, Some, None}
 use Rattle.std.specs.Prelude.{if◌then◌else◌}
 use Rattle.std.specs.Prelude.{All, ◌⊎◌}
 use Rattle.std.specs.Option.{is_some}
@@ -75,7 +76,8 @@ IsReturned e reply = (events : List Kevent) × (reply ≡ Events events) × IsAm
 -- of it. What is seen of one with a notice is its notice.
 abbrev pub ReturnsDue : Views → ℕ → Kqueue → Reply → Type 0
 ReturnsDue views room kq reply =
-    (key : Key) (k : Knote) (seen : Seen) → find_knote key kq.knotes ≡ Some k → is_owed k ≡ true → k.enabled ≡ true
+    (key : Key) (k : Knote) (seen : Seen) → find_knote key kq.knotes ≡ Some k → is_owed k ≡ true
+    → k.enabled ≡ true
     → look views k ≡ Some seen → ahead views kq.knotes key kq.queue < room → IsReturned (event_of k seen) reply
 
 -- The steps led from the kqueue's birth to what it is now, and it was told of the world. Then a call whose changes

@@ -1,5 +1,6 @@
 -- How the members that were found of an object stand for the members that it has.
-use Rattle.std.specs.Prelude.{◌≡◌, ◌<◌, ◌^◌, ℕ, true, negsuc, List, [], ◌∷◌, length, bytes_eq, Option, Some, None}
+use Rattle.std.specs.Prelude.{◌≡◌, ◌<◌, ◌^◌, ℕ, true, negsuc, List, [], ◌∷◌, length}
+use Rattle.std.specs.Prelude.{bytes_eq, Option, Some, None}
 use Rattle.std.specs.Prelude.{if◌then◌else◌}
 use Rattle.serde_json.specs.Data.{Data, Members, boolean, negative, number, string, unsigned}
 use Rattle.serde_json.specs.Find.{get_member}

@@ -1,5 +1,6 @@
 -- Members that stand one behind the other, as far as they were read.
-use Rattle.std.specs.Prelude.{◌≡◌, ◌≤◌, ℕ, ℤ, pos, negsuc, List, [], ◌∷◌, ◌++◌, Bool, true, ◌&&◌, codes, nat_lt}
+use Rattle.std.specs.Prelude.{◌≡◌, ◌≤◌, ℕ, ℤ, pos, negsuc, List, [], ◌∷◌, ◌++◌, Bool}
+use Rattle.std.specs.Prelude.{true, ◌&&◌, codes, nat_lt}
 use Rattle.std.specs.Prelude.{Option, Some, None, Ok}
 use Rattle.json.specs.Json as json
 use Rattle.json.specs.Spaced.{IsGap}
@@ -53,7 +54,8 @@ with_pid pid op = put (codes "pid") (number (unsigned pid)) (with_op op)
 -- a line that names this kind and has these members up to `rest` is the event
 abbrev pub IsEventFrom : RecordKind → (List ℕ → Members) → List ℕ → Event → Type 0
 IsEventFrom kind members rest e =
-    (line op : List ℕ) → kind_named op ≡ Some kind → IsLineUpTo line rest (members op) → event_of (json_of line) ≡ Ok e
+    (line op : List ℕ) → kind_named op ≡ Some kind → IsLineUpTo line rest (members op)
+    → event_of (json_of line) ≡ Ok e
 
 -- the members, and this one, if it is there
 abbrev pub put_if : List ℕ → Option Data → Members → Members

@@ -14,7 +14,8 @@ IsScalar text piece tail = (d : Data) × IsValue 0 text tail d × ((changes : Li
 
 -- the value of a member of a change
 abbrev pub IsPartOfChange : List ℕ → Piece → List ℕ → Type 0
-IsPartOfChange text piece tail = (d : Data) × IsValue 1 text tail d × ((changes : List Change) → Holds changes piece d)
+IsPartOfChange text piece tail =
+    (d : Data) × IsValue 1 text tail d × ((changes : List Change) → Holds changes piece d)
 
 -- the value of a member of a record, beside what was found of it
 abbrev pub IsPartOfRecord : Found → List ℕ → Piece → List ℕ → Type 0
@@ -25,7 +26,8 @@ abbrev pub AreFlagNames : List ℕ → ℕ → List ℕ → Type 0
 AreFlagNames text bits tail = (d : Data) × IsValue 1 (91 ∷ text) tail d × (flags_in d ≡ Some bits)
 
 abbrev pub IsChange : List ℕ → Change → List ℕ → Type 0
-IsChange text change tail = (d : Data) × IsValue 2 text tail d × (is_change d ≡ true) × (change_of d ≡ Some change)
+IsChange text change tail =
+    (d : Data) × IsValue 2 text tail d × (is_change d ≡ true) × (change_of d ≡ Some change)
 
 -- changes, from behind the bracket of their list
 abbrev pub IsChangeList : List ℕ → List Change → List ℕ → Type 0

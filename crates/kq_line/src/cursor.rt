@@ -1,6 +1,7 @@
 //! What is left of a line is a slice that gets shorter from the front: no index, and no copy.
 
-ghost use Rattle.std.specs.Prelude.{◌≡◌, ◌<◌, ◌≤◌, ◌∷◌, ◌++◌, List, ℕ, IfSome, IsTrue, bytes_eq, length};
+ghost use Rattle.std.specs.Prelude.{◌≡◌, ◌<◌, ◌≤◌, ◌∷◌, ◌++◌, List, ℕ, IfSome};
+ghost use Rattle.std.specs.Prelude.{IsTrue, bytes_eq, length};
 ghost use Rattle.json.specs.Spaced.{IsGap};
 
 /// The text behind this byte, where it begins with the byte.

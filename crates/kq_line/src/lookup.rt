@@ -177,7 +177,8 @@ impl<'a> Found<'a> {
 
     /// The changes that the member lists, in memory of their own; none where memory is refused.
     pub fn changes_at(&self, name: &[u8]) -> Option<Vec<Change>>
-        ensures { IfSome result (λ changes. (ms : Members) → Shows self.now ms → AreChanges ms name.now changes.items) }
+        ensures { IfSome result (λ changes. (ms : Members) → Shows self.now ms
+            → AreChanges ms name.now changes.items) }
     {
         match self.piece(name)? {
             Piece::Changes => {

@@ -57,7 +57,8 @@ fn record_value<'a>(
 /// Reads the members of a change, from behind its brace, in place of what was found before; and gives the
 /// text behind the brace that closes it.
 pub fn change_members<'a>(text: &'a [u8], change: &mut Found<'a>) -> Option<&'a [u8]>
-    ensures value { IfSome result (λ tail. (ms : Members) × AreMembers 1 text.now tail.now ms × Shows change.new ms) }
+    ensures value { IfSome result (λ tail. (ms : Members) × AreMembers 1 text.now tail.now ms
+        × Shows change.new ms) }
     ensures shorter { IfSome result (λ tail. length tail.now < length text.now) }
 {
     change.clear();

@@ -1,6 +1,7 @@
 //! Names in quotation marks.
 
-ghost use Rattle.std.specs.Prelude.{◌≡◌, ◌<◌, ◌≤◌, ◌∷◌, ◌++◌, IfSome, List, ℕ, length, slice_index};
+ghost use Rattle.std.specs.Prelude.{◌≡◌, ◌<◌, ◌≤◌, ◌∷◌, ◌++◌, IfSome, List, ℕ};
+ghost use Rattle.std.specs.Prelude.{length, slice_index};
 ghost use Rattle.json.specs.Spaced.{IsGap};
 ghost use Rattle.kq_line.specs.Names.{IsLetter, IsName};
 

@@ -1,6 +1,7 @@
 //! Whole numbers in decimal digits.
 
-ghost use Rattle.std.specs.Prelude.{◌≡◌, ◌<◌, ◌+◌, ◌*◌, ◌^◌, ◌∷◌, ◌++◌, IfSome, decimal, length, negsuc, pos};
+ghost use Rattle.std.specs.Prelude.{◌≡◌, ◌<◌, ◌+◌, ◌*◌, ◌^◌, ◌∷◌, ◌++◌, IfSome};
+ghost use Rattle.std.specs.Prelude.{decimal, length, negsuc, pos};
 
 /// The most that a digit may follow, whatever the digit: ten times it and 9 fit 64 bits.
 const MOST_BEFORE_ANY: u64 = u64::MAX / 10 - 1;

@@ -1,6 +1,7 @@
 //! Members, each where programs write it.
 
-ghost use Rattle.std.specs.Prelude.{◌≡◌, ◌<◌, ◌≤◌, ◌^◌, ℕ, ℤ, pos, List, IfSome, IsTrue, Option, Some, length};
+ghost use Rattle.std.specs.Prelude.{◌≡◌, ◌<◌, ◌≤◌, ◌^◌, ℕ, ℤ, pos, List, IfSome};
+ghost use Rattle.std.specs.Prelude.{IsTrue, Option, Some, length};
 ghost use Rattle.std.specs.Prelude.{option_map};
 ghost use Rattle.serde_json.specs.Data.{Members, number, object, put, string, unsigned};
 ghost use Rattle.kq_model.specs.Members.{i64_in, moment_in};

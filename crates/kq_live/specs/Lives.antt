@@ -1,5 +1,6 @@
 -- What contracts see of a live system and of its seats, and what its calls promise.
-use Rattle.std.specs.Prelude.{◌≡◌, ℕ, ◌-◌, ◌^◌, ◌≤◌, Some, List, ◌∷◌, [], ◌++◌, length, map}
+use Rattle.std.specs.Prelude.{◌≡◌, ℕ, ◌-◌, ◌^◌, ◌≤◌, Some, List, ◌∷◌, [], ◌++◌}
+use Rattle.std.specs.Prelude.{length, map}
 use mathlib.Core.List.{IsPrefix}
 use Rattle.kq_lock.specs.declared.entry.Entry.{Entry}
 use Rattle.kq_lock.specs.declared.view.Call.{Call}
@@ -37,7 +38,8 @@ Replays version log = replies_of log ≡ replies version (events_of log)
 -- the lock was opened on the empty system, with no more tickets than there can be events
 abbrev pub OpensEmpty : LockName LiveMachine → ℕ → Type 0
 OpensEmpty lock version =
-    (o : LiveMachine) × (lock.opening ≡ Some o) × IsEmpty version o × IsVersion version × (lock.last ≤ 2 ^ 31 - 1)
+    (o : LiveMachine) × (lock.opening ≡ Some o) × IsEmpty version o × IsVersion version
+    × (lock.last ≤ 2 ^ 31 - 1)
 
 -- The seat v called the system with this event and got this reply, and is w afterwards. All that it had seen
 -- begins what it sees now, which ends with this call, replays, and has each call of the seat once.
@@ -46,7 +48,8 @@ pub record IsCalled (version : ℕ) (v w : LiveSeated) (event : Event) (at : ℕ
   pub same : w ≡ record v { seen = w.seen }
   pub begins : IsPrefix v.seen w.seen
   pub replays : Replays version w.seen
-  pub ends : (log : List LiveCall) × (w.seen ≡ log ++ call_of v.number (record { step = event; answer = reply }) ∷ [])
+  pub ends : (log : List LiveCall) × (w.seen ≡ log ++ call_of v.number (record { step = event; answer = reply })
+      ∷ [])
   pub own : own_calls w ≡ own_calls v ++ call_of v.number (record { step = event; answer = reply }) ∷ []
   pub place : at ≡ length w.seen
   pub shorter : seen_len ≡ length v.seen

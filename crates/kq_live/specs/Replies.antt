@@ -15,7 +15,8 @@ module _ {S A B C D : Type 0} {h : Hearing S} {k : Keeping A B C D} where
   replies_after place s (e ∷ es) = (step place e s).reply ∷ replies_after (place + 1) (step place e s).system es
 
 -- however what was heard and the objects are kept
-unfoldable pub replies_by : {S A B C D : Type 0} (h : Hearing S) (k : Keeping A B C D) → ℕ → List Event → List Reply
+unfoldable pub replies_by : {S A B C D : Type 0} (h : Hearing S) (k : Keeping A B C D) → ℕ → List Event
+    → List Reply
 replies_by h k version events = replies_after 1 (empty_system {h = h} {k = k} version) events
 
 unfoldable pub replies : ℕ → List Event → List Reply

@@ -1,5 +1,6 @@
 //! The live system and its calls.
-ghost use Rattle.std.specs.Prelude.{◌≡◌, ◌≢◌, ◌+◌, ◌-◌, ◌^◌, ◌<◌, ◌≤◌, true, false, [], length, vec_len, IfOk, IfErr};
+ghost use Rattle.std.specs.Prelude.{◌≡◌, ◌≢◌, ◌+◌, ◌-◌, ◌^◌, ◌<◌, ◌≤◌, true};
+ghost use Rattle.std.specs.Prelude.{false, [], length, vec_len, IfOk, IfErr};
 ghost use mathlib.Core.List.{IsPrefix};
 ghost use Rattle.kq_lock.specs.Calls.{calls_by, longer};
 ghost use Rattle.kq_lock.specs.Seats.{AllParted, AreApart, AreHalves, EachSeat, IsFresh, Refused, own_calls};

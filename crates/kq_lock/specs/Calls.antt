@@ -1,5 +1,6 @@
 -- Histories of a machine: lists of calls, each with the number of the seat that made it.
-use Rattle.std.specs.Prelude.{◌≡◌, ◌≢◌, ℕ, ◌==◌, ◌%◌, ◌<◌, Option, Some, ltb, cond, List, [], ◌∷◌}
+use Rattle.std.specs.Prelude.{◌≡◌, ◌≢◌, ℕ, ◌==◌, ◌%◌, ◌<◌, Option, Some, ltb, cond}
+use Rattle.std.specs.Prelude.{List, [], ◌∷◌}
 use Rattle.std.specs.Prelude.{◌++◌, map, filter, length}
 use mathlib.Core.List.{IsPrefix}
 use mathlib.Core.Option.{some}

@@ -1,5 +1,6 @@
 //! One turn, step by step. The value is out of the slot only while the seat has the turn.
-ghost use Rattle.std.specs.Prelude.{◌≡◌, ◌≢◌, ◌+◌, ◌^◌, ◌<◌, ◌≤◌, true, [], length, IfOk, IfErr, OnErr};
+ghost use Rattle.std.specs.Prelude.{◌≡◌, ◌≢◌, ◌+◌, ◌^◌, ◌<◌, ◌≤◌, true, []};
+ghost use Rattle.std.specs.Prelude.{length, IfOk, IfErr, OnErr};
 ghost use Rattle.kq_lock.specs.Turns.{IsLockTable, IsSameSeat, IsSameView, HasTurn, KeepsOthers};
 ghost use Rattle.kq_lock.specs.Turns.{IsLogged, MayPassOn};
 ghost use Rattle.kq_lock.specs.declared.view.Stage.TheVariants.{Idle, Waits};

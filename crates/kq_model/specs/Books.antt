@@ -1,7 +1,8 @@
 -- How what happened to an object is kept: as the list of its records, the latest first, or as the
 -- quantities that are read off that list. Amounts that are differences are integers: the definitions
 -- say nothing of when they are below zero.
-use Rattle.std.specs.Prelude.{ℕ, ℤ, pos, ◌+ℤ◌, ◌-ℤ◌, Bool, false, ◌||◌, List, [], ◌∷◌, Option, Some, None}
+use Rattle.std.specs.Prelude.{ℕ, ℤ, pos, ◌+ℤ◌, ◌-ℤ◌, Bool, false, ◌||◌, List, [], ◌∷◌}
+use Rattle.std.specs.Prelude.{Option, Some, None}
 
 -- R are the records of an object, Q its quantities, S what is kept of it
 pub record Book (R Q S : Type 0) : Type 0 where

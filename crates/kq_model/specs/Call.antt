@@ -1,6 +1,7 @@
 -- One kevent call (kqueue(2)): all changes in order, with an entry for each that fails or asks for a
 -- receipt; then, where no entry was placed and no change ended the call, the retrieval.
-use Rattle.std.specs.Prelude.{ℕ, pos, Bool, ◌||◌, List, [], ◌∷◌, ◌++◌, length, nat_lt, Option, Some, None}
+use Rattle.std.specs.Prelude.{ℕ, pos, Bool, ◌||◌, List, [], ◌∷◌, ◌++◌, length, nat_lt, Option}
+use Rattle.std.specs.Prelude.{Some, None}
 use Rattle.std.specs.Prelude.{if◌then◌else◌}
 use Rattle.std.specs.Option.{is_some}
 use Rattle.kq_model.specs.declared.change.Change.{Change}
@@ -54,7 +55,8 @@ pub record Called {S : Type 0} (h : Hearing S) : Type 0 where
 
 module _ {S : Type 0} {h : Hearing S} where
   -- after one change, whose registration is given; `rest` goes on with the later changes
-  unfoldable pub after : (List Kevent → Kqueue h → Processed h) → ℕ → Change → List Kevent → Registered h → Processed h
+  unfoldable pub after : (List Kevent → Kqueue h → Processed h) → ℕ → Change → List Kevent
+      → Registered h → Processed h
   after rest room c placed r =
       if is_answered c r.error
       then (if nat_lt (length placed) room

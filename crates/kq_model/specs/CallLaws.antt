@@ -1,5 +1,6 @@
 -- What the answer of a kevent call promises, in the words of its user.
-use Rattle.std.specs.Prelude.{◌≡◌, ◌<◌, ◌≤◌, ◌⊎◌, ℕ, true, false, List, [], ◌∷◌, map, length, Some, None}
+use Rattle.std.specs.Prelude.{◌≡◌, ◌<◌, ◌≤◌, ◌⊎◌, ℕ, true, false, List, [], ◌∷◌}
+use Rattle.std.specs.Prelude.{map, length, Some, None}
 use Rattle.kq_model.specs.declared.change.Change.{Change}
 use Rattle.kq_model.specs.declared.key.Key.{Key}
 use Rattle.kq_model.specs.declared.kevent.Kevent.{Kevent}
@@ -40,7 +41,8 @@ pub record IsDue {S : Type 0} {h : Hearing S} (views : Views) (knotes : List (Kn
 -- an event of a ONESHOT knote is its last: the knote is gone, unless it had a notice, which the event told
 abbrev pub IsLastOfOneshot : {S : Type 0} {h : Hearing S} → List (Knote h) → List (Knote h) → Kevent → Type 0
 IsLastOfOneshot {h = h} knotes left e =
-    (k : Knote h) → find_knote (key_of_event e) knotes ≡ Some k → k.notice ≡ None → asks e.flags oneshot ≡ true
+    (k : Knote h) → find_knote (key_of_event e) knotes ≡ Some k → k.notice ≡ None
+    → asks e.flags oneshot ≡ true
     → find_knote (key_of_event e) left ≡ None
 
 -- the condition of the key's knote does not hold
@@ -48,7 +50,8 @@ abbrev pub IsIdle : {S : Type 0} {h : Hearing S} → Views → List (Knote h) �
 IsIdle {h = h} views knotes key = (k : Knote h) → find_knote key knotes ≡ Some k → look views k ≡ None
 
 -- events were taken out of a kqueue, which is left as `after`
-pub record AreTaken {S : Type 0} {h : Hearing S} (views : Views) (room : ℕ) (kq after : Kqueue h) (events : List Kevent)
+pub record AreTaken {S : Type 0} {h : Hearing S} (views : Views) (room : ℕ) (kq after : Kqueue h)
+    (events : List Kevent)
     : Type 0 where
   -- in the order of the queue as it was, each knote at most once
   pub in_order : AreInOrder (map key_of_event events) kq.queue

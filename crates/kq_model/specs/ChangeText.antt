@@ -1,6 +1,7 @@
 -- A change in a record: an object with ident, filter and flags, and any of fflags, data and udata; each of
 -- these three is 0 where it is missing.
-use Rattle.std.specs.Prelude.{ℕ, ◌+◌, ◌==◌, ℤ, pos, Bool, true, false, ◌&&◌, List, [], ◌∷◌, codes, Option, Some, None}
+use Rattle.std.specs.Prelude.{ℕ, ◌+◌, ◌==◌, ℤ, pos, Bool, true, false, ◌&&◌, List, []}
+use Rattle.std.specs.Prelude.{◌∷◌, codes, Option, Some, None}
 use Rattle.std.specs.Prelude.{option_and_then, if◌then◌else◌}
 use Rattle.std.specs.Option.{is_some}
 use Rattle.std.specs.Int.RustNames.{bit_or}
@@ -50,7 +51,8 @@ is_change d =
     && (width d == 3 + extra_width d)
 
 -- the change with these parts, where all are there
-unfoldable pub change_with : Option ℕ → Option Filter → Option ℕ → Option ℕ → Option ℤ → Option ℕ → Option Change
+unfoldable pub change_with : Option ℕ → Option Filter → Option ℕ → Option ℕ → Option ℤ → Option ℕ
+    → Option Change
 change_with (Some ident) (Some filter) (Some flags) (Some fflags) (Some datum) (Some udata) =
     Some (record {
       ident = ident;

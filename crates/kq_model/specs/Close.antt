@@ -27,7 +27,8 @@ is_closed owner pairs key = watches_number key.filter && has_pair owner key.iden
 
 -- a knote of this filter and ident is of no number that was closed
 abbrev pub IsNotClosed : ℕ → List Pair → Filter → ℕ → Option Target → Type 0
-IsNotClosed owner pairs filter ident target = is_closed owner pairs (record { ident = ident; filter = filter }) ≡ false
+IsNotClosed owner pairs filter ident target =
+    is_closed owner pairs (record { ident = ident; filter = filter }) ≡ false
 
 module _ {S : Type 0} {h : Hearing S} where
   unfoldable pub closed : ℕ → List Pair → Kqueue h → Kqueue h

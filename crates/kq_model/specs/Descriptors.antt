@@ -1,5 +1,6 @@
 -- The table of open descriptors, in rising order of pid and number.
-use Rattle.std.specs.Prelude.{◌≡◌, ℕ, ◌==◌, Bool, true, not, ◌&&◌, ◌||◌, List, [], ◌∷◌, filter, nat_lt, Option, Some}
+use Rattle.std.specs.Prelude.{◌≡◌, ℕ, ◌==◌, Bool, true, not, ◌&&◌, ◌||◌, List, []}
+use Rattle.std.specs.Prelude.{◌∷◌, filter, nat_lt, Option, Some}
 use Rattle.std.specs.Prelude.{None, if◌then◌else◌, All}
 use Rattle.kq_model.specs.declared.object.Named.{Named}
 use Rattle.kq_model.specs.Close.{Pair, has_pair}

@@ -2,7 +2,8 @@
 -- offsets are bytes.
 -- Source: open(2), lseek(2), ftruncate(2): the offset is that of the description, which duplicates of a
 -- descriptor share; the size is that of the file.
-use Rattle.std.specs.Prelude.{ℕ, ◌+◌, ◌==◌, max, ℤ, pos, int_lt, Bool, true, false, not, ◌||◌, List, [], ◌∷◌, ◌++◌}
+use Rattle.std.specs.Prelude.{ℕ, ◌+◌, ◌==◌, max, ℤ, pos, int_lt, Bool, true, false, not, ◌||◌}
+use Rattle.std.specs.Prelude.{List, [], ◌∷◌, ◌++◌}
 use Rattle.std.specs.Prelude.{Option, Some, None}
 use Rattle.std.specs.List.{filter}
 use Rattle.kq_model.specs.declared.doing.DescriptionRecord.{DescriptionRecord}

@@ -1,6 +1,7 @@
 -- Which kqueues follow children: those of which a call has a change for a process with NOTE_TRACK, be it refused or
 -- not. The processes that descend from those that a kqueue names make a difference to these alone.
-use Rattle.std.specs.Prelude.{ℕ, ◌==◌, Bool, true, false, ◌&&◌, ◌||◌, List, [], ◌∷◌, Option, None, Some}
+use Rattle.std.specs.Prelude.{ℕ, ◌==◌, Bool, true, false, ◌&&◌, ◌||◌, List, [], ◌∷◌, Option}
+use Rattle.std.specs.Prelude.{None, Some}
 use Rattle.std.specs.Prelude.{if◌then◌else◌}
 use Rattle.std.specs.List.{list_any}
 use Rattle.kq_model.specs.declared.change.Change.{Change}

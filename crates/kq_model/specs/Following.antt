@@ -2,7 +2,8 @@
 -- with its parameters and actions, which shows the parent's pid first (kqueue(2), EVFILT_PROC). That the notice and
 -- what the child does are one knote, where it stands in order and queue, and that a told notice resets nothing are this
 -- project's choices.
-use Rattle.std.specs.Prelude.{ℕ, ◌==◌, Bool, true, false, ◌&&◌, List, [], ◌∷◌, ◌++◌, Option, Some, None}
+use Rattle.std.specs.Prelude.{ℕ, ◌==◌, Bool, true, false, ◌&&◌, List, [], ◌∷◌, ◌++◌, Option}
+use Rattle.std.specs.Prelude.{Some, None}
 use Rattle.std.specs.Prelude.{if◌then◌else◌}
 use Rattle.kq_model.specs.declared.filter.Filter.TheVariants.{Proc}
 use Rattle.kq_model.specs.declared.key.Key.{Key}

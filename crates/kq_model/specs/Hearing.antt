@@ -1,7 +1,8 @@
 -- What a knote has heard since it was last reset, and how that may be kept: as the list of it all, which
 -- the definitions go by, or as a tally, which serves every filter as well (kqueue(2): events that trigger
 -- a filter more than once come as one kevent, with their number or the union of their notes).
-use Rattle.std.specs.Prelude.{ℕ, ◌+◌, ◌==◌, Bool, true, false, not, ◌&&◌, ◌||◌, List, [], ◌∷◌, ◌++◌, filter, length}
+use Rattle.std.specs.Prelude.{ℕ, ◌+◌, ◌==◌, Bool, true, false, not, ◌&&◌, ◌||◌, List, []}
+use Rattle.std.specs.Prelude.{◌∷◌, ◌++◌, filter, length}
 use Rattle.std.specs.Prelude.{min, if◌then◌else◌}
 use Rattle.std.specs.List.{fold, list_any}
 use Rattle.std.specs.Int.RustNames.{bit_or}

@@ -1,7 +1,8 @@
 -- Descriptors and the objects that they name: how many name each, and what happens when one more names
 -- it or one no longer does. The last one that no longer names it ends the object, or its end of a pipe.
 -- Source: dup(2), close(2), fork(2); NOTE_CLOSE and NOTE_CLOSE_WRITE of kqueue(2).
-use Rattle.std.specs.Prelude.{◌≡◌, ◌==◌, ◌≤◌, ℕ, ◌+◌, ℤ, pos, int_le, Bool, true, false, List, [], ◌∷◌, ◌++◌, Option}
+use Rattle.std.specs.Prelude.{◌≡◌, ◌==◌, ◌≤◌, ℕ, ◌+◌, ℤ, pos, int_le, Bool, true, false}
+use Rattle.std.specs.Prelude.{List, [], ◌∷◌, ◌++◌, Option}
 use Rattle.std.specs.Prelude.{Some, None, if◌then◌else◌}
 use Rattle.kq_model.specs.declared.act.Act.{Act}
 use Rattle.kq_model.specs.declared.act.Act.TheVariants as act
@@ -161,7 +162,8 @@ IsNamed n names = 1 ≤ times n names
 pub record AreHeld (o : Objects counted) : Type 0 where
   pub socket : (place : ℕ) (s : SocketState) → o.socket place ≡ Some s → is_socket_held s ≡ true
   pub pipe : (place : ℕ) (s : PipeState) → o.pipe place ≡ Some s → is_pipe_held s ≡ true
-  pub description : (place : ℕ) (s : DescriptionState) → o.description place ≡ Some s → is_description_held s ≡ true
+  pub description : (place : ℕ) (s : DescriptionState) → o.description place ≡ Some s
+      → is_description_held s ≡ true
 
 -- ---- what a record makes descriptors name
 

@@ -43,7 +43,8 @@ kinds =
     kind.Proc ∷ kind.Fork ∷ kind.Exit ∷ kind.Kqueue ∷ kind.Dup ∷ kind.Close
     ∷ kind.Socket ∷ kind.Listen ∷ kind.Arrive ∷ kind.Accept ∷ kind.Connect ∷ kind.Rx
     ∷ kind.Tx ∷ kind.Shut ∷ kind.Lowat ∷ kind.Pipe ∷ kind.Read ∷ kind.Write
-    ∷ kind.Exec ∷ kind.Sigset ∷ kind.Sig ∷ kind.File ∷ kind.Open ∷ kind.Seek ∷ kind.Truncate ∷ kind.Note ∷ kind.Clock
+    ∷ kind.Exec ∷ kind.Sigset ∷ kind.Sig ∷ kind.File ∷ kind.Open ∷ kind.Seek ∷ kind.Truncate
+    ∷ kind.Note ∷ kind.Clock
     ∷ kind.Kevent ∷ []
 
 unfoldable pub kind_among : List RecordKind → List ℕ → Option RecordKind
@@ -68,7 +69,8 @@ members_besides_op kind.Socket =
 members_besides_op kind.Listen = (codes "pid", Whole) ∷ (codes "fd", Whole) ∷ (codes "backlog", Whole) ∷ []
 members_besides_op kind.Arrive = (codes "pid", Whole) ∷ (codes "fd", Whole) ∷ []
 members_besides_op kind.Accept =
-    (codes "pid", Whole) ∷ (codes "fd", Whole) ∷ (codes "to", Whole) ∷ (codes "rcv", Whole) ∷ (codes "snd", Whole) ∷ []
+    (codes "pid", Whole) ∷ (codes "fd", Whole) ∷ (codes "to", Whole) ∷ (codes "rcv", Whole)
+    ∷ (codes "snd", Whole) ∷ []
 members_besides_op kind.Connect = (codes "pid", Whole) ∷ (codes "fd", Whole) ∷ []
 members_besides_op kind.Rx = (codes "pid", Whole) ∷ (codes "fd", Whole) ∷ (codes "n", Whole) ∷ []
 members_besides_op kind.Tx = (codes "pid", Whole) ∷ (codes "fd", Whole) ∷ (codes "n", Whole) ∷ []

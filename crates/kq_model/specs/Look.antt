@@ -1,6 +1,7 @@
 -- A filter's look at its target: nothing, or what an event is to say (kqueue(2), the filters). Amounts, sizes and
 -- marks are bytes.
-use Rattle.std.specs.Prelude.{ℕ, ℤ, pos, ◌-ℤ◌, int_lt, int_le, ◌==◌, Bool, true, false, not, ◌&&◌, ◌||◌, Option}
+use Rattle.std.specs.Prelude.{ℕ, ℤ, pos, ◌-ℤ◌, int_lt, int_le, ◌==◌, Bool, true, false, not}
+use Rattle.std.specs.Prelude.{◌&&◌, ◌||◌, Option}
 use Rattle.std.specs.Prelude.{Some, None, option_and_then, if◌then◌else◌}
 use Rattle.std.specs.Int.{int_min, saturate_signed, w64}
 use Rattle.kq_model.specs.declared.filter.Filter.{Filter}

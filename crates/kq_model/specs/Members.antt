@@ -1,7 +1,8 @@
 -- The members of a record: which are there, of which kind, and whether a whole number is in its type's
 -- range. A member that is missing or of the wrong kind is the fault Field, a whole number out of range
 -- the fault Range, and Field anywhere in a record comes before Range (this project's choice).
-use Rattle.std.specs.Prelude.{ℕ, ◌+◌, ◌^◌, ◌==◌, ℤ, pos, Bool, true, false, ◌&&◌, List, length, nat_lt, int_lt, Option}
+use Rattle.std.specs.Prelude.{ℕ, ◌+◌, ◌^◌, ◌==◌, ℤ, pos, Bool, true, false, ◌&&◌, List}
+use Rattle.std.specs.Prelude.{length, nat_lt, int_lt, Option}
 use Rattle.std.specs.Prelude.{Some, None, option_and_then, Result, Ok, Err, if◌then◌else◌}
 use Rattle.std.specs.List.{list_all}
 use Rattle.std.specs.Option.{is_some}

@@ -1,5 +1,6 @@
 -- The names of filters, flags, sides, modes, notes and reasons in a trace and a report (this project's choice).
-use Rattle.std.specs.Prelude.{ℕ, nat_eq, Bool, List, [], ◌∷◌, Option, Some, None, codes, filter, map, if◌then◌else◌}
+use Rattle.std.specs.Prelude.{ℕ, nat_eq, Bool, List, [], ◌∷◌, Option, Some, None, codes, filter, map}
+use Rattle.std.specs.Prelude.{if◌then◌else◌}
 use Rattle.std.specs.Cmp.Lexicographic.{pointwise}
 use Rattle.kq_model.specs.declared.event_flags.EvFlags.{EvFlags}
 use Rattle.kq_model.specs.declared.filter.Filter.{Filter}
@@ -33,7 +34,8 @@ filter_name Sendfile = codes "SENDFILE"
 filter_name Empty = codes "EMPTY"
 
 abbrev pub filters : List Filter
-filters = Read ∷ Write ∷ Vnode ∷ Proc ∷ Signal ∷ Timer ∷ User ∷ Aio ∷ Lio ∷ Fs ∷ Procdesc ∷ Sendfile ∷ Empty ∷ []
+filters = Read ∷ Write ∷ Vnode ∷ Proc ∷ Signal ∷ Timer ∷ User ∷ Aio ∷ Lio ∷ Fs ∷ Procdesc
+    ∷ Sendfile ∷ Empty ∷ []
 
 -- the two texts are one
 abbrev pub is_text : List ℕ → List ℕ → Bool

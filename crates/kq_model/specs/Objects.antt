@@ -2,7 +2,8 @@
 -- the file's number; what is noted of them, and what filters see.
 -- An object is kept from the record that makes it until its last descriptor is closed, a file for ever.
 -- The definitions are generic in how it is kept: `listed` keeps the records, `counted` the quantities.
-use Rattle.std.specs.Prelude.{◌≡◌, ◌==◌, ℕ, pos, Bool, true, List, [], ◌∷◌, Option, Some, None, if◌then◌else◌}
+use Rattle.std.specs.Prelude.{◌≡◌, ◌==◌, ℕ, pos, Bool, true, List, [], ◌∷◌, Option, Some}
+use Rattle.std.specs.Prelude.{None, if◌then◌else◌}
 use Rattle.std.specs.Option.{option_map}
 use Rattle.kq_model.specs.declared.doing.SocketRecord.{SocketRecord}
 use Rattle.kq_model.specs.declared.doing.PipeRecord.{PipeRecord}
@@ -81,7 +82,8 @@ abbrev pub kept : {R Q S : Type 0} → Book R Q S → (Q → Bool) → S → Opt
 kept b stays s = if stays (b.quantities s) then Some s else None
 
 -- one more record of the object at a place; all others stay as they are
-abbrev pub told_at : {R Q S : Type 0} → Book R Q S → (Q → Bool) → ℕ → R → (ℕ → Option S) → ℕ → Option S
+abbrev pub told_at : {R Q S : Type 0} → Book R Q S → (Q → Bool) → ℕ → R → (ℕ → Option S) → ℕ
+    → Option S
 told_at b stays place r objects p = if place == p then kept b stays (told_of b r (objects p)) else objects p
 
 unfoldable pub done : {A B C D : Type 0} {k : Keeping A B C D} → Doing → Objects k → Objects k

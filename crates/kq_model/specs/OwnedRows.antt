@@ -1,5 +1,6 @@
 -- The rows of the fold, each with the kqueue whose row it is.
-use Rattle.std.specs.Prelude.{◌<◌, ℕ, ◌+◌, ◌==◌, Bool, true, false, List, [], ◌∷◌, ◌++◌, map, filter, All, Option, Some}
+use Rattle.std.specs.Prelude.{◌<◌, ℕ, ◌+◌, ◌==◌, Bool, true, false, List, [], ◌∷◌, ◌++◌}
+use Rattle.std.specs.Prelude.{map, filter, All, Option, Some}
 use Rattle.std.specs.Prelude.{None}
 use Rattle.kq_model.specs.declared.reply.Reply.TheVariants as reply
 use Rattle.kq_model.specs.declared.row.Row.{Row}

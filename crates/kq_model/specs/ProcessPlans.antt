@@ -1,7 +1,8 @@
 -- The plans of the records about processes, signals and the clock, each with its reasons in their order.
 -- Source: fork(2), execve(2), exit(3), sigaction(2), kill(2); NOTE_FORK, NOTE_EXEC and NOTE_EXIT of
 -- kqueue(2). What is impossible is this project's choice.
-use Rattle.std.specs.Prelude.{ℕ, ℤ, pos, negsuc, ◌==◌, Bool, true, false, not, ◌&&◌, List, [], ◌∷◌, ◌++◌, map, nat_lt}
+use Rattle.std.specs.Prelude.{ℕ, ℤ, pos, negsuc, ◌==◌, Bool, true, false, not, ◌&&◌, List, []}
+use Rattle.std.specs.Prelude.{◌∷◌, ◌++◌, map, nat_lt}
 use Rattle.std.specs.Prelude.{Some, if◌then◌else◌}
 use Rattle.std.specs.List.{filter}
 use Rattle.kq_model.specs.declared.doing.Doing.{Doing}

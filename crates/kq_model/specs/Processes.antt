@@ -1,7 +1,8 @@
 -- The processes of a world, by rising pid: each pid that was ever used, live or gone, with the signals
 -- that it ignores.
 -- Source: fork(2), exit(3), sigaction(2); that no pid is used again is this project's choice.
-use Rattle.std.specs.Prelude.{ℕ, ◌==◌, nat_lt, Bool, false, ◌&&◌, List, [], ◌∷◌, map, Option, Some, None, if◌then◌else◌}
+use Rattle.std.specs.Prelude.{ℕ, ◌==◌, nat_lt, Bool, false, ◌&&◌, List, [], ◌∷◌, map, Option}
+use Rattle.std.specs.Prelude.{Some, None, if◌then◌else◌}
 use Rattle.std.specs.List.{list_any}
 use Rattle.std.specs.Option.{is_none}
 

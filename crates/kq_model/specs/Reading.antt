@@ -1,7 +1,8 @@
 -- Reading: what the bytes of a trace mean. The first line by itself has a version or a fault, each further
 -- line an event or a fault; where a line has a fault, the answer is the least such line, else it is the
 -- version and the list of events. The format is this project's choice; a value is what serde_json reads.
-use Rattle.std.specs.Prelude.{ℕ, ◌+◌, ◌==◌, ◌||◌, Bool, List, [], ◌∷◌, codes, length, nat_lt, Option, Some, None}
+use Rattle.std.specs.Prelude.{ℕ, ◌+◌, ◌==◌, ◌||◌, Bool, List, [], ◌∷◌, codes, length}
+use Rattle.std.specs.Prelude.{nat_lt, Option, Some, None}
 use Rattle.std.specs.Prelude.{option_and_then, Result, Ok, Err, if◌then◌else◌}
 use Rattle.std.specs.Str.{is_utf8}
 use Rattle.serde_json.specs.Data.{unsigned, Data, number}

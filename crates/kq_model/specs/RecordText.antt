@@ -1,5 +1,6 @@
 -- A record: an object whose member `op` names its kind, and with the members of this kind.
-use Rattle.std.specs.Prelude.{ℕ, ℤ, ◌+◌, ◌==◌, Bool, ◌&&◌, List, length, codes, Option, Some, None, option_and_then}
+use Rattle.std.specs.Prelude.{ℕ, ℤ, ◌+◌, ◌==◌, Bool, ◌&&◌, List, length, codes, Option, Some}
+use Rattle.std.specs.Prelude.{None, option_and_then}
 use Rattle.std.specs.Prelude.{Result, Err}
 use Rattle.std.specs.List.{list_all}
 use Rattle.std.specs.Option.{is_some}
@@ -141,7 +142,8 @@ event_as kind.File d =
 event_as kind.Open d =
     with_pid_fd d (λ pid fd. with_u32 (codes "file") d (λ file. with_mode (codes "mode") d
     (λ mode. Some (event.Open pid fd file mode))))
-event_as kind.Seek d = with_pid_fd d (λ pid fd. with_i64 (codes "offset") d (λ offset. Some (event.Seek pid fd offset)))
+event_as kind.Seek d =
+    with_pid_fd d (λ pid fd. with_i64 (codes "offset") d (λ offset. Some (event.Seek pid fd offset)))
 event_as kind.Truncate d =
     with_u32 (codes "file") d (λ file. with_i64 (codes "size") d (λ size. Some (event.Truncate file size)))
 event_as kind.Note d =

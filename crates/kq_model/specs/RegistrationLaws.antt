@@ -34,6 +34,8 @@ pub record IsRegistered {S : Type 0} {h : Hearing S} (c : Change) (kq after : Kq
   -- after any other change the knote is there
   pub there : error ≡ 0 → is_removal c kq ≡ false → is_there (key_of c) after ≡ true
   -- one that was there keeps its place in the order of registration, and there is no second one
-  pub no_second : is_there (key_of c) kq ≡ true → is_removal c kq ≡ false → keys_of after.knotes ≡ keys_of kq.knotes
+  pub no_second : is_there (key_of c) kq ≡ true → is_removal c kq ≡ false
+      → keys_of after.knotes ≡ keys_of kq.knotes
   -- a new one is the last
-  pub last : error ≡ 0 → is_there (key_of c) kq ≡ false → keys_of after.knotes ≡ keys_of kq.knotes ++ key_of c ∷ []
+  pub last : error ≡ 0 → is_there (key_of c) kq ≡ false
+      → keys_of after.knotes ≡ keys_of kq.knotes ++ key_of c ∷ []

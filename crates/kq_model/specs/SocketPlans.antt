@@ -1,5 +1,6 @@
 -- The plans of the records about sockets. `place` is that of the socket: where a record makes one, its own.
-use Rattle.std.specs.Prelude.{ℕ, not, ◌&&◌, [], ◌∷◌, Option, Some, None, Result, Ok, Err, if◌then◌else◌}
+use Rattle.std.specs.Prelude.{ℕ, not, ◌&&◌, [], ◌∷◌, Option, Some, None, Result, Ok, Err}
+use Rattle.std.specs.Prelude.{if◌then◌else◌}
 use Rattle.kq_model.specs.declared.doing.Doing.TheVariants.{ToSocket}
 use Rattle.kq_model.specs.declared.doing.SocketRecord.TheVariants.{Made, Connected}
 use Rattle.kq_model.specs.declared.object.Named.{Named}

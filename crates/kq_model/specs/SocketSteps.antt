@@ -2,7 +2,8 @@
 -- socket and which hint its knotes get.
 -- Source: socket(2), listen(2), accept(2), connect(2), shutdown(2); that the peer is heard of by records
 -- of its own, and what is impossible, is this project's choice.
-use Rattle.std.specs.Prelude.{ℕ, nat_lt, nat_le, pos, ◌+ℤ◌, int_lt, int_le, Bool, not, ◌&&◌, ◌||◌, Option, Some, None}
+use Rattle.std.specs.Prelude.{ℕ, nat_lt, nat_le, pos, ◌+ℤ◌, int_lt, int_le, Bool, not, ◌&&◌}
+use Rattle.std.specs.Prelude.{◌||◌, Option, Some, None}
 use Rattle.std.specs.Prelude.{Result, Ok, Err, if◌then◌else◌}
 use Rattle.kq_model.specs.declared.doing.SocketRecord.{SocketRecord}
 use Rattle.kq_model.specs.declared.doing.SocketRecord.TheVariants as socket

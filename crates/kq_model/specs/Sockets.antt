@@ -2,7 +2,8 @@
 -- unconnected, listening or connected. Sizes, marks and amounts are bytes.
 -- Source: socket(2), listen(2), setsockopt(2) for the low-water marks; the first marks of a socket are
 -- those of FreeBSD, 1 and 2,048, the second at most the send buffer (this project's choice).
-use Rattle.std.specs.Prelude.{ℕ, min, ℤ, pos, ◌-ℤ◌, int_lt, Bool, true, false, not, ◌&&◌, ◌||◌, List, Option, Some}
+use Rattle.std.specs.Prelude.{ℕ, min, ℤ, pos, ◌-ℤ◌, int_lt, Bool, true, false, not, ◌&&◌}
+use Rattle.std.specs.Prelude.{◌||◌, List, Option, Some}
 use Rattle.std.specs.Prelude.{None, if◌then◌else◌}
 use Rattle.kq_model.specs.declared.doing.SocketRecord.{SocketRecord}
 use Rattle.kq_model.specs.declared.doing.SocketRecord.TheVariants.{Made, Listened, Arrived, Accepted, Connected}

@@ -75,7 +75,8 @@ members_of (event.Dup p f to) = fd f ∷ op (codes "dup") ∷ pid p ∷ (codes "
 members_of (event.Close p f) = fd f ∷ op (codes "close") ∷ pid p ∷ []
 members_of (event.Socket p f rcv snd) =
     fd f ∷ op (codes "socket") ∷ pid p ∷ (codes "rcv", Number rcv) ∷ (codes "snd", Number snd) ∷ []
-members_of (event.Listen p f backlog) = (codes "backlog", Number backlog) ∷ fd f ∷ op (codes "listen") ∷ pid p ∷ []
+members_of (event.Listen p f backlog) =
+    (codes "backlog", Number backlog) ∷ fd f ∷ op (codes "listen") ∷ pid p ∷ []
 members_of (event.Arrive p f) = fd f ∷ op (codes "arrive") ∷ pid p ∷ []
 members_of (event.Accept p f to rcv snd) =
     fd f ∷ op (codes "accept") ∷ pid p ∷ (codes "rcv", Number rcv) ∷ (codes "snd", Number snd)
@@ -85,18 +86,22 @@ members_of (event.Rx p f n) = fd f ∷ (codes "n", Number n) ∷ op (codes "rx")
 members_of (event.Tx p f n) = fd f ∷ (codes "n", Number n) ∷ op (codes "tx") ∷ pid p ∷ []
 members_of (event.Shut p f side error) =
     (codes "error", Number error) ∷ fd f ∷ op (codes "shut") ∷ pid p ∷ on_side side ∷ []
-members_of (event.Lowat p f side n) = fd f ∷ (codes "n", Number n) ∷ op (codes "lowat") ∷ pid p ∷ on_side side ∷ []
+members_of (event.Lowat p f side n) =
+    fd f ∷ (codes "n", Number n) ∷ op (codes "lowat") ∷ pid p ∷ on_side side ∷ []
 members_of (event.Pipe p rfd wfd cap) =
-    (codes "cap", Number cap) ∷ op (codes "pipe") ∷ pid p ∷ (codes "rfd", Number rfd) ∷ (codes "wfd", Number wfd) ∷ []
+    (codes "cap", Number cap) ∷ op (codes "pipe") ∷ pid p ∷ (codes "rfd", Number rfd)
+    ∷ (codes "wfd", Number wfd) ∷ []
 members_of (event.Read p f n) = fd f ∷ (codes "n", Number n) ∷ op (codes "read") ∷ pid p ∷ []
 members_of (event.Write p f n) = fd f ∷ (codes "n", Number n) ∷ op (codes "write") ∷ pid p ∷ []
 members_of (event.Exec p) = op (codes "exec") ∷ pid p ∷ []
 members_of (event.Sigset p sig ignore) =
     (codes "ignore", Truth ignore) ∷ op (codes "sigset") ∷ pid p ∷ (codes "sig", Number sig) ∷ []
 members_of (event.Sig p sig) = op (codes "sig") ∷ pid p ∷ (codes "sig", Number sig) ∷ []
-members_of (event.File file size) = (codes "file", Number file) ∷ op (codes "file") ∷ (codes "size", Integer size) ∷ []
+members_of (event.File file size) =
+    (codes "file", Number file) ∷ op (codes "file") ∷ (codes "size", Integer size) ∷ []
 members_of (event.Open p f file mode) =
-    fd f ∷ (codes "file", Number file) ∷ (codes "mode", Name (mode_name mode)) ∷ op (codes "open") ∷ pid p ∷ []
+    fd f ∷ (codes "file", Number file) ∷ (codes "mode", Name (mode_name mode)) ∷ op (codes "open") ∷ pid p
+    ∷ []
 members_of (event.Seek p f offset) = fd f ∷ (codes "offset", Integer offset) ∷ op (codes "seek") ∷ pid p ∷ []
 members_of (event.Truncate file size) =
     (codes "file", Number file) ∷ op (codes "truncate") ∷ (codes "size", Integer size) ∷ []

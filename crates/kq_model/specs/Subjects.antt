@@ -37,6 +37,7 @@ abbrev pub FollowSubjects : (Filter → ℕ → Option Target → Type 0) → �
 FollowSubjects P version posted = All (FollowsSubject P) (forks_in version posted)
 
 -- each knote that one of the changes may make has such a subject, whatever kqueue the change meets
-abbrev pub MakeSubjects : {S : Type 0} (h : Hearing S) → (Filter → ℕ → Option Target → Type 0) → Caller → List Change
+abbrev pub MakeSubjects : {S : Type 0} (h : Hearing S) → (Filter → ℕ → Option Target → Type 0) → Caller
+    → List Change
     → Type 0
 MakeSubjects h P caller changes = All (λ c. (kq : Kqueue h) → MakesSubject P caller c kq) changes

@@ -4,7 +4,8 @@
 -- the moment at which it expires.
 -- This project's choice: the clock counts from 0, its last moment is 2^63 - 1, two units and unknown
 -- bits are refused, and a period of 0 units counts as 1. NOTE_ABSTIME is known from version 2 of the trace's format on.
-use Rattle.std.specs.Prelude.{◌≡◌, ℕ, zero, suc, ◌+◌, ◌-◌, ◌*◌, ◌<◌, ◌≤◌, max, Bool, true, false, not, ◌&&◌, ◌||◌, ◌==◌}
+use Rattle.std.specs.Prelude.{◌≡◌, ℕ, zero, suc, ◌+◌, ◌-◌, ◌*◌, ◌<◌, ◌≤◌, max}
+use Rattle.std.specs.Prelude.{Bool, true, false, not, ◌&&◌, ◌||◌, ◌==◌}
 use Rattle.std.specs.Prelude.{nat_le, if◌then◌else◌, ℤ, pos, negsuc, ◌<ℤ◌, Option, Some, None}
 use Rattle.std.specs.Option.{option_and_then, option_map}
 use Rattle.kq_model.specs.Bits.{has_note, abstime_note}

@@ -2,7 +2,8 @@
 -- one expiration and, where it is enabled and not in the queue yet, goes to the queue's back.
 -- Source: this project's choice; kqueue(2) says that a timer's expirations are counted, and nothing of
 -- the order in which events of one call are returned.
-use Rattle.std.specs.Prelude.{◌≡◌, ℕ, zero, suc, ◌+◌, ◌<◌, ◌≤◌, Bool, true, false, not, ◌&&◌, nat_le, nat_lt}
+use Rattle.std.specs.Prelude.{◌≡◌, ℕ, zero, suc, ◌+◌, ◌<◌, ◌≤◌, Bool, true, false, not}
+use Rattle.std.specs.Prelude.{◌&&◌, nat_le, nat_lt}
 use Rattle.std.specs.Prelude.{if◌then◌else◌, List, [], ◌∷◌, ◌++◌, map}
 use Rattle.std.specs.List.{filter, list_any}
 use Rattle.kq_model.specs.Ticks.{counted, ticks_between, next_tick}
@@ -70,7 +71,8 @@ in_order first (x ∷ xs) = placed first x (in_order first xs)
 
 -- the n moments after `from` at once: each item gets as many expirations as moments at which it expires,
 -- and those that expired and are fresh go to the queue's back
-abbrev pub walked_at_once : {X Key : Type 0} → Alarms X Key → (X → ℕ) → ℕ → ℕ → Waiting X Key → Waiting X Key
+abbrev pub walked_at_once : {X Key : Type 0} → Alarms X Key → (X → ℕ) → ℕ → ℕ → Waiting X Key
+    → Waiting X Key
 walked_at_once a first from n w = record {
   items = map (λ x. rung_times a (counted (a.expires x) from n) x) w.items;
   queue = w.queue

@@ -2,7 +2,8 @@
 -- changed (`proofs/VersionOne.antt`). What is not here stands in the other files as it stood then, but that there is a
 -- hint `Child`, which no filter takes, and that a knote has a notice, which a new one has not. Each name is that of the
 -- definition whose place it had.
-use Rattle.std.specs.Prelude.{ℕ, ◌+◌, ◌-◌, ◌==◌, nat_lt, ◌&&◌, Bool, true, false, not, ◌||◌, List, [], ◌∷◌, ◌++◌, map}
+use Rattle.std.specs.Prelude.{ℕ, ◌+◌, ◌-◌, ◌==◌, nat_lt, ◌&&◌, Bool, true, false, not}
+use Rattle.std.specs.Prelude.{◌||◌, List, [], ◌∷◌, ◌++◌, map}
 use Rattle.std.specs.Prelude.{filter, Option, Some}
 use Rattle.std.specs.Prelude.{None, zero, suc, option_and_then, if◌then◌else◌}
 use Rattle.std.specs.Option.{is_none}

@@ -16,7 +16,8 @@ use Rattle.kq_model.specs.World.{seen_world, views_of}
 -- but for those that were closed, each open number of this process names after a record what it named before
 abbrev pub LeavesOpen : Views → Views → ℕ → List Pair → Type 0
 LeavesOpen before after owner closed =
-    (number : ℕ) (named : Named) → has_pair owner number closed ≡ false → before.descriptor owner number ≡ Some named
+    (number : ℕ) (named : Named) → has_pair owner number closed ≡ false
+    → before.descriptor owner number ≡ Some named
     → after.descriptor owner number ≡ Some named
 
 module _ {S : Type 0} {h : Hearing S} where

@@ -1,6 +1,7 @@
 -- When what is noted of an object keeps the amounts of the code within their types: each amount is at
 -- least 0, bytes and connections are below 2^32, holders below 2^64, sizes and offsets within their limit.
-use Rattle.std.specs.Prelude.{◌≡◌, ◌==◌, if◌then◌else◌, ℕ, ◌+◌, ◌≤◌, ◌^◌, ℤ, pos, ◌+ℤ◌, ◌≤ℤ◌, ◌<ℤ◌, Option, None, Some}
+use Rattle.std.specs.Prelude.{◌≡◌, ◌==◌, if◌then◌else◌, ℕ, ◌+◌, ◌≤◌, ◌^◌, ℤ}
+use Rattle.std.specs.Prelude.{pos, ◌+ℤ◌, ◌≤ℤ◌, ◌<ℤ◌, Option, None, Some}
 use Rattle.kq_model.specs.declared.doing.DescriptionRecord.{DescriptionRecord}
 use Rattle.kq_model.specs.declared.doing.DescriptionRecord.TheVariants as description
 use Rattle.kq_model.specs.declared.doing.FileRecord.{FileRecord}

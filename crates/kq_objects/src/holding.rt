@@ -116,7 +116,8 @@ impl Objects {
     #[tactic(auto, unfolding(crate::proofs::Unfolded::releasing_description))]
     fn release_description(&mut self, place: u64) -> Option<(Target, Hint)>
         requires { pos 1 ≤ℤ description_holders (object_at self.old.descriptions place) }
-        ensures done { (number : ℕ) → objects_of self.new ≡ release (named.Open place number) (objects_of self.old) }
+        ensures done { (number : ℕ) → objects_of self.new
+            ≡ release (named.Open place number) (objects_of self.old) }
         ensures hint { result ≡ close_hint (object_at self.old.descriptions place) }
     {
         let description = *self.descriptions.get(place)?;

@@ -1,4 +1,5 @@
-ghost use Rattle.std.specs.Prelude.{◌≡◌, ◌≢◌, ℕ, nat_eq, ◌+◌, ◌<◌, ◌≤◌, cond, ◌==◌, None, Some, OnOk, slice_get};
+ghost use Rattle.std.specs.Prelude.{◌≡◌, ◌≢◌, ℕ, nat_eq, ◌+◌, ◌<◌, ◌≤◌, cond};
+ghost use Rattle.std.specs.Prelude.{◌==◌, None, Some, OnOk, slice_get};
 ghost use Rattle.std.specs.HashMap.{get, spare};
 ghost use Rattle.kq_objects.specs.Keys.{key_of, key_in, listed_key};
 

@@ -91,4 +91,5 @@ IsCallOf planned changes room (Ok kqueue) = planned ≡ Possible (calling kqueue
 IsCallOf planned changes room (Err why) = planned ≡ Impossible why
 
 abbrev pub IsCallBy : (World counted → Planned) → Processes → List Change → ℕ → Result ℕ Why → Type 0
-IsCallBy plan p changes room r = (o : Objects counted) (now : ℕ) → IsCallOf (plan (world_with p o now)) changes room r
+IsCallBy plan p changes room r =
+    (o : Objects counted) (now : ℕ) → IsCallOf (plan (world_with p o now)) changes room r

@@ -1,5 +1,6 @@
 -- What contracts see of the processes that the code keeps: the model's processes and its table.
-use Rattle.std.specs.Prelude.{◌≡◌, ℕ, ◌+◌, Bool, false, List, [], ◌∷◌, ◌++◌, map, sum_by, slice_index_or, Option, Some}
+use Rattle.std.specs.Prelude.{◌≡◌, ℕ, ◌+◌, Bool, false, List, [], ◌∷◌, ◌++◌, map, sum_by}
+use Rattle.std.specs.Prelude.{slice_index_or, Option, Some}
 use Rattle.std.specs.Prelude.{None}
 use Rattle.kq_model.specs.declared.object.Named.{Named}
 use Rattle.kq_model.specs.Descriptors.{Descriptor, without_closed}
@@ -43,4 +44,5 @@ descriptor_there pid number (Some n) = descriptor_in pid (number, n) ∷ []
 -- over what is left without them
 abbrev pub AreOnce : List Descriptor → List Descriptor → Type 0
 AreOnce ds table =
-    (count : Descriptor → ℕ) → sum_by count table ≡ sum_by count (without_closed (pairs_of ds) table) + sum_by count ds
+    (count : Descriptor → ℕ) → sum_by count table
+    ≡ sum_by count (without_closed (pairs_of ds) table) + sum_by count ds

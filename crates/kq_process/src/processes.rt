@@ -1,4 +1,5 @@
-ghost use Rattle.std.specs.Prelude.{◌≡◌, ℕ, ◌==◌, ◌∷◌, ◌≤◌, [], true, false, None, Some, IfOk, OnOk, OnErr};
+ghost use Rattle.std.specs.Prelude.{◌≡◌, ℕ, ◌==◌, ◌∷◌, ◌≤◌, [], true, false, None};
+ghost use Rattle.std.specs.Prelude.{Some, IfOk, OnOk, OnErr};
 ghost use Rattle.kq_model.specs.Limits.{most_signal};
 ghost use Rattle.kq_model.specs.Descriptors.{named_among, with_descriptor, with_descriptors, without_closed};
 ghost use Rattle.kq_model.specs.declared.object.Named.{Named as NamedObject};
@@ -186,7 +187,8 @@ impl Processes {
         requires live { is_live pid (processes_of self.old) ≡ true }
         requires signal { signal ≤ most_signal }
         ensures processes { processes_of self.new
-            ≡ with_disposition (Some (record { pid = pid; signal = signal; ignore = ignore })) (processes_of self.old) }
+            ≡ with_disposition (Some (record { pid = pid; signal = signal; ignore = ignore }))
+            (processes_of self.old) }
         ensures table { table_of self.new ≡ table_of self.old }
     {
         let Some(process) = self.shelf.get_mut(pid) else {

@@ -1,5 +1,6 @@
 // The records that share descriptors or close them: fork, exit, dup and close.
-ghost use Rattle.std.specs.Prelude.{◌≡◌, ◌∷◌, ◌++◌, [], ℕ, OnOk, OnErr, None, Some, true, false, ◌==◌};
+ghost use Rattle.std.specs.Prelude.{◌≡◌, ◌∷◌, ◌++◌, [], ℕ, OnOk, OnErr, None, Some, true};
+ghost use Rattle.std.specs.Prelude.{false, ◌==◌};
 ghost use Rattle.kq_model.specs.DescriptorPlans.{plan_close, plan_dup};
 ghost use Rattle.kq_model.specs.Holding.{IsNamed};
 ghost use Rattle.kq_model.specs.ProcessPlans.{forked, plan_fork, plan_exit, names_of};

@@ -51,7 +51,8 @@ impl State {
             on_descriptor pid fd planned (state_of self.now) ≡ planned_on planned result }
         ensures live { OnOk result (is_live pid (state_of self.now).processes ≡ true) }
         ensures named { IfOk result (λ named. named_by pid fd (state_of self.now) ≡ Some named) }
-        ensures once { IfOk result (λ named. AreOnce (descriptor_in pid (fd, named) ∷ []) (state_of self.now).table) }
+        ensures once { IfOk result (λ named. AreOnce (descriptor_in pid (fd, named) ∷ [])
+            (state_of self.now).table) }
     {
         self.processes.on(pid, fd)
     }

@@ -16,7 +16,8 @@ pub record AreRowsOf (old new : SystemState) (events : List Event) (rows : List 
       ≡ rows_after (old.applied + 1) (system_of old) (events ++ later)
 
 -- the system went on by these events, and what takes the rows took theirs
-abbrev pub Answers : {K : Type 0} → (K → List Row → Type 0) → SystemState → K → SystemState → K → List Event → Type 0
+abbrev pub Answers : {K : Type 0} → (K → List Row → Type 0) → SystemState → K → SystemState → K
+    → List Event → Type 0
 Answers took old before new after events = (rows : List Row) × AreRowsOf old new events rows
     × ((so_far : List Row) → took before so_far → took after (so_far ++ rows))
 

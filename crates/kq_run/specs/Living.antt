@@ -13,7 +13,8 @@ use Rattle.kq_run.specs.declared.fault.Fault.TheVariants.{Usage, Read, Trace, Me
 -- the book of the trace that these bytes are, run by so many threads
 abbrev pub IsBookOf : List ℕ → ℕ → Recorded → Type 0
 IsBookOf bytes threads book =
-    (version : ℕ) × (events : List Event) × (reading bytes ≡ Good version events) × IsRun version threads events book
+    (version : ℕ) × (events : List Event) × (reading bytes ≡ Good version events)
+    × IsRun version threads events book
 
 -- the text is the report of the trace of such a book
 abbrev pub IsLiveReport : List ℕ → ℕ → List ℕ → Type 0

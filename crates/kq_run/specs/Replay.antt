@@ -17,7 +17,8 @@ HasKqueues version events = 2 ≤ length (births_of (record { version = version;
 -- the text is the report of the trace that these bytes are, of the version that it names
 abbrev pub IsReport : List ℕ → List ℕ → Type 0
 IsReport bytes text =
-    (version : ℕ) × (events : List Event) × (reading bytes ≡ Good version events) × (text ≡ report_of version events)
+    (version : ℕ) × (events : List Event) × (reading bytes ≡ Good version events)
+    × (text ≡ report_of version events)
 
 -- the text is the report of this trace
 abbrev pub IsReportOf : ℕ → List Event → List ℕ → Type 0

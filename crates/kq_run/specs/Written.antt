@@ -14,6 +14,7 @@ WritesPart is_text before after =
     (done : List ℕ) × (rest : List ℕ) × is_text (done ++ rest) × Appends before after done
 
 -- it is such a fault, and nothing was written; or it is Write, and a prefix of such a text was
-abbrev pub Leaves : (List ℕ → Type 0) → (Fault → Type 0) → Fault → Option (List ℕ) → Option (List ℕ) → Type 0
+abbrev pub Leaves : (List ℕ → Type 0) → (Fault → Type 0) → Fault → Option (List ℕ) → Option (List ℕ)
+    → Type 0
 Leaves is_text is_fault fault before after =
     (is_fault fault × Keeps before after) ⊎ ((fault ≡ Write) × WritesPart is_text before after)

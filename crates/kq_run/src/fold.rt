@@ -1,6 +1,7 @@
 //! The whole system, folded over the records of a trace, and the report of what it answers.
 
-ghost use Rattle.std.specs.Prelude.{◌≡◌, ◌<◌, ◌+◌, ◌^◌, ◌++◌, [], IfOk, List, flat_map, length, ℕ};
+ghost use Rattle.std.specs.Prelude.{◌≡◌, ◌<◌, ◌+◌, ◌^◌, ◌++◌, [], IfOk, List, flat_map};
+ghost use Rattle.std.specs.Prelude.{length, ℕ};
 ghost use Rattle.kq_merge.specs.Written.{written};
 ghost use Rattle.kq_model.specs.declared.event.Event.{Event};
 ghost use Rattle.kq_model.specs.declared.row.Row.{Row};

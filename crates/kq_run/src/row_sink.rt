@@ -14,7 +14,8 @@ pub trait RowSink {
 
     /// With the row of the reply to the record at a place, if it has one.
     fn with_reply(self, at: u64, reply: Reply) -> Result<Self, Memory>
-        ensures { IfOk result (λ after. (rows : List Row) → took self rows → took after (rows ++ row_of at reply)) };
+        ensures { IfOk result (λ after. (rows : List Row) → took self rows
+            → took after (rows ++ row_of at reply)) };
 }
 
 /// Writes the line of each row at once.

@@ -1,5 +1,6 @@
 -- What is said of reading the canonical text of a trace again.
-use Rattle.std.specs.Prelude.{◌≡◌, ℕ, int_lt, false, true, ◌^◌, ◌<◌, ◌≤◌, ℤ, pos, negsuc, List, [], ◌∷◌, length}
+use Rattle.std.specs.Prelude.{◌≡◌, ℕ, int_lt, false, true, ◌^◌, ◌<◌, ◌≤◌, ℤ, pos}
+use Rattle.std.specs.Prelude.{negsuc, List, [], ◌∷◌, length}
 use Rattle.std.specs.Int.RustNames.{bit_and}
 use Rattle.bitflags.specs.Sets.{known_bits}
 use Rattle.serde_json.specs.Written.{compact_text}

@@ -1,6 +1,7 @@
 -- What a trace is answered line by line. Each line behind the header has an answer: the reply to its record, or its
 -- fault; a line with a fault takes no place and changes nothing. A fold over the lines, which knows no reader.
-use Rattle.std.specs.Prelude.{ℕ, ◌+◌, Bool, true, false, List, [], ◌∷◌, ◌++◌, codes, filter, Result, Ok, Err}
+use Rattle.std.specs.Prelude.{ℕ, ◌+◌, Bool, true, false, List, [], ◌∷◌, ◌++◌, codes, filter}
+use Rattle.std.specs.Prelude.{Result, Ok, Err}
 use Rattle.serde_json.specs.Data.{Data, string, object, no_members, member}
 use Rattle.kq_model.specs.declared.event.Event.{Event}
 use Rattle.kq_model.specs.declared.line_fault.LineFault.{LineFault}

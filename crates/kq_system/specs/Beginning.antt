@@ -1,7 +1,8 @@
 -- The live kqueue that a number names; and a kevent call of the system in two steps, as kq_kevent/specs/Beginning.antt
 -- has them of one kqueue: its changes, and then, where these gave no answer, the retrieval. Between the two, the queue
 -- may be put into another order.
-use Rattle.std.specs.Prelude.{◌≡◌, ◌==◌, ◌⊎◌, ℕ, List, [], ◌∷◌, map, nat_eq, Option, Some, None, option_and_then}
+use Rattle.std.specs.Prelude.{◌≡◌, ◌==◌, ◌⊎◌, ℕ, List, [], ◌∷◌, map, nat_eq, Option}
+use Rattle.std.specs.Prelude.{Some, None, option_and_then}
 use Rattle.std.specs.Prelude.{if◌then◌else◌}
 use Rattle.std.specs.Map.{lookup}
 use Rattle.kq_kevent.specs.Arranged.{arranged}

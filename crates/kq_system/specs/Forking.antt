@@ -43,7 +43,8 @@ pub record IsPrepared {T : Type 0} (pid child : ℕ) (watching : HashMap Target 
   pub own_keys : HaveOwnKeys v.kq.kq.knotes
 
 -- so are those of these places
-abbrev pub ArePrepared : {T : Type 0} → ℕ → ℕ → HashMap Target (List ℕ) T → List ℕ → List (ℕ × NumberedKqueue) → Type 0
+abbrev pub ArePrepared : {T : Type 0} → ℕ → ℕ → HashMap Target (List ℕ) T → List ℕ
+    → List (ℕ × NumberedKqueue) → Type 0
 ArePrepared pid child watching places entries =
     (place : ℕ) (v : NumberedKqueue) → has_place place places ≡ true → lookup (nat_eq place) entries ≡ Some v
     → IsPrepared pid child watching place v

@@ -1,7 +1,8 @@
 -- A record is shown to the kqueues that it concerns: those of the processes in which it closes numbers, those that
 -- may watch what it has hints for, and where it moves the clock those that may have timers. Each sees it once, since it
 -- keeps the round in which it was shown one.
-use Rattle.std.specs.Prelude.{◌≡◌, ◌<◌, ◌≤◌, ℕ, Bool, true, false, List, [], ◌∷◌, Option, Some, nat_eq}
+use Rattle.std.specs.Prelude.{◌≡◌, ◌<◌, ◌≤◌, ℕ, Bool, true, false, List, [], ◌∷◌}
+use Rattle.std.specs.Prelude.{Option, Some, nat_eq}
 use Rattle.std.specs.List.{list_any}
 use Rattle.std.specs.Map.{lookup}
 use Rattle.std.specs.HashMap.{HashMap}
@@ -43,11 +44,13 @@ IsFound place watching filter target =
     ((t : Target) → target ≡ Some t → (t ≡ Own → ⊥) → has_place place (places_of watching t) ≡ true)
     × (is_timer filter ≡ true → has_place place (places_of watching Own) ≡ true)
 
-abbrev pub IsListed : {S : Type 0} → ℕ → HashMap Target (List ℕ) S → Filter → ℕ → Option Target → Type 0
+abbrev pub IsListed : {S : Type 0} → ℕ → HashMap Target (List ℕ) S → Filter → ℕ → Option Target
+    → Type 0
 IsListed place watching filter ident target = IsFound place watching filter target
 
 -- How the live kqueues are found. The indexes may name more than there are.
-pub record AreFound {S T : Type 0} (entries : List (ℕ × NumberedKqueue)) (spare : ℕ) (prepared : Option (ℕ × ℕ))
+pub record AreFound {S T : Type 0} (entries : List (ℕ × NumberedKqueue)) (spare : ℕ)
+    (prepared : Option (ℕ × ℕ))
     (owned : HashMap ℕ (List ℕ) S) (watching : HashMap Target (List ℕ) T) (round : ℕ) : Type 0 where
   pub by_owner : Each (λ place v. has_place place (places_at nat_eq owned v.kq.owner) ≡ true) entries
   pub by_target : Each (λ place v. HaveSubjects (IsListed place watching) v.kq.kq.knotes) entries

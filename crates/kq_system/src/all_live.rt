@@ -1,5 +1,6 @@
 // What a record does to all live kqueues.
-ghost use Rattle.std.specs.Prelude.{◌≡◌, ◌++◌, ◌<◌, ◌≤◌, ℕ, [], map, true, nat_eq, None, Some, All, IfOk, IfSome};
+ghost use Rattle.std.specs.Prelude.{◌≡◌, ◌++◌, ◌<◌, ◌≤◌, ℕ, [], map, true, nat_eq, None};
+ghost use Rattle.std.specs.Prelude.{Some, All, IfOk, IfSome};
 ghost use Rattle.std.specs.Prelude.{OnErr, OnOk};
 ghost use Rattle.std.specs.Map.{keys_of, lookup};
 ghost use Rattle.kq_model.specs.declared.object.Target.TheVariants.{Own};

@@ -19,7 +19,8 @@ impl System {
         ensures rows { IfOk result (λ rs. rs.items ≡ rows trace.now.version trace.now.events) }
 
         // In version 1 of the trace's format these are the rows that it gave while it had no other.
-        ensures version_one { trace.now.version ≡ 1 → IfOk result (λ rs. rs.items ≡ one.rows 1 trace.now.events) }
+        ensures version_one { trace.now.version ≡ 1
+            → IfOk result (λ rs. rs.items ≡ one.rows 1 trace.now.events) }
 
         // After each record no kqueue has a READ, WRITE or VNODE knote of a number that it closed.
         ensures closed { AlwaysClosesAll 1

@@ -1,5 +1,6 @@
 // The children that knotes follow: room for their knotes before a fork, and the fork as the kqueues hear it.
-ghost use Rattle.std.specs.Prelude.{◌≡◌, ◌+◌, ◌<◌, ◌∷◌, [], ℕ, true, false, map, nat_eq, Err, IfOk, IsOk, OnErr, OnOk};
+ghost use Rattle.std.specs.Prelude.{◌≡◌, ◌+◌, ◌<◌, ◌∷◌, [], ℕ, true, false, map, nat_eq};
+ghost use Rattle.std.specs.Prelude.{Err, IfOk, IsOk, OnErr, OnOk};
 ghost use Rattle.kq_model.specs.declared.event.Event.TheVariants as event_of;
 ghost use Rattle.kq_model.specs.declared.why.Why.{Why};
 ghost use Rattle.kq_model.specs.CountedWorld.{IsCountedWorld};
@@ -79,7 +80,8 @@ pub fn fork_all(
     ensures refused { IfOk result (λ e. (why : Why) → e.verdict ≡ Err why
         → map live_of live.new.entries ≡ map live_of live.old.entries) }
     ensures followed { IfOk result (λ e. IsOk e.verdict → (version : ℕ) → AreOfVersion version live.old.entries
-        → map live_of live.new.entries ≡ map (followed_to version (forked pid child) (views_of (world_of world.new)))
+        → map live_of live.new.entries
+        ≡ map (followed_to version (forked pid child) (views_of (world_of world.new)))
         (map live_of live.old.entries)) }
     ensures stayed { HaveStayed live.old.entries live.new.entries }
 {

@@ -1,4 +1,5 @@
-ghost use Rattle.std.specs.Prelude.{◌≡◌, ◌+◌, ◌-◌, ◌^◌, ◌<◌, ℕ, true, None, Some, IfOk, IfSome, IsOk, OnErr, OnOk};
+ghost use Rattle.std.specs.Prelude.{◌≡◌, ◌+◌, ◌-◌, ◌^◌, ◌<◌, ℕ, true, None, Some, IfOk};
+ghost use Rattle.std.specs.Prelude.{IfSome, IsOk, OnErr, OnOk};
 ghost use Rattle.kq_model.specs.declared.object.Named.TheVariants as named_as;
 ghost use Rattle.kq_process.specs.World.{world_of};
 
@@ -238,7 +239,8 @@ impl System {
 
     /// Whether the process is live and the number is not open.
     fn can_open(&self, pid: u32, number: u32) -> bool
-        ensures opens { (p : Plan) → plan_kqueue pid number (world_of self.now.world) ≡ Possible p → result ≡ true }
+        ensures opens { (p : Plan) → plan_kqueue pid number (world_of self.now.world) ≡ Possible p
+            → result ≡ true }
         ensures possible { result ≡ true → IsPossible (plan_kqueue pid number (world_of self.now.world)) }
     {
         self.world.is_live(pid) && self.world.descriptor(pid, number).is_none()

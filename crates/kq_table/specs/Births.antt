@@ -19,7 +19,8 @@ module _ {K T : Type 0} (key_of : T → K) where
   keys_born rows [] = []
   keys_born rows (b ∷ births) = before_keys (rows b.slot) (keys_born rows births)
 
-module _ {K T : Type 0} (same : K → K → Bool) (key_of : T → K) (rows : ℕ → Option T) (births : ℕ → Option ℕ) where
+module _ {K T : Type 0} (same : K → K → Bool) (key_of : T → K) (rows : ℕ → Option T)
+    (births : ℕ → Option ℕ) where
   -- a row of one of these keys stands there, and was born so
   pub record IsBirthOf (keys : List K) (birth : Birth) : Type 0 where
     pub row : T

@@ -46,7 +46,8 @@ module _ {T G : Type 0} (alike : G → G → Bool) (target_of : T → Option G) 
   watching target rows slots = filter (λ s. watches target (rows s)) slots
 
   -- of each target those of the slots whose rows watch it are linked in their order
-  abbrev pub AreWatched : {R : Type 0} → (ℕ → Option T) → (ℕ → Option Links) → HashMap G Ends R → List ℕ → Type 0
+  abbrev pub AreWatched : {R : Type 0} → (ℕ → Option T) → (ℕ → Option Links) → HashMap G Ends R
+      → List ℕ → Type 0
   AreWatched rows links targets slots =
       (target : G) → IsThread links (ends_of (found alike targets target)) (watching target rows slots)
 
@@ -59,7 +60,8 @@ module _ {T G : Type 0} (alike : G → G → Bool) (target_of : T → Option G) 
     pub first : links slot ≡ Some (record { before = None; after = after })
 
   -- the row at this slot watches this target, and no other is linked with it
-  pub record IsLone (rows : ℕ → Option T) (links : ℕ → Option Links) (target : G) (slot : ℕ) (row : T) : Type 0 where
+  pub record IsLone (rows : ℕ → Option T) (links : ℕ → Option Links) (target : G) (slot : ℕ)
+      (row : T) : Type 0 where
     pub here : rows slot ≡ Some row
     pub is : is_target alike target (target_of row) ≡ true
     pub linked : links slot ≡ Some (record { before = None; after = None })
@@ -88,14 +90,16 @@ module _ {K T : Type 0} (same : K → K → Bool) (key_of : T → K) where
   -- Each row is found where the index says. Of keys that have no row it may say anything, so taking a row out leaves it
   -- as it is.
   abbrev pub IsIndexed : {S : Type 0} → (ℕ → Option T) → HashMap K ℕ S → Type 0
-  IsIndexed rows index = (slot : ℕ) (row : T) → rows slot ≡ Some row → found same index (key_of row) ≡ Some slot
+  IsIndexed rows index = (slot : ℕ) (row : T) → rows slot ≡ Some row
+      → found same index (key_of row) ≡ Some slot
 
   -- in no two of the slots stand rows of one key
   abbrev pub AreApart : (ℕ → Option T) → List ℕ → Type 0
   AreApart rows slots = (a b : ℕ) (r s : T) → is_in a slots ≡ true → is_in b slots ≡ true
       → rows a ≡ Some r → rows b ≡ Some s → same (key_of r) (key_of s) ≡ true → a ≡ b
 
-module _ {K T G : Type 0} (same : K → K → Bool) (alike : G → G → Bool) (key_of : T → K) (target_of : T → Option G) where
+module _ {K T G : Type 0} (same : K → K → Bool) (alike : G → G → Bool) (key_of : T → K)
+    (target_of : T → Option G) where
   -- Of the slots each is found by its key, and linked with those that watch the same target.
   pub record IsEntered {S R : Type 0} (rows : ℕ → Option T) (links : ℕ → Option Links)
       (index : HashMap K ℕ S) (targets : HashMap G Ends R) (slots : List ℕ) : Type 0 where

@@ -84,4 +84,5 @@ module _ {K T : Type 0} (same : K → K → Bool) (key_of : T → K) where
 
   -- each key in the queue has a row
   abbrev pub HaveRows : List K → List T → Type 0
-  HaveRows queue rows = (key : K) → waits_in same key queue ≡ true → is_some (find_row same key_of key rows) ≡ true
+  HaveRows queue rows = (key : K) → waits_in same key queue ≡ true
+      → is_some (find_row same key_of key rows) ≡ true

@@ -1,4 +1,5 @@
-ghost use Rattle.std.specs.Prelude.{◌≡◌, ◌<◌, ◌≤◌, ◌+◌, ◌++◌, ◌∷◌, [], ℕ, List, IsSome, Some, true, false};
+ghost use Rattle.std.specs.Prelude.{◌≡◌, ◌<◌, ◌≤◌, ◌+◌, ◌++◌, ◌∷◌, [], ℕ, List};
+ghost use Rattle.std.specs.Prelude.{IsSome, Some, true, false};
 ghost use Rattle.std.specs.Prelude.{if◌then◌else◌, option_map};
 ghost use Rattle.std.specs.Prelude.{length};
 ghost use Rattle.std.specs.HashMap.{get as found, spare};
@@ -75,7 +76,8 @@ fn link_to<T: Copy, G: Copy + Eq + Hash>(
 /// Links the row at a slot behind the others that watch what it watches.
 fn watch<T: Keyed>(nodes: &mut Slab<Node<T>>, targets: &mut HashMap<T::Target, Ends>, slot: usize)
     requires { 0 < spare targets.old }
-    ensures watched { (slots : List ℕ) (row : T) → rows_in nodes.old slot ≡ Some row → is_in slot slots ≡ false
+    ensures watched { (slots : List ℕ) (row : T) → rows_in nodes.old slot ≡ Some row
+        → is_in slot slots ≡ false
         → AreWatched T.Target.eq T.target_of (rows_in nodes.old) (links_in Watch nodes.old) targets.old slots
         → AreWatched T.Target.eq T.target_of (rows_in nodes.old) (links_in Watch nodes.new) targets.new
         (slots ++ slot ∷ []) }
@@ -98,7 +100,8 @@ pub(crate) fn enter<T: Keyed>(
 )
     requires keys { 0 < spare index.old }
     requires targets { 0 < spare targets.old }
-    ensures entered { (slots : List ℕ) (row : T) → rows_in nodes.old slot ≡ Some row → is_in slot slots ≡ false
+    ensures entered { (slots : List ℕ) (row : T) → rows_in nodes.old slot ≡ Some row
+        → is_in slot slots ≡ false
         → ((other : ℕ) (r : T) → is_in other slots ≡ true → rows_in nodes.old other ≡ Some r
         → T.Key.eq (T.key_of row) (T.key_of r) ≡ false)
         → IsEntered T.Key.eq T.Target.eq T.key_of T.target_of (rows_in nodes.old) (links_in Watch nodes.old)

@@ -1,4 +1,5 @@
-ghost use Rattle.std.specs.Prelude.{◌≡◌, ◌<◌, ◌≤◌, ◌+◌, ◌++◌, ◌∷◌, ◌↔◌, [], None, IsTrue, OnOk, OnErr, MatchOption};
+ghost use Rattle.std.specs.Prelude.{◌≡◌, ◌<◌, ◌≤◌, ◌+◌, ◌++◌, ◌∷◌, ◌↔◌, []};
+ghost use Rattle.std.specs.Prelude.{None, IsTrue, OnOk, OnErr, MatchOption};
 ghost use Rattle.std.specs.Prelude.{if◌then◌else◌, Some, length, max, is_some, slice_get};
 ghost use Rattle.std.specs.Option.{option_copied, option_map};
 ghost use Rattle.kq_table.specs.Rows.{find_row, row_after, with_row, without_row, without_waiting, HaveOwnKeys};
@@ -303,7 +304,8 @@ impl<T: Keyed> Table<T> {
         ensures removed { result ≡ find_row T.Key.eq T.key_of key self.old.rows }
         ensures rows { self.new.rows ≡ without_row T.Key.eq T.key_of key self.old.rows }
         ensures queue { self.new.queue ≡ without_waiting T.Key.eq key self.old.queue }
-        ensures room { MatchOption result (self.new.room ≡ self.old.room) (λ _. self.new.room ≡ self.old.room + 1) }
+        ensures room { MatchOption result (self.new.room ≡ self.old.room)
+            (λ _. self.new.room ≡ self.old.room + 1) }
     {
         self.remove_at(self.guess(key), key)
     }
@@ -313,7 +315,8 @@ impl<T: Keyed> Table<T> {
         ensures removed { result ≡ find_row T.Key.eq T.key_of key self.old.rows }
         ensures rows { self.new.rows ≡ without_row T.Key.eq T.key_of key self.old.rows }
         ensures queue { self.new.queue ≡ without_waiting T.Key.eq key self.old.queue }
-        ensures room { MatchOption result (self.new.room ≡ self.old.room) (λ _. self.new.room ≡ self.old.room + 1) }
+        ensures room { MatchOption result (self.new.room ≡ self.old.room)
+            (λ _. self.new.room ≡ self.old.room + 1) }
     {
         let Some(slot) = near(&self.nodes, &self.index, guess, key) else {
             return None;

@@ -1,4 +1,5 @@
-ghost use Rattle.std.specs.Prelude.{◌≡◌, ◌<◌, ◌+◌, ◌^◌, ◌++◌, ◌∷◌, [], ℕ, List, IsSome, false};
+ghost use Rattle.std.specs.Prelude.{◌≡◌, ◌<◌, ◌+◌, ◌^◌, ◌++◌, ◌∷◌, [], ℕ, List};
+ghost use Rattle.std.specs.Prelude.{IsSome, false};
 ghost use Rattle.slab.specs.Slab.{get};
 ghost use Rattle.kq_table.specs.Threads.{is_in, links_in, without_slot, IsQueue, SameBut};
 ghost use Rattle.kq_table.specs.declared.node.Thread.TheVariants.{Queue};

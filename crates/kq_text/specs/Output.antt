@@ -4,4 +4,5 @@ use Rattle.std.specs.Io.KnownBytes.{Appends}
 
 -- it took a prefix of them
 abbrev pub AppendsPart : Option (List ℕ) → Option (List ℕ) → List ℕ → Type 0
-AppendsPart before after text = (done : List ℕ) × (rest : List ℕ) × (text ≡ done ++ rest) × Appends before after done
+AppendsPart before after text =
+    (done : List ℕ) × (rest : List ℕ) × (text ≡ done ++ rest) × Appends before after done

@@ -1,5 +1,6 @@
 -- What the code's timings and tickers say.
-use Rattle.std.specs.Prelude.{◌≡◌, ◌≤ℤ◌, ℤ, pos, unsigned_abs, int_lt, int_le, ◌&&◌, if◌then◌else◌, Option, Some}
+use Rattle.std.specs.Prelude.{◌≡◌, ◌≤ℤ◌, ℤ, pos, unsigned_abs, int_lt, int_le, ◌&&◌}
+use Rattle.std.specs.Prelude.{if◌then◌else◌, Option, Some}
 use Rattle.std.specs.Prelude.{None, IfSome, MatchOption}
 use Rattle.kq_model.specs.Ticks as ticks
 use Rattle.kq_model.specs.Ticks.{Ticking, is_tick, ticks_between, IsNextTick, HasNoTick}

@@ -1,5 +1,6 @@
 -- A text that comes in blocks of whole lines, and what is known of it while more may come.
-use Rattle.std.specs.Prelude.{◌≡◌, ◌<◌, ◌≤◌, ℕ, Bool, true, false, List, [], ◌∷◌, ◌++◌, length, take}
+use Rattle.std.specs.Prelude.{◌≡◌, ◌<◌, ◌≤◌, ℕ, Bool, true, false, List, [], ◌∷◌}
+use Rattle.std.specs.Prelude.{◌++◌, length, take}
 use Rattle.std.specs.Io.KnownBytes.{IsAtEnd}
 use Rattle.kq_model.specs.Limits.{IsVersion, most_records}
 use Rattle.kq_model.specs.Lines.{line_feed}
@@ -49,7 +50,8 @@ pub record IsNextBlock (before after : Ahead) (old new : Blocks) (block : List �
   pub more : List ℕ
   pub given : Gives before after more
   pub lines : (later : List ℕ) → MayCome new later
-      → lines_behind (old.tail.items ++ (more ++ later)) ≡ lines_behind block ++ lines_behind (new.tail.items ++ later)
+      → lines_behind (old.tail.items ++ (more ++ later)) ≡ lines_behind block
+      ++ lines_behind (new.tail.items ++ later)
   -- only the last block is empty
   pub some : new.ended ≡ false → 0 < length block
   pub came : old.ended ≡ true → (more ≡ []) × (new.ended ≡ true)

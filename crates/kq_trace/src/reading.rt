@@ -1,6 +1,7 @@
 //! Reading a trace while its bytes come, and while a sink takes what was read.
 
-ghost use Rattle.std.specs.Prelude.{◌≡◌, ◌≤◌, ◌<◌, ◌+◌, ◌^◌, ◌++◌, ℕ, IfErr, IfOk, List, OnOk, flat_map, length};
+ghost use Rattle.std.specs.Prelude.{◌≡◌, ◌≤◌, ◌<◌, ◌+◌, ◌^◌, ◌++◌, ℕ, IfErr};
+ghost use Rattle.std.specs.Prelude.{IfOk, List, OnOk, flat_map, length};
 ghost use Rattle.std.specs.Io.KnownBytes.{IsAtEnd};
 ghost use Rattle.std.specs.Thread.{IsSync};
 ghost use Rattle.kq_model.specs.declared.event.Event.{Event};

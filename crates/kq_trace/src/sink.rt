@@ -1,6 +1,7 @@
 //! Where the records of a text go.
 
-ghost use Rattle.std.specs.Prelude.{◌≡◌, ◌<◌, ◌+◌, ◌^◌, ◌++◌, ℕ, List, OnOk, flat_map, length, []};
+ghost use Rattle.std.specs.Prelude.{◌≡◌, ◌<◌, ◌+◌, ◌^◌, ◌++◌, ℕ, List, OnOk, flat_map};
+ghost use Rattle.std.specs.Prelude.{length, []};
 ghost use Rattle.kq_model.specs.declared.event.Event.{Event};
 ghost use Rattle.kq_model.specs.Limits.{IsVersion};
 ghost use Rattle.kq_trace.specs.Sink.{HasTaken};

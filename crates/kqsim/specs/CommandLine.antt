@@ -1,7 +1,8 @@
 -- The command lines `kqsim replay [--workers N] FILE`, `kqsim live [--threads N] FILE` and
 -- `kqsim book [--threads N] FILE`, as clap reads them (the words are this project's choice). With no words at all it
 -- is `kqsim replay -`.
-use Rattle.std.specs.Prelude.{◌≡◌, ℕ, true, List, [], ◌∷◌, Option, Some, pos, codes, string_bytes, option_and_then}
+use Rattle.std.specs.Prelude.{◌≡◌, ℕ, true, List, [], ◌∷◌, Option, Some, pos, codes, string_bytes}
+use Rattle.std.specs.Prelude.{option_and_then}
 use Rattle.std.specs.Prelude.{option_map}
 use Rattle.std.specs.Str.Parse.{digits_value, without_leading_plus}
 use Rattle.clap.specs.Words.{App, Row, Rule, Text, first_of, new_app, new_rule, one_of, subcommand_of, with_rule}

@@ -54,12 +54,14 @@ IsReaderFault o given Write = ⊥
 -- what the order makes of the reader's bytes was written
 abbrev pub WritesOutput : Order → Option (List ℕ) → Option (List ℕ) → Option (List ℕ) → Type 0
 WritesOutput o given before after =
-    (bytes : List ℕ) × (text : List ℕ) × Had given most_bytes bytes × IsOutput o bytes text × Appends before after text
+    (bytes : List ℕ) × (text : List ℕ) × Had given most_bytes bytes × IsOutput o bytes text
+    × Appends before after text
 
 -- a prefix of that was written
 abbrev pub WritesPart : Order → Option (List ℕ) → Option (List ℕ) → Option (List ℕ) → Type 0
 WritesPart o given before after =
-    (bytes : List ℕ) × (done : List ℕ) × (rest : List ℕ) × Had given most_bytes bytes × IsOutput o bytes (done ++ rest)
+    (bytes : List ℕ) × (done : List ℕ) × (rest : List ℕ) × Had given most_bytes bytes
+    × IsOutput o bytes (done ++ rest)
     × Appends before after done
 
 -- the fault comes from the bytes that the reader had, and nothing was written

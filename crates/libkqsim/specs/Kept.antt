@@ -30,5 +30,6 @@ published Holds at = fex (Option Kqsim) (λ made. fsep (kept_if made at) (fex (H
 -- is that of a refusal and the pointer is as it was
 abbrev pub IsNew : ℕ → Ptr → Ptr → ℤ → Option Kqsim → Type 0
 IsNew version old new number None =
-    (refusal : Refusal) × (number ≡ refusal_number refusal) × (refusal ≡ Argument → IsVersion version → ⊥) × (new ≡ old)
+    (refusal : Refusal) × (number ≡ refusal_number refusal) × (refusal ≡ Argument → IsVersion version → ⊥)
+    × (new ≡ old)
 IsNew version old new number (Some handle) = (number ≡ pos 0) × IsVersion version × IsEmpty version handle.system

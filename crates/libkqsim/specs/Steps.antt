@@ -1,5 +1,6 @@
 -- What a call of the library does to the system: the clauses of `System::apply`, and the number that C gets.
-use Rattle.std.specs.Prelude.{◌≡◌, ◌≤◌, ◌+◌, ◌-◌, ◌^◌, ℕ, ℤ, List, length, take, nat_lt, if◌then◌else◌}
+use Rattle.std.specs.Prelude.{◌≡◌, ◌≤◌, ◌+◌, ◌-◌, ◌^◌, ℕ, ℤ, List, length, take}
+use Rattle.std.specs.Prelude.{nat_lt, if◌then◌else◌}
 use Rattle.std.specs.Prelude.{Any, Option, Some, None, Result, Err, IfOk, OnErr, OnOk}
 use Rattle.kq_freebsd.specs.declared.c_kevent.CKevent.{CKevent}
 use Rattle.kq_freebsd.specs.declared.refusal.Refusal.{Refusal}
@@ -57,7 +58,8 @@ abbrev pub room_of : List CKevent → ℕ
 room_of array = if nat_lt (length array) (2 ^ 32) then length array else 2 ^ 32 - 1
 
 -- a kevent call was made with these changes, and its events are in the array and counted
-pub record IsCall (pid fd : ℕ) (changes before after : List CKevent) (old new : SystemState) (count : ℕ) (number : ℤ)
+pub record IsCall (pid fd : ℕ) (changes before after : List CKevent) (old new : SystemState) (count : ℕ)
+    (number : ℤ)
     : Type 0 where
   pub asked : List Change
   pub answer : Result Reply Refusal
