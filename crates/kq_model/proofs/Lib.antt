@@ -15,8 +15,6 @@ pub mod QueueKeys
 pub mod PrivateParts
 pub mod PrivateStep
 pub mod PrivateReplay
-pub mod Parameters
-pub mod FollowsNobody
 pub mod HistoryViews
 pub mod FoldAlone
 pub mod Distinct

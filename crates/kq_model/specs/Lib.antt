@@ -63,7 +63,6 @@ pub mod Births
 pub mod Moments
 pub mod References
 pub mod PrivateList
-pub mod Followers
 pub mod Replayed
 pub mod OwnedRows
 pub mod Projection
