@@ -1,14 +1,7 @@
 pub mod Unfolded
 mod TimelineLemmas
 mod Rising
-mod NumberSetLemmas
 mod Picked
-mod Between
-mod Joined
-mod Merged
-mod Parted
-mod Weaving
-mod StretchLemmas
 mod Known
 mod Places
 mod Sourced
@@ -20,7 +13,6 @@ mod GlanceLemmas
 mod Sighted
 mod FiledLemmas
 mod OwnGlances
-mod SlotsOf
 mod PickedPrivate
 mod Descending
 mod Worklist
@@ -59,7 +51,6 @@ mod GoneClosers
 mod SaidItems
 mod SaidNext
 pub mod PrivateOf
-mod AnsweringOf
 mod SplitNext
 mod SplittingNext
 mod Events

@@ -1,7 +1,7 @@
 -- One moment more: what each kqueue is concerned by goes on to be its calls and what its changes name.
-use Rattle.std.proofs.Common.{◌≡◌, ◌≢◌, ◌∙◌, ◌<◌, ◌&&◌, ◌||◌, ◌==◌, ℕ, zero, suc, Bool, true, false, cond, length, get_or, List, [], ◌∷◌, ◌++◌, map, Option, None, Some, refl, sym, ap, ap₂, subst, arith}
+use Rattle.std.proofs.Common.{◌≡◌, ◌≢◌, ◌∙◌, ◌<◌, ◌||◌, ◌==◌, ℕ, zero, suc, true, false, cond, length, get_or, List, [], ◌∷◌, ◌++◌, map, Option, None, Some, refl, sym, ap, ap₂, subst, arith}
 use Rattle.std.specs.Prelude.{All}
-use Rattle.std.specs.List.{flat_map, list_any}
+use Rattle.std.specs.List.{flat_map}
 use Rattle.std.proofs.lemmas.Bool.{eqb-true, true≢false}
 use Rattle.std.proofs.lemmas.Bool.Decides.{nat_tests}
 use Rattle.std.proofs.lemmas.List.{append-nil}
@@ -10,7 +10,6 @@ use Rattle.std.proofs.lemmas.List.Folds.{flat_map-map, list_any-append}
 use Rattle.std.proofs.lemmas.Grind.{flat_map-append}
 use Rattle.kq_model.specs.declared.change.Change.{Change}
 use Rattle.kq_model.specs.Births.{Birth}
-use Rattle.kq_model.specs.Followers.{asks_to_follow, follows_ever, follows_in}
 use Rattle.kq_model.specs.Moment.{Moment}
 use Rattle.kq_model.specs.References.{Reference, reference_of, references, references_in}
 use Rattle.kq_model.specs.Views.{Views}
@@ -24,10 +23,6 @@ use Rattle.kq_history.specs.Items.{has_source, source_eq}
 use Rattle.kq_history.specs.Kqueues.{IsNew}
 use Rattle.kq_history.specs.Said.{AreNamedBy, CallsBelow, IsNamedBy}
 use Rattle.kq_history.specs.Sources.{Grows, call_sources, named_sources, reference_sources}
-
-or_nothing : (b : Bool) → (b || false) ≡ b
-or_nothing true = refl
-or_nothing false = refl
 
 -- ---- sources
 
@@ -44,54 +39,35 @@ called-sources : (views : Views) (owner : ℕ) (changes : List Change)
     → flat_map (reference_sources owner) (map (reference_of views owner) changes) ≡ call_sources views owner changes
 called-sources views owner changes = flat_map-map (reference_sources owner) (reference_of views owner) changes
 
-follows-append : (k : ℕ) (ms : List Moment) (m : Moment) → follows_ever k (ms ++ m ∷ []) ≡ (follows_ever k ms || follows_in k m.call)
-unfolding follows_ever
-follows-append k [] m = or_nothing (follows_in k m.call)
-follows-append k (x ∷ ms) m =
-    ap (λ f. follows_in k x.call || f) (follows-append k ms m) ∙ sym (or_assoc (follows_in k x.call) (follows_ever k ms) (follows_in k m.call))
-  where
-    or_assoc : (a b c : Bool) → ((a || b) || c) ≡ (a || (b || c))
-    or_assoc true b c = refl
-    or_assoc false b c = refl
-
 module _ (ms : List Moment) (m : Moment) where
   references-more : (k owner : ℕ) → references k owner (ms ++ m ∷ []) ≡ references k owner ms ++ references_in k owner m.views m.call
   unfolding references
   references-more k owner =
       references-append k owner ms (m ∷ []) ∙ ap (λ rs. references k owner ms ++ rs) (append-nil (references_in k owner m.views m.call))
 
-  follows-more : (k : ℕ) → follows_ever k (ms ++ m ∷ []) ≡ (follows_ever k ms || follows_in k m.call)
-  follows-more k = follows-append k ms m
-
   -- ---- one kqueue
 
   -- which the moment does not call
-  quiet : (b : Birth) (c : Concerned) → references_in b.place b.owner m.views m.call ≡ [] → follows_in b.place m.call ≡ false
+  quiet : (b : Birth) (c : Concerned) → references_in b.place b.owner m.views m.call ≡ []
       → IsNamedBy ms b c → IsNamedBy (ms ++ m ∷ []) b c
-  quiet b c none nobody is =
+  quiet b c none is =
       let same : references b.place b.owner (ms ++ m ∷ []) ≡ references b.place b.owner ms =
       references-more b.place b.owner ∙ ap (λ rs. references b.place b.owner ms ++ rs) none ∙ append-nil (references b.place b.owner ms) in
       record {
         owner_is = is.owner_is;
-        follows = is.follows ∙ sym (follows-more b.place ∙ ap (λ f. follows_ever b.place ms || f) nobody
-            ∙ or_nothing (follows_ever b.place ms));
         known = is.known;
         sources = λ x. is.sources x ∙ ap (λ rs. has_source (named_sources b.place b.owner rs) x) (sym same);
       }
 
   -- which it calls
   called : (b : Birth) (c d : Concerned) (call : Call) → m.call ≡ Some call → (call.kqueue == b.place) ≡ true → d.owner ≡ c.owner
-      → d.follows ≡ (c.follows || list_any asks_to_follow call.changes)
       → Grows (call_sources m.views c.owner call.changes) c.sources d.sources → IsNamedBy ms b c → IsNamedBy (ms ++ m ∷ []) b d
-  unfolding references_in follows_in
-  called b c d call is same owner follows grows named =
+  unfolding references_in
+  called b c d call is same owner grows named =
       let extra : references_in b.place b.owner m.views m.call ≡ map (reference_of m.views b.owner) call.changes =
       ap (references_in b.place b.owner m.views) is ∙ ap (λ t. cond t (map (reference_of m.views b.owner) call.changes) []) same in
       record {
         owner_is = owner ∙ named.owner_is;
-        follows = follows
-            ∙ ap₂ (λ p q. p || q) named.follows (ap (λ t. t && list_any asks_to_follow call.changes) (sym same) ∙ ap (follows_in b.place) (sym is))
-            ∙ sym (follows-more b.place);
         known = grows.known named.known;
         sources = λ x.
             grows.sources named.known x
@@ -106,12 +82,12 @@ module _ (ms : List Moment) (m : Moment) where
   -- ---- all of them
 
   pub all-quiet : m.call ≡ None → (bs : List Birth) (cs : List Concerned) → AreNamedBy ms bs cs → AreNamedBy (ms ++ m ∷ []) bs cs
-  unfolding references_in follows_in
+  unfolding references_in
   all-quiet none [] [] are = tt
   all-quiet none [] (c ∷ cs) are = absurd are
   all-quiet none (b ∷ bs) [] are = absurd are
   all-quiet none (b ∷ bs) (c ∷ cs) are = (
-    quiet b c (ap (references_in b.place b.owner m.views) none) (ap (follows_in b.place) none) are.0,
+    quiet b c (ap (references_in b.place b.owner m.views) none) are.0,
     all-quiet none bs cs are.1,
   )
 
@@ -120,29 +96,26 @@ module _ (ms : List Moment) (m : Moment) where
       → ((index : ℕ) (d : Concerned) → (get_or ds index d).owner ≡ (get_or cs index d).owner)
       → ((index : ℕ) (d : Concerned) → index < length bs → get_or (map (λ (b : Birth). b.place) bs) index 0 ≡ call.kqueue
       → Grows (call_sources m.views (get_or cs index d).owner call.changes) (get_or cs index d).sources (get_or ds index d).sources)
-      → ((index : ℕ) (d : Concerned) → index < length bs → get_or (map (λ (b : Birth). b.place) bs) index 0 ≡ call.kqueue
-      → (get_or ds index d).follows ≡ ((get_or cs index d).follows || list_any asks_to_follow call.changes))
       → ((index : ℕ) (d : Concerned) → get_or (map (λ (b : Birth). b.place) bs) index 0 ≢ call.kqueue → get_or ds index d ≡ get_or cs index d)
       → AreNamedBy ms bs cs → AreNamedBy (ms ++ m ∷ []) bs ds
-  unfolding references_in follows_in
-  all-called call is [] [] [] count owners named follows others are = tt
-  all-called call is [] [] (d ∷ ds) count owners named follows others are = absurd (omega (arith, count))
-  all-called call is [] (c ∷ cs) ds count owners named follows others are = absurd are
-  all-called call is (b ∷ bs) [] ds count owners named follows others are = absurd are
-  all-called call is (b ∷ bs) (c ∷ cs) [] count owners named follows others are = absurd (omega (arith, count))
-  all-called call is (b ∷ bs) (c ∷ cs) (d ∷ ds) count owners named follows others are = (
+  unfolding references_in
+  all-called call is [] [] [] count owners named others are = tt
+  all-called call is [] [] (d ∷ ds) count owners named others are = absurd (omega (arith, count))
+  all-called call is [] (c ∷ cs) ds count owners named others are = absurd are
+  all-called call is (b ∷ bs) [] ds count owners named others are = absurd are
+  all-called call is (b ∷ bs) (c ∷ cs) [] count owners named others are = absurd (omega (arith, count))
+  all-called call is (b ∷ bs) (c ∷ cs) (d ∷ ds) count owners named others are = (
     by_test (λ t. (call.kqueue == b.place) ≡ t → IsNamedBy (ms ++ m ∷ []) b d) (call.kqueue == b.place)
         (λ _ same. called b c d call is same (owners 0 c)
-        (follows 0 c (omega arith) (sym (eqb-true call.kqueue b.place same))) (named 0 c (omega arith) (sym (eqb-true call.kqueue b.place same))) are.0)
+        (named 0 c (omega arith) (sym (eqb-true call.kqueue b.place same))) are.0)
         (λ _ apart.
         let other : d ≡ c = others 0 c (λ here. true≢false (sym (itself call.kqueue b.place (sym here)) ∙ apart)) in
         subst (IsNamedBy (ms ++ m ∷ []) b) (sym other)
-        (quiet b c (ap (references_in b.place b.owner m.views) is ∙ ap (λ t. cond t (map (reference_of m.views b.owner) call.changes) []) apart)
-        (ap (follows_in b.place) is ∙ ap (λ t. t && list_any asks_to_follow call.changes) apart) are.0))
+        (quiet b c (ap (references_in b.place b.owner m.views) is ∙ ap (λ t. cond t (map (reference_of m.views b.owner) call.changes) []) apart) are.0))
         refl,
     all-called call is bs cs ds (omega (arith, count)) (λ index x. owners (suc index) x)
         (λ index x within here. named (suc index) x (omega (arith, within)) here)
-        (λ index x within here. follows (suc index) x (omega (arith, within)) here) (λ index x away. others (suc index) x away) are.1,
+        (λ index x away. others (suc index) x away) are.1,
   )
     where
       itself : (a b : ℕ) → a ≡ b → (a == b) ≡ true
@@ -165,24 +138,9 @@ uncalled place owner (m ∷ ms) below =
     not_this (Some c) is =
         ap (λ t. cond t (map (reference_of m.views owner) c.changes) []) (away c.kqueue place (All-head (CallsBelow place) m ms below c is))
 
-follows-uncalled : (place : ℕ) (ms : List Moment) → All (CallsBelow place) ms → follows_ever place ms ≡ false
-unfolding follows_ever follows_in
-follows-uncalled place [] below = refl
-follows-uncalled place (m ∷ ms) below =
-    ap₂ (λ a b. a || b) (not_this m.call refl) (follows-uncalled place ms (All-tail (CallsBelow place) m ms below))
-  where
-    away : (a b : ℕ) → a < b → (a == b) ≡ false
-    away a b less = grind (arith, nat_tests)
-
-    not_this : (call : Option Call) → m.call ≡ call → follows_in place call ≡ false
-    not_this None is = refl
-    not_this (Some c) is =
-        ap (λ t. t && list_any asks_to_follow c.changes) (away c.kqueue place (All-head (CallsBelow place) m ms below c is))
-
 pub new-named : (ms : List Moment) (b : Birth) (c : Concerned) → IsNew b.place b.owner c → All (CallsBelow b.place) ms → IsNamedBy ms b c
 new-named ms b c new below = record {
   owner_is = new.owner_is;
-  follows = new.follows ∙ sym (follows-uncalled b.place ms below);
   known = new.known;
   sources = λ x.
       ap (λ ys. has_source ys x) new.sources

@@ -1,7 +1,7 @@
 -- What is picked by the sources of a kqueue is its private list.
 use Rattle.std.proofs.Common.{◌≡◌, ◌∙◌, ◌<◌, ◌==◌, ◌&&◌, ◌||◌, not, ℕ, zero, suc, ◌+◌, eqb, Bool, true, false, cond, List, [], ◌∷◌, ◌++◌, map, filter, length, get_or, refl, sym, ap, ap₂, subst, arith}
 use Rattle.std.specs.List.{All, Contains, flat_map, list_any}
-use Rattle.std.proofs.lemmas.Bool.{and_from, and_parts, and_right, eq-eqb, eqb-true, false≢true}
+use Rattle.std.proofs.lemmas.Bool.{and_from, and_parts, eq-eqb, eqb-true, false≢true}
 use Rattle.std.proofs.lemmas.List.{length-map}
 use Rattle.std.proofs.lemmas.List.Elements.{All-nil, All-cons, All-head, All-tail, All-weaker}
 use Rattle.kq_model.specs.Births.{Birth}
@@ -11,7 +11,6 @@ use Rattle.kq_model.specs.Objects.{listed}
 use Rattle.kq_model.specs.Projection.{plans}
 use Rattle.kq_model.specs.World.{World, Planned, Impossible, Possible, carried_out, empty_world}
 use Rattle.kq_model.specs.declared.object.Target.{Target}
-use Rattle.kq_model.specs.Followers.{names_met}
 use Rattle.kq_model.specs.PrivateList.{private_by}
 use Rattle.kq_model.specs.References.{Names, Reference, descended, forks_at, named_by, names_in, references}
 use Rattle.kq_model.specs.declared.object.Hint.TheVariants.{Readable}
@@ -27,7 +26,7 @@ use Rattle.kq_history.specs.declared.kqueues.Concerned.{Concerned}
 use Rattle.kq_history.specs.declared.said.Said.{Said}
 use Rattle.kq_model.proofs.KnoteLaws.{by_test}
 use Rattle.kq_history.specs.Children.{AreReached, AreWithChildren}
-use Rattle.kq_history.specs.Concerned.{IsConcerned, items_met}
+use Rattle.kq_history.specs.Concerned.{IsConcerned}
 use Rattle.kq_history.specs.Items.{bare_items, bare_what, has_source, is_from, source_of}
 use Rattle.kq_history.specs.Kept.{has_owner, is_gone}
 use Rattle.kq_history.specs.Kqueues.{IsAtPlace}
@@ -179,7 +178,7 @@ no-forks (m ∷ ms) all =
     (ap (λ b. cond b [] (all_forks m.hints)) (eq-eqb m.version 1 (All-head (λ (x : Moment). x.version ≡ 1) m ms all)))
     (no-forks ms (All-tail (λ (x : Moment). x.version ≡ 1) m ms all))
 
--- ---- all of it, and what of it can make a difference
+-- ---- all of it
 
 module _ (t : Traced) (said : Said) (is : IsSaid t said) (place : ℕ) (c : Concerned) (at : IsAtPlace place said.kqueues c) (sources : List Source) where
   -- in a later version than 1 the processes that descend from those that are named are reached
@@ -217,37 +216,12 @@ module _ (t : Traced) (said : Said) (is : IsSaid t said) (place : ℕ) (c : Conc
       (λ _ one same. reached-none b named (forks_at (moments_of t)) (none-at-first one) same)
       (λ _ later with_children. reached-later b named later with_children) refl reached
 
-  reached-met : AreReached (not (t.version == 1) && c.follows) said.log.items c.sources.list.items sources
-      → (b : Birth) → IsNamedBy (moments_of t) b c
-      → IsConcerned (names_met b.place b.owner (moments_of t)) b c.owner sources
-  reached-met reached b named =
-      by_test (λ f. c.follows ≡ f → AreReached (not (t.version == 1) && f) said.log.items c.sources.list.items sources
-      → IsConcerned (names_met b.place b.owner (moments_of t)) b c.owner sources) c.follows
-      (λ _ does have.
-      subst (λ f. IsConcerned (names_in (cond f (forks_at (moments_of t)) []) (references b.place b.owner (moments_of t))) b c.owner sources)
-      (sym does ∙ named.follows)
-      (reached-all (subst (λ v. AreReached v said.log.items c.sources.list.items sources) (and_true (not (t.version == 1))) have) b named))
-      (λ _ none same.
-      subst (λ f. IsConcerned (names_in (cond f (forks_at (moments_of t)) []) (references b.place b.owner (moments_of t))) b c.owner sources)
-      (sym none ∙ named.follows)
-      (reached-none b named [] refl (subst (λ v. AreReached v said.log.items c.sources.list.items sources) (and_right (not (t.version == 1)) false refl) same)))
-      refl reached
-    where
-      and_true : (b : Bool) → (b && true) ≡ b
-      and_true true = refl
-      and_true false = refl
-
   pub is-private : (items : List Item) → AreReached (not (t.version == 1)) said.log.items c.sources.list.items sources
       → items ≡ filter (is_from sources) said.log.items → IsPrivate t place c.owner items
   is-private items reached picked = record {
     owned = owned-there t said is place c at;
     items_are = picked ∙ picked-there t said is place c at (λ p o. names_in (forks_at (moments_of t)) (references p o (moments_of t))) sources (reached-all reached);
   }
-
-  -- what is picked where children are asked for in a later version than 1 alone, and by a kqueue that follows some
-  pub picked-met : AreReached (not (t.version == 1) && c.follows) said.log.items c.sources.list.items sources
-      → filter (is_from sources) said.log.items ≡ items_met place c.owner (moments_of t)
-  picked-met reached = picked-there t said is place c at (λ p o. names_met p o (moments_of t)) sources (reached-met reached)
 
 -- whose list it is
 born-in : (bs : List Birth) (place owner : ℕ) → list_any (λ (x : Birth). (x.place == place) && (x.owner == owner)) bs ≡ true

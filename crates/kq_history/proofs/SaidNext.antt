@@ -266,7 +266,6 @@ module _ (t : Traced) (e : Event) (counts : IsCountedWorld (end t e) (now t e)) 
           (λ index d within here. subst (λ (v : Views). Grows (call_sources v (get_or k.concerned.items index d).owner c.changes)
           (get_or k.concerned.items index d).sources (get_or k'.concerned.items index d).sources) (sym m-views)
           (heard.1.named index d (inside index within) (ap (λ ps. get_or ps index 0) are.births ∙ here)))
-          (λ index d within here. heard.1.follows index d (inside index within) (ap (λ ps. get_or ps index 0) are.births ∙ here))
           (λ index d away. heard.1.others index d (λ here. away (ap (λ ps. get_or ps index 0) (sym are.births) ∙ here)))
           are.concerned),
       λ pid. ap (λ s. contains nat_eq s pid) heard.2 ∙ are.owners pid ∙ ap (has_owner pid) (sym (append-nil (births_of t))),

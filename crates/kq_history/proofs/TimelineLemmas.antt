@@ -1,8 +1,5 @@
 -- The value at a place is that of the mark before the first one that is later.
 use Rattle.std.proofs.Common.{◌≡◌, ℕ, zero, suc, ◌+◌, ◌-◌, ◌<◌, ◌≤◌, Bool, true, false, cond, leb, length, get_or, List, [], ◌∷◌, None, Some, refl, sym, ap, ◌∙◌, arith}
-use Rattle.std.specs.List.Sorted.{IsNonDecreasingBy, IsPartitionPoint}
-use Rattle.std.proofs.lemmas.Bool.{both_ways, false_from_ne_true}
-use Rattle.std.proofs.lemmas.List.Sorted.{IsPartitionedBy-leb}
 use Rattle.std.specs.List.{slice_get}
 use Rattle.std.proofs.lemmas.Option.{get_or_from_slice_get, none-some, slice_get-get_or, slice_get_within}
 use Rattle.kq_model.proofs.KnoteLaws.{by_test}
@@ -65,18 +62,6 @@ module _ {V : Type 0} (place : ℕ) where
       → (get_or ms (count - 1) d).value ≡ value_at place before ms
   value-behind ms count before d some within begun =
       sym (value-is ms (mark 0 before) ∙ ap (λ (m : Mark V). m.value) (mark-behind ms count (mark 0 before) d some within begun))
-
--- the last of so many has begun, and the next one has not
-pub begun-between : {X : Type 0} (at : X → ℕ) (place : ℕ) (xs : List X) (count : ℕ) → IsNonDecreasingBy at xs → count ≤ length xs
-    → ((d : X) → 1 ≤ count → leb (at (get_or xs (count - 1) d)) place ≡ true)
-    → ((d : X) → count < length xs → leb (at (get_or xs count d)) place ≡ false)
-    → IsPartitionPoint (λ x. leb (at x) place ≡ true) (λ x. leb (at x) place ≡ false) xs count
-begun-between at place xs count rises within last next =
-    let parted = IsPartitionedBy-leb at xs place rises in (
-      (λ k d from below. parted k (count - 1) d (omega (arith, below)) (omega (arith, below, within)) (last d (omega (arith, below)))),
-      (λ k d from inside. false_from_ne_true (leb (at (get_or xs k d)) place) (λ begun.
-          both_ways (leb (at (get_or xs count d)) place) (next d (omega (arith, from, inside))) (parted count k d from inside begun))),
-    )
 
 -- ---- behind all marks
 

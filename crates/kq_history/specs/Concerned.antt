@@ -1,8 +1,7 @@
--- The sources of what concerns a kqueue; its private list item by item, and what of that can make a difference to it.
+-- The sources of what concerns a kqueue, and its private list item by item.
 use Rattle.std.specs.Prelude.{◌≡◌, ℕ, List}
 use Rattle.std.specs.List.{flat_map}
 use Rattle.kq_model.specs.Births.{Birth}
-use Rattle.kq_model.specs.Followers.{list_met}
 use Rattle.kq_model.specs.Items as model
 use Rattle.kq_model.specs.Moment.{Moment}
 use Rattle.kq_model.specs.PrivateList.{private_list}
@@ -20,8 +19,3 @@ IsConcerned ns b owner sources =
 -- the items of the private list of the kqueue with this place and this owner
 abbrev pub private_items : ℕ → ℕ → List Moment → List Item
 private_items place owner ms = bare_items (flat_map model.items_of (private_list place owner ms))
-
--- of these what can make a difference: where none of its calls asks that children are followed, nothing of the
--- processes that descend from those that it names
-abbrev pub items_met : ℕ → ℕ → List Moment → List Item
-items_met place owner ms = bare_items (flat_map model.items_of (list_met place owner ms))

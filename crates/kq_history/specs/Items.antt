@@ -1,6 +1,6 @@
 -- The items of the code's log against those of the model: a call stands there by its kqueue alone, since its record
 -- has the rest.
-use Rattle.std.specs.Prelude.{ℕ, Bool, List, map, Option, None, Some}
+use Rattle.std.specs.Prelude.{Bool, List, map}
 use Rattle.std.specs.List.{list_any}
 use Rattle.kq_history.specs.declared.item.Item.{Item}
 use Rattle.kq_history.specs.declared.item.Source.{Source}
@@ -41,12 +41,3 @@ has_source sources s = list_any (source_eq s) sources
 -- the item comes from one of these
 abbrev pub is_from : List Source → Item → Bool
 is_from sources i = has_source sources (source_of i.what)
-
--- the place, of a call
-abbrev pub call_at : ℕ → What → Option ℕ
-call_at place (what.Called kqueue) = Some place
-call_at place _ = None
-
--- the place of an item that is a call
-abbrev pub call_in : Item → Option ℕ
-call_in i = call_at i.place i.what

@@ -1,11 +1,9 @@
 -- The kqueues that a trace makes: by rising place, each with its owner and the sources of what concerns it.
-use Rattle.std.specs.Prelude.{◌≡◌, ◌≢◌, ◌<◌, ◌==◌, ◌||◌, nat_eq, ℕ, false, List, []}
+use Rattle.std.specs.Prelude.{◌≡◌, ◌≢◌, ◌<◌, ◌==◌, ◌||◌, nat_eq, ℕ, List, []}
 use Rattle.std.specs.Prelude.{◌∷◌, length, slice_index}
 use Rattle.std.specs.Prelude.{slice_index_or}
 use Rattle.std.specs.HashSet.{contains}
-use Rattle.std.specs.List.{list_any}
 use Rattle.kq_model.specs.declared.change.Change.{Change}
-use Rattle.kq_model.specs.Followers.{asks_to_follow}
 use Rattle.kq_model.specs.Views.{Views}
 use Rattle.kq_history.specs.declared.item.Source.TheVariants.{Kqueue}
 use Rattle.kq_history.specs.declared.kqueues.Concerned.{Concerned}
@@ -28,15 +26,13 @@ IsAtPlace place k c =
     (index : ℕ) × (index < length k.places.items) × (slice_index k.places.items index ≡ place)
     × (c ≡ slice_index_or k.concerned.items index c)
 
--- a new kqueue is concerned by its calls alone, and follows nobody
+-- a new kqueue is concerned by its calls alone
 pub record IsNew (place owner : ℕ) (c : Concerned) : Type 0 where
   pub owner_is : c.owner ≡ owner
-  pub follows : c.follows ≡ false
   pub known : AreKnown c.sources
   pub sources : c.sources.list.items ≡ Kqueue place ∷ []
 
--- the kqueue of this place is concerned by what these changes name too, and follows children where one of them asks for
--- that; the others are as they were
+-- the kqueue of this place is concerned by what these changes name too; the others are as they were
 pub record IsNamedAt (place : ℕ) (views : Views) (changes : List Change) (old new : Kqueues) : Type 0 where
   pub length_is : length new.concerned.items ≡ length old.concerned.items
   pub owners : (index : ℕ) (c : Concerned)
@@ -45,9 +41,6 @@ pub record IsNamedAt (place : ℕ) (views : Views) (changes : List Change) (old 
       → slice_index old.places.items index ≡ place
       → Grows (call_sources views (slice_index_or old.concerned.items index c).owner changes)
       (slice_index_or old.concerned.items index c).sources (slice_index_or new.concerned.items index c).sources
-  pub follows : (index : ℕ) (c : Concerned) → index < length old.places.items
-      → slice_index old.places.items index ≡ place → (slice_index_or new.concerned.items index c).follows
-      ≡ ((slice_index_or old.concerned.items index c).follows || list_any asks_to_follow changes)
   pub others : (index : ℕ) (c : Concerned) → slice_index old.places.items index ≢ place
       → slice_index_or new.concerned.items index c ≡ slice_index_or old.concerned.items index c
 

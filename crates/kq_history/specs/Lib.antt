@@ -4,9 +4,7 @@ pub mod Items
 pub mod Lines
 pub mod Filed
 pub mod Hashed
-pub mod Steps
 pub mod Log
-pub mod Stretches
 pub mod Notes
 pub mod Saying
 pub mod Sources
@@ -28,14 +26,11 @@ pub mod Slots
 pub mod Seen
 pub mod Noted
 pub mod Traced
-pub mod Looking
 pub mod Tracked
 pub mod Sayings
 pub mod Plain
 pub mod Split
-pub mod NumberSets
 pub mod Said
-pub mod BetweenCalls
 pub mod Private
 pub mod Heard
 pub mod Splitting

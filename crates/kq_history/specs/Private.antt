@@ -1,11 +1,9 @@
--- The private list of the kqueue that was made at a place, and what of it can show in rows.
+-- The private list of the kqueue that was made at a place.
 use Rattle.std.specs.Prelude.{◌≡◌, ◌==◌, ◌&&◌, ℕ, Bool, true, List}
 use Rattle.std.specs.List.{list_any}
 use Rattle.kq_model.specs.Births.{Birth}
 use Rattle.kq_history.specs.declared.item.Item.{Item}
-use Rattle.kq_history.specs.BetweenCalls.{between_calls}
-use Rattle.kq_history.specs.Concerned.{items_met, private_items}
-use Rattle.kq_history.specs.Steps.{joined}
+use Rattle.kq_history.specs.Concerned.{private_items}
 use Rattle.kq_history.specs.Traced.{Traced, births_of, moments_of}
 
 -- this process made a kqueue at this place
@@ -16,9 +14,3 @@ is_owned t place owner = list_any (λ (b : Birth). (b.place == place) && (b.owne
 pub record IsPrivate (t : Traced) (place owner : ℕ) (items : List Item) : Type 0 where
   pub owned : is_owned t place owner ≡ true
   pub items_are : items ≡ private_items place owner (moments_of t)
-
--- those of them that can make a difference, from its first call to its last one, where a run of steps of the clock is
--- one step
-pub record IsAnswering (t : Traced) (place owner : ℕ) (items : List Item) : Type 0 where
-  pub owned : is_owned t place owner ≡ true
-  pub items_are : items ≡ joined (between_calls (items_met place owner (moments_of t)))

@@ -5,7 +5,6 @@ use Rattle.std.specs.HashSet.{contains}
 use Rattle.kq_model.specs.Births.{Birth}
 use Rattle.kq_model.specs.Clock.{Span}
 use Rattle.kq_model.specs.Close.{Pair}
-use Rattle.kq_model.specs.Followers.{follows_ever}
 use Rattle.kq_model.specs.Items.{What, Closed, Told, all_items, clock_whats, items_at}
 use Rattle.kq_model.specs.Moment.{Moment}
 use Rattle.kq_model.specs.References.{references}
@@ -54,10 +53,9 @@ AreHeard place None None views old new = new ≡ old
 
 -- ---- all records so far
 
--- a kqueue's owner, whether it follows children, and the sources of its calls and of what its changes name
+-- a kqueue's owner, and the sources of its calls and of what its changes name
 pub record IsNamedBy (ms : List Moment) (b : Birth) (c : Concerned) : Type 0 where
   pub owner_is : c.owner ≡ b.owner
-  pub follows : c.follows ≡ follows_ever b.place ms
   pub known : AreKnown c.sources
   pub sources : (x : Source) → has_source c.sources.list.items x
       ≡ has_source (named_sources b.place b.owner (references b.place b.owner ms)) x

@@ -59,20 +59,6 @@ impl Hash for Source {
     }
 }
 
-impl Item {
-    ghost use Rattle.kq_history.specs.Items.{call_in};
-
-    /// Its place, if it is a call.
-    pub fn call(self) -> Option<u64>
-        ensures { result ≡ call_in self }
-    {
-        match self.what {
-            What::Called { .. } => Some(self.place),
-            _ => None,
-        }
-    }
-}
-
 impl What {
     ghost use Rattle.kq_history.specs.Items.{source_of};
 

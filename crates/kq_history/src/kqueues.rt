@@ -1,58 +1,40 @@
-ghost use Rattle.std.specs.Prelude.{◌≡◌, ◌==◌, ◌&&◌, ◌||◌, not, false, nat_eq, ℕ, ◌<◌};
-ghost use Rattle.std.specs.Prelude.{◌++◌, ◌∷◌, [], length};
-ghost use Rattle.std.specs.Prelude.{slice_index, None, IfOk, IfSome, OnOk};
+ghost use Rattle.std.specs.Prelude.{◌≡◌, ◌<◌, ◌++◌, ◌∷◌, [], ℕ, false, length, nat_eq, slice_index};
+ghost use Rattle.std.specs.Prelude.{None, IfOk, IfSome, OnOk};
 ghost use Rattle.std.specs.HashSet.{contains};
-ghost use Rattle.std.specs.List.{Contains, list_any};
+ghost use Rattle.std.specs.List.{Contains};
 ghost use Rattle.std.specs.List.Sorted.{IsStrictlyIncreasing};
-ghost use Rattle.kq_model.specs.Followers.{asks_to_follow};
 ghost use Rattle.kq_history.specs.declared.kqueues.Concerned.{Concerned};
 ghost use Rattle.kq_history.specs.Kqueues.{HasMaker, IsAbsent, IsAlone, IsAtPlace, IsNamedAt, IsNew};
 ghost use Rattle.kq_history.specs.Sources.{call_sources, Grows};
 
 use crate::item::Source;
 use crate::sources::Sources;
-use kq_model::notes::NOTE_TRACK;
-use kq_model::{Change, Filter, Memory, Views};
+use kq_model::{Change, Memory, Views};
 use std::alloc::Global;
 use std::collections::HashSet;
 
-/// A kqueue's owner, the sources of what concerns it, and whether it follows children: whether one of its calls asked
-/// for that.
+/// A kqueue's owner, and the sources of what concerns it.
 #[derive(Drop)]
 pub struct Concerned {
     pub owner: u32,
-    pub follows: bool,
     pub sources: Sources,
 }
 
 impl Concerned {
-    /// A new kqueue, which is concerned by its calls, and follows nobody.
+    /// A new kqueue, which is concerned by its calls.
     pub fn new(alloc: Global, place: u64, owner: u32) -> Result<Self, Memory>
         ensures { IfOk result (IsNew place owner) }
     {
         let sources = Sources::one(alloc, Source::Kqueue(place))?;
-        Ok(Concerned {
-            owner,
-            follows: false,
-            sources,
-        })
+        Ok(Concerned { owner, sources })
     }
 
-    /// Whether it follows children in a trace of this version of the format: in version 1 nobody does.
-    pub fn follows_in(&self, version: u32) -> bool
-        ensures { result ≡ (not (version == 1) && self.now.follows) }
-    {
-        version != 1 && self.follows
-    }
-
-    /// A call of the kqueue: what its changes name concerns it, and one of them may ask that children are followed.
+    /// A call of the kqueue: what its changes name concerns it.
     pub fn name_all<V: Views>(&mut self, changes: &[Change], views: &V) -> Result<(), Memory>
         ensures owner { self.new.owner ≡ self.old.owner }
-        ensures follows { self.new.follows ≡ (self.old.follows || list_any asks_to_follow changes.now) }
         ensures named { OnOk result (Grows (call_sources (V.sees views.now) self.old.owner changes.now)
             self.old.sources self.new.sources) }
     {
-        self.follows = self.follows || ask_to_follow(changes);
         self.sources.name_all(self.owner, changes, views)
     }
 }
@@ -142,24 +124,6 @@ impl Kqueues {
             None => Ok(()),
             Some(index) => self.concerned[index].name_all(changes, views),
         }
-    }
-}
-
-/// Whether one of these changes asks that children are followed.
-fn ask_to_follow(changes: &[Change]) -> bool
-    ensures { result ≡ list_any asks_to_follow changes.now }
-{
-    changes.iter().any(|change| asks_to_follow(change))
-}
-
-/// Whether a change asks that the children of a process are followed.
-#[tactic(auto, unfolding(kq_model::specs::Followers::is_process))]
-fn asks_to_follow(change: &Change) -> bool
-    ensures { result ≡ asks_to_follow change.now }
-{
-    match change.filter {
-        Filter::Proc => change.fflags & NOTE_TRACK == NOTE_TRACK,
-        _ => false,
     }
 }
 

@@ -2,24 +2,20 @@
 //! that each kqueue can be replayed alone.
 #![tactic(auto)]
 
-mod answering;
 mod at;
 mod brief;
 mod filed;
 mod guesses;
 mod hearing;
 mod item;
-mod item_list;
 mod kqueues;
 mod lines;
 mod listing;
 mod log;
-mod looking;
 mod marks;
 mod note;
 mod notes;
 mod numbers;
-mod ordering;
 mod plain;
 mod private;
 mod said;
@@ -28,23 +24,17 @@ mod seen;
 mod shown;
 mod sighting;
 mod sights;
-mod slots;
 mod sources;
 mod split;
 mod splitting;
 mod spoken;
 mod spots;
-mod stretch;
 mod timeline;
 mod timelines;
 mod touched;
 mod tracking;
-mod weave;
 
-pub use answering::Answering;
 pub use at::HistoryAt;
 pub use item::{Item, Source, What};
-pub use item_list::ItemList;
-pub use looking::Looking;
 pub use private::Private;
 pub use split::Split;

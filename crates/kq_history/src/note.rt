@@ -1,9 +1,7 @@
-ghost use Rattle.std.specs.Prelude.{◌≡◌, List, Option, Some, IfOk};
+ghost use Rattle.std.specs.Prelude.{◌≡◌, Some, IfOk};
 ghost use Rattle.kq_history.specs.declared.item.Source.TheVariants.{Clock};
 ghost use Rattle.kq_history.specs.declared.item.What.TheVariants.{Clocked};
-ghost use Rattle.kq_history.specs.Items.{call_in, source_of};
-ghost use Rattle.kq_history.specs.declared.item.Source.{Source as Declared};
-ghost use Rattle.kq_history.specs.declared.note.Step.{Step as Steps};
+ghost use Rattle.kq_history.specs.Items.{source_of};
 ghost use Rattle.kq_history.specs.Lines.{target_of};
 ghost use Rattle.kq_history.specs.Notes.{hint_word, item_by, maker_of, pid_of, step_what, what_by, Grows, IsSettled};
 
@@ -48,16 +46,6 @@ impl Note {
         Item {
             place: u64::from(self.place),
             what: self.word.what(source, steps),
-        }
-    }
-
-    /// The place of its item, if this is a call.
-    pub fn call(self) -> Option<u64>
-        ensures { (source : Option Declared) (steps : List Steps) → result ≡ call_in (item_by source steps self) }
-    {
-        match self.word {
-            Word::Called => Some(u64::from(self.place)),
-            _ => None,
         }
     }
 }

@@ -1,6 +1,5 @@
 ghost use Rattle.std.specs.Prelude.{◌≡◌, ◌<◌, length, slice_index_or};
 ghost use Rattle.std.specs.HashMap.{keys};
-ghost use Rattle.kq_history.specs.Items.{call_in};
 ghost use Rattle.kq_history.specs.Log.{comes_from, item_at, standing};
 ghost use Rattle.kq_history.specs.Notes.{item_in};
 
@@ -35,13 +34,6 @@ impl Model for Notes {
 }
 
 impl Notes {
-    /// How many items there are.
-    pub fn count(&self) -> usize
-        ensures { result ≡ length self.now }
-    {
-        self.log.len()
-    }
-
     /// The item that stands there.
     pub fn get(&self, number: usize) -> Item
         requires { number < length self.now }
@@ -49,15 +41,6 @@ impl Notes {
     {
         let note = note_at(self.log.as_slice(), number);
         item_of(&self.filed.lines, self.steps.as_slice(), note)
-    }
-
-    /// The place of the item that stands there, if it is a call.
-    pub fn call(&self, number: usize) -> Option<u64>
-        requires { number < length self.now }
-        ensures { result ≡ call_in (item_at self.now number) }
-    {
-        let note = note_at(self.log.as_slice(), number);
-        note.call()
     }
 
     /// Where the items of a source stand, rising.

@@ -2,7 +2,6 @@ ghost use Rattle.std.specs.Prelude.{◌≡◌};
 ghost use Rattle.kq_history.specs.Private.{IsPrivate};
 
 use crate::item::Item;
-use crate::item_list::ItemList;
 use crate::split::Split;
 
 /// What of a trace concerns one kqueue: its private list, item by item.
@@ -42,21 +41,5 @@ impl<'s, 'a> Private<'s, 'a> {
         ensures { result.now ≡ self.now.split.now }
     {
         self.split
-    }
-}
-
-impl<'s, 'a> ItemList for Private<'s, 'a> {
-    ghost list = { λ p. p.items.items };
-
-    fn count(&self) -> usize {
-        self.items.len()
-    }
-
-    fn item(&self, number: usize) -> Item {
-        self.items[number]
-    }
-
-    fn call(&self, number: usize) -> Option<u64> {
-        self.items[number].call()
     }
 }

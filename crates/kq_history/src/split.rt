@@ -1,13 +1,9 @@
-ghost use Rattle.std.specs.Prelude.{◌≡◌, ℕ, pos, IfOk};
-ghost use Rattle.kq_history.specs.Glances.{seen_of};
+ghost use Rattle.std.specs.Prelude.{◌≡◌, pos, IfOk};
 
-use crate::answering::Answering;
 use crate::at::HistoryAt;
-use crate::item::Source;
 use crate::private::Private;
 use crate::said::Said;
 use crate::shown::Shown;
-use crate::sights::Sights;
 use crate::splitting::Splitting;
 use kq_model::{Event, Memory, Named, Row, Target, Trace, View};
 use std::alloc::Global;
@@ -75,34 +71,6 @@ impl<'a> Split<'a> {
         })
     }
 
-    /// What of that can show in its rows: the items from its first call to its last one, where steps
-    /// of the clock with no other item between them are one; where none of its calls asks that children
-    /// are followed, nothing of the processes that descend from those that it names. Its cost is that of
-    /// the items that are no steps of the clock, a search among the steps for each of these, and two
-    /// searches for each source of what concerns the kqueue. Where it follows nobody, no fork is read.
-    /// Memory: a growth was refused, or an item stands behind 2^32 others.
-    pub fn answering<'s>(&'s self, kqueue: u64) -> Result<Answering<'s, 'a>, Memory>
-        requires { IsBorn kqueue self.now }
-        ensures split { IfOk result (λ p. p.split.now ≡ self.now) }
-        ensures kqueue { IfOk result (λ p. p.kqueue ≡ kqueue) }
-    {
-        let kqueues = &self.said.kqueues;
-        let concerned = kqueues.of(kqueue);
-        let sources = concerned.sources.as_slice();
-        let children = concerned.follows_in(self.version);
-        let log = &self.said.log;
-        let stretches = log.pick_reached_between(children, sources, Source::Kqueue(kqueue))?;
-        let targets = targets_of(self.allocator(), sources)?;
-        Ok(Answering {
-            split: self,
-            kqueue,
-            owner: concerned.owner,
-            notes: &log.items,
-            stretches,
-            targets,
-        })
-    }
-
     /// The rows of all impossible records, by rising place.
     pub fn plain_rows(&self) -> &[Row]
         ensures { result.now ≡ plain_rows_of self.now }
@@ -124,13 +92,6 @@ impl<'a> Split<'a> {
     {
         let views = &self.seen.views;
         views.at(target, place).view(views.wholes())
-    }
-
-    /// All that was seen of targets.
-    pub(crate) fn sights(&self) -> &Sights
-        ensures { (place : ℕ) (t : Target) → (seen_at self.now place).view t ≡ seen_of result.now t place }
-    {
-        &self.seen.views
     }
 
     /// What a number of a process names after a place.
@@ -186,15 +147,4 @@ impl<'a> Split<'a> {
         let before = place.checked_sub(1)?;
         self.events.get(before as usize)
     }
-}
-
-/// The targets among these sources.
-fn targets_of(alloc: Global, sources: &[Source]) -> Result<Vec<Target>, Memory> {
-    let mut targets = Vec::new(alloc);
-    for source in sources {
-        if let Source::Of(target) = *source {
-            targets.push(target)?;
-        }
-    }
-    Ok(targets)
 }

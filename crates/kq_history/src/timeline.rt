@@ -2,7 +2,7 @@ ghost use Rattle.std.specs.Prelude.{◌≡◌, ◌++◌, ◌∷◌, [], not, IfO
 ghost use Rattle.std.specs.Option.{option_copied};
 ghost use Rattle.kq_history.specs.Timeline.{last_value, mark, mark_at, mark_or, marked, value_at, IsUpTo};
 
-use crate::marks::{Mark, count_at, count_near, value_behind};
+use crate::marks::{Mark, count_at, value_behind};
 use crate::note::small;
 use kq_model::Memory;
 use std::alloc::Global;
@@ -105,12 +105,12 @@ impl<V> Timeline<V> {
         value_behind(marks, count_at(marks, place), before)
     }
 
-    /// The last mark at the place or before it, if there is one. It costs a constant where no mark is later.
+    /// The last mark at the place or before it, if there is one.
     pub fn mark_at(&self, place: u64) -> Option<&Mark<V>>
         ensures { (before : Mark V) → mark_at place before self.now ≡ mark_or before (option_copied result) }
     {
         let marks = self.marks.as_slice();
-        let count = count_near(marks, place, marks.len());
+        let count = count_at(marks, place);
         if count == 0 {
             return None;
         }

@@ -1,5 +1,5 @@
 // The world over a trace, and what is seen of it after each record.
-ghost use Rattle.std.specs.Prelude.{◌≡◌, ◌+◌, ◌<◌, length, IfOk, OnOk};
+ghost use Rattle.std.specs.Prelude.{◌≡◌, ◌+◌, ◌<◌, length, OnOk};
 ghost use Rattle.kq_model.specs.Objects.{counted};
 ghost use Rattle.kq_model.specs.Plans.{plan};
 ghost use Rattle.kq_model.specs.World as model;

@@ -1,13 +1,9 @@
 -- A call without changes names nothing.
-use Rattle.std.proofs.Common.{◌≡◌, ◌||◌, Bool, true, false, [], refl, sym, subst, rules}
+use Rattle.std.proofs.Common.{◌≡◌, [], refl, sym, subst, rules}
 use Rattle.std.proofs.lemmas.List.{nil_from_length}
 use Rattle.kq_history.specs.Kqueues.{IsNamedAt}
 use Rattle.kq_history.proofs.Known.{grows-nothing}
 use Rattle.kq_history.proofs.kqueues.Kqueues.call.Goals as goal
-
-no-more : (b : Bool) → (b || false) ≡ b
-no-more true = refl
-no-more false = refl
 
 pub returns-then-is_empty-clause-named : goal.returns-then-is_empty-clause-named
 returns-then-is_empty-clause-named g c =
@@ -17,6 +13,5 @@ returns-then-is_empty-clause-named g c =
       length_is = refl;
       owners = λ index d. refl;
       named = λ index d within here. grows-nothing _;
-      follows = λ index d within here. sym (no-more _);
       others = λ index d away. refl;
     })

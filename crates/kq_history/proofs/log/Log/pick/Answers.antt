@@ -1,9 +1,11 @@
-use Rattle.std.proofs.Common.{◌≡◌, ◌<◌, All, List, ℕ, length, map, sym, ap, subst, ◌∙◌}
-use Rattle.std.specs.List.Sorted.{IsPermutation}
+use Rattle.std.proofs.Common.{◌≡◌, ◌<◌, All, List, ℕ, length, map, sym, ap, subst, ◌∙◌, rules}
+use Rattle.std.specs.List.Sorted.{IsPermutation, IsSortedByKey}
+use Rattle.std.specs.Ordering.{nat_cmp}
+use Rattle.std.proofs.lemmas.List.Sorted.{IsNonDecreasingBy-from_sort}
 use Rattle.std.proofs.lemmas.Result.{IfOk-weaker}
 use Rattle.kq_history.specs.contracts.item.SourceEq.TheImpl.Laws.{laws-law}
 use Rattle.kq_history.specs.Items.{is_from}
-use Rattle.kq_history.specs.Log.{item_at, standing}
+use Rattle.kq_history.specs.Log.{all_standing, item_at, standing}
 use Rattle.kq_history.proofs.Picked.{sorted_is, standing-inside, read_all}
 use Rattle.kq_history.proofs.Rising.{do_not_fall}
 use Rattle.kq_history.proofs.log.Log.pick.Goals as goal
@@ -12,9 +14,10 @@ pub items_at-requires : goal.items_at-requires
 items_at-requires c =
     let items = c.args.self.now.items in
     let sources = c.args.sources.now in
-    let sorted = c.in_ok-numbers.numbers.items in
-    let moved = subst (λ (ns : List ℕ). IsPermutation ns sorted) c.in_ok-gathered.ensures c.in_ok-numbers.ensures.permutation in
-    let rises = do_not_fall sorted c.in_ok-numbers.ensures.rising in
+    let sorted = c.sort.new.self.items in
+    let moved : IsPermutation (all_standing items sources) sorted = search rules in
+    let in_order : IsSortedByKey (λ (n : ℕ). n) nat_cmp sorted = search rules in
+    let rises = do_not_fall sorted (IsNonDecreasingBy-from_sort (λ n. n) sorted in_order) in
     let is : sorted ≡ standing (is_from sources) 0 items = sorted_is laws-law items sources sorted c.requires moved rises in
     subst (λ (ns : List ℕ). All (λ n. n < length items) ns) (sym (c.as_slice.ensures.value ∙ is)) (standing-inside (is_from sources) items)
 
@@ -22,9 +25,10 @@ pub returns : goal.returns
 returns c =
     let items = c.args.self.now.items in
     let sources = c.args.sources.now in
-    let sorted = c.in_ok-numbers.numbers.items in
-    let moved = subst (λ (ns : List ℕ). IsPermutation ns sorted) c.in_ok-gathered.ensures c.in_ok-numbers.ensures.permutation in
-    let rises = do_not_fall sorted c.in_ok-numbers.ensures.rising in
+    let sorted = c.sort.new.self.items in
+    let moved : IsPermutation (all_standing items sources) sorted = search rules in
+    let in_order : IsSortedByKey (λ (n : ℕ). n) nat_cmp sorted = search rules in
+    let rises = do_not_fall sorted (IsNonDecreasingBy-from_sort (λ n. n) sorted in_order) in
     let is : sorted ≡ standing (is_from sources) 0 items = sorted_is laws-law items sources sorted c.requires moved rises in
     IfOk-weaker c.items_at.result _ _
     (λ picked has. has ∙ ap (map (item_at items)) (c.as_slice.ensures.value ∙ is) ∙ read_all (is_from sources) items) c.items_at.ensures
