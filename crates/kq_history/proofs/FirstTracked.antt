@@ -1,5 +1,5 @@
 -- Before the first record: the empty world, of which nothing was seen.
-use Rattle.std.proofs.Common.{◌≡◌, ℕ, nat_eq, List, [], ◌∷◌, None, take, refl, sym, ap, ap₂, subst, ◌∙◌, arith}
+use Rattle.std.proofs.Common.{◌≡◌, ℕ, List, [], ◌∷◌, None, take, refl, sym, ap, subst, ◌∙◌, arith}
 use Rattle.std.proofs.lemmas.List.Elements.{All-nil}
 use Rattle.kq_model.specs.declared.object.Target.{Target}
 use Rattle.kq_model.specs.declared.object.Target.TheVariants.{Socket, Pipe, Open, File, Process, Signal, Own}
@@ -15,13 +15,10 @@ use Rattle.kq_model.proofs.ListedWorld.{listed-empty}
 use Rattle.kq_process.specs.declared.world.World.{World}
 use Rattle.kq_process.specs.World.{last_of, world_of}
 use Rattle.kq_history.specs.declared.seen.Seen.{Seen}
-use Rattle.kq_history.specs.declared.marks.Mark.{Mark}
-use Rattle.kq_history.specs.Keys.{pair_eq}
-use Rattle.kq_history.specs.Numbers.{later, no_mark, no_table}
+use Rattle.kq_history.specs.declared.timeline.Mark.{Mark}
+use Rattle.kq_history.specs.Keys.{pair_eq, target_key}
 use Rattle.kq_history.specs.Seen.{IsBlank}
-use Rattle.kq_history.specs.Sights as sights
-use Rattle.kq_history.specs.Sights.{view_at, Sight}
-use Rattle.kq_history.specs.Timeline.{mark_at, value_at, IsUpTo}
+use Rattle.kq_history.specs.Timeline.{value_at, IsUpTo}
 use Rattle.kq_history.specs.Timelines.{marks_at}
 use Rattle.kq_history.specs.Traced.{plain_rows_of}
 use Rattle.kq_history.specs.Tracked.{IsTracked, IsWorldAfter}
@@ -52,19 +49,14 @@ unfolding views_of named_by named_among view_in view_of process_of process_view 
 first-tracked version w s is none blank = record {
   after = first-world version w is none;
   shows = record {
-    view = λ place t. ap (λ (ss : List Sight). view_at ss place t) blank.views ∙ sym (no-view t);
-    descriptor = λ place pid number.
-        ap₂ (λ m t. later m t number) (ap (mark_at place no_mark) (blank.numbers.marks (pid, number)))
-        (ap (mark_at place no_table) (blank.numbers.tables pid));
+    view = λ place t. ap (value_at place None) (blank.views t) ∙ sym (no-view t);
+    descriptor = λ place pid number. ap (value_at place None) (blank.numbers (pid, number));
     now = λ place. ap (value_at place 0) blank.clock;
     within = λ place. omega arith;
   };
   up_to = record {
-    numbers = record {
-      marks = λ key. none-later (marks_at pair_eq s.numbers.marks.table key) (blank.numbers.marks key);
-      tables = λ pid. none-later (marks_at nat_eq s.numbers.tables.table pid) (blank.numbers.tables pid);
-    };
-    views = subst (λ (ss : List Sight). sights.AreUpTo 0 ss) (sym blank.views) (All-nil _);
+    numbers = λ key. none-later (marks_at pair_eq s.numbers.table key) (blank.numbers key);
+    views = λ t. none-later (marks_at target_key s.views.table t) (blank.views t);
     clock = none-later s.clock blank.clock;
   };
 }

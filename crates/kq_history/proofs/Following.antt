@@ -7,11 +7,11 @@ use Rattle.kq_model.specs.declared.object.Target.{Target}
 use Rattle.kq_model.specs.Ticks.{last_moment}
 use Rattle.kq_model.specs.Views.{Views}
 use Rattle.kq_model.proofs.KnoteLaws.{by_test}
-use Rattle.kq_history.specs.declared.marks.Mark.{Mark}
+use Rattle.kq_history.specs.declared.timeline.Mark.{Mark}
 use Rattle.kq_history.specs.Noted.{IsNextWorld}
 use Rattle.kq_history.specs.Seen.{Shows}
-use Rattle.kq_history.specs.Timeline.{last_value, mark, mark_at, marked, value_at, IsUpTo}
-use Rattle.kq_history.specs.Touched.{has_target}
+use Rattle.kq_history.specs.Timeline.{last_value, marked, value_at, IsUpTo}
+use Rattle.kq_history.specs.Touched.{has_number, has_target}
 
 module _ {V : Type 0} where
   value_at-push : (at : ℕ) (before : V) (ms : List (Mark V)) (m : Mark V)
@@ -24,37 +24,6 @@ module _ {V : Type 0} where
   value_at-marked false place at before value ms = ap (value_at at before) (append-nil ms)
   value_at-marked true place at before value ms = value_at-push at before ms (record { place = place; value = value })
 
-module _ {V : Type 0} where
-  mark_at-push : (at : ℕ) (before : Mark V) (ms : List (Mark V)) (m : Mark V)
-      → mark_at at before (ms ++ m ∷ []) ≡ cond (leb m.place at) m (mark_at at before ms)
-  mark_at-push at before [] m = refl
-  mark_at-push at before (x ∷ ms) m = mark_at-push at (cond (leb x.place at) x before) ms m
-
-  pub mark_at-marked : (is : Bool) (place at : ℕ) (before : Mark V) (value : V) (ms : List (Mark V))
-      → mark_at at before (ms ++ marked is place value) ≡ cond (is && leb place at) (mark place value) (mark_at at before ms)
-  mark_at-marked false place at before value ms = ap (mark_at at before) (append-nil ms)
-  mark_at-marked true place at before value ms = mark_at-push at before ms (mark place value)
-
-  -- what is found among marks that are not later than a place is not later
-  pub mark-up_to : (at place : ℕ) (before : Mark V) (ms : List (Mark V)) → before.place ≤ place → IsUpTo place ms → (mark_at at before ms).place ≤ place
-  mark-up_to at place before [] first up = first
-  mark-up_to at place before (m ∷ ms) first up =
-      mark-up_to at place (cond (leb m.place at) m before) ms
-      (by_test (λ b. (cond b m before).place ≤ place) (leb m.place at)
-      (λ _. All-head (λ (x : Mark V). x.place ≤ place) m ms up) (λ _. first))
-      (All-tail (λ (x : Mark V). x.place ≤ place) m ms up)
-
-  -- and it is found at each place behind them
-  pub mark-settled : (place at : ℕ) (before : Mark V) (ms : List (Mark V)) → IsUpTo place ms → place ≤ at
-      → mark_at at before ms ≡ mark_at place before ms
-  mark-settled place at before [] up later = refl
-  mark-settled place at before (m ∷ ms) up later =
-      let here = All-head (λ (x : Mark V). x.place ≤ place) m ms up in
-      let behind : leb m.place at ≡ true = le-leb m.place at (omega (arith, here, later)) in
-      let there : leb m.place place ≡ true = le-leb m.place place here in
-      mark-settled place at (cond (leb m.place at) m before) ms (All-tail (λ (x : Mark V). x.place ≤ place) m ms up) later
-      ∙ ap (λ b. mark_at place (cond b m before) ms) (behind ∙ sym there)
-
 -- one key more in a list of those that are marked with what `read` gives for the key
 pub marked-more : {V : Type 0} (is any up : Bool) (here read before : V) → (is ≡ true → here ≡ read)
     → cond (is && up) here (cond (any && up) read before) ≡ cond ((any || is) && up) read before
@@ -65,17 +34,6 @@ marked-more true false false here read before same = refl
 marked-more false true true here read before same = refl
 marked-more false true false here read before same = refl
 marked-more false false up here read before same = refl
-
--- some keys, and then others
-pub noted-both : {V : Type 0} (first then up : Bool) (value before : V)
-    → cond (then && up) value (cond (first && up) value before) ≡ cond ((first || then) && up) value before
-noted-both true true true value before = refl
-noted-both true true false value before = refl
-noted-both true false true value before = refl
-noted-both true false false value before = refl
-noted-both false true true value before = refl
-noted-both false true false value before = refl
-noted-both false false up value before = refl
 
 -- ---- the next world
 
@@ -96,10 +54,10 @@ read-cond read true v w = refl
 read-cond read false v w = refl
 
 -- what was seen is what the worlds show with the next one among them, where all that it changes was noted
-pub shows-next : (place : ℕ) (before after : Views) (touched : ℕ → ℕ → Bool) (targets : List Target) (worlds next old new : ℕ → Views)
+pub shows-next : (place : ℕ) (before after : Views) (touched : List (ℕ × ℕ)) (targets : List Target) (worlds next old new : ℕ → Views)
     → IsNextWorld place before after touched targets worlds next → after.now ≤ last_moment → Shows worlds old
     → ((pid number at : ℕ) → (new at).descriptor pid number
-    ≡ cond (touched pid number && leb place at) (after.descriptor pid number) ((old at).descriptor pid number))
+    ≡ cond (has_number pid number touched && leb place at) (after.descriptor pid number) ((old at).descriptor pid number))
     → ((t : Target) (at : ℕ) → (new at).view t ≡ cond (has_target t targets && leb place at) (after.view t) ((old at).view t))
     → ((at : ℕ) → (new at).now ≡ cond (leb place at) after.now (old at).now) → Shows next new
 shows-next place before after touched targets worlds next old new is ranged shows numbers views clock = record {
@@ -111,7 +69,7 @@ shows-next place before after touched targets worlds next old new is ranged show
       (λ later untouched. is.same_views t untouched ∙ ap (λ (w : Views). w.view t) (sym (is.stood at later)))
       ∙ read-cond (λ (w : Views). w.view t) (ltb at place) (worlds at) after ∙ ap (λ (w : Views). w.view t) (sym (is.earlier at));
   descriptor = λ at pid number.
-      let has = touched pid number in
+      let has = has_number pid number touched in
       numbers pid number at ∙ ap (λ v. cond (has && leb place at) (after.descriptor pid number) v) (shows.descriptor at pid number)
       ∙ ap (λ b. cond (has && b) (after.descriptor pid number) ((worlds at).descriptor pid number)) (not_before place at)
       ∙ joined has (ltb at place) (after.descriptor pid number) ((worlds at).descriptor pid number)
@@ -152,6 +110,15 @@ value-noted true true place at start here ms up same =
     value_at-marked false place at start here ms
     ∙ by_test (λ b. value_at at start ms ≡ cond b here (value_at at start ms)) (leb place at)
     (λ later. settled place at start ms up (leb-true place at later) ∙ same refl refl) (λ _. refl)
+
+-- a key's marks with one more record's, of keys that were gone through one after the other
+pub noted-more : {V : Type 0} (is had any : Bool) (place at : ℕ) (here read start before : V) (cur new : List (Mark V)) → IsUpTo place cur
+    → new ≡ cur ++ marked (is && not had) place here → (is ≡ true → had ≡ true → last_value start cur ≡ here)
+    → value_at at start cur ≡ cond (any && leb place at) read before → (is ≡ true → here ≡ read)
+    → value_at at start new ≡ cond ((any || is) && leb place at) read before
+noted-more is had any place at here read start before cur new up pushed kept noted same =
+    ap (value_at at start) pushed ∙ value-noted is had place at start here cur up kept
+    ∙ ap (λ v. cond (is && leb place at) here v) noted ∙ marked-more is any (leb place at) here read before same
 
 -- one more mark is no later one
 pub up_to-marked : {V : Type 0} (is : Bool) (place : ℕ) (value : V) (ms : List (Mark V)) → IsUpTo place ms → IsUpTo place (ms ++ marked is place value)

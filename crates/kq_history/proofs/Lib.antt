@@ -6,19 +6,10 @@ mod Known
 mod Places
 mod Sourced
 mod SameSource
-mod LineLemmas
-mod Briefs
-mod NotedItems
-mod GlanceLemmas
-mod Sighted
-mod FiledLemmas
-mod OwnGlances
 mod PickedPrivate
 mod Descending
 mod Worklist
 mod Following
-mod ListingLemmas
-mod NumberLemmas
 mod Altering
 mod AccountedActs
 mod HeldViews
@@ -26,14 +17,10 @@ mod LeftViews
 mod RisingTables
 mod WithinRecords
 mod AnyWithin
-mod TouchedByAct
 mod TouchedKeys
 mod UntouchedRecords
 mod NamedTargets
-mod SlotLemmas
-mod TouchedNumbers
 mod NotedKeys
-mod SightLemmas
 mod NotedMarks
 mod SameValues
 mod ListedRecords
@@ -45,9 +32,6 @@ pub mod Sayings
 mod FirstTracked
 mod PlainRows
 mod NamedKqueues
-mod KeptCloses
-mod GoneProcesses
-mod GoneClosers
 mod SaidItems
 mod SaidNext
 pub mod PrivateOf

@@ -1,8 +1,8 @@
 -- The targets of what numbers named before a record are among those that were added one number after the other.
-use Rattle.std.proofs.Common.{◌≡◌, ◌∙◌, ◌<◌, ◌+◌, ◌==◌, ◌||◌, ◌++◌, ◌∷◌, [], ℕ, ◌&&◌, Bool, true, false, eq-eqb, length, get_or, take, List, Option, refl, sym, ap, ap₂, subst}
+use Rattle.std.proofs.Common.{◌≡◌, ◌∙◌, ◌==◌, ◌||◌, ◌++◌, ◌∷◌, [], ℕ, ◌&&◌, Bool, true, false, eq-eqb, List, Option, refl, sym, ap, ap₂, subst}
 use Rattle.std.specs.List.{flat_map, list_any}
 use Rattle.std.proofs.lemmas.Bool.{and_parts, eqb-true, false≢true}
-use Rattle.std.proofs.lemmas.List.{append-nil, take_more}
+use Rattle.std.proofs.lemmas.List.{append-nil}
 use Rattle.std.proofs.lemmas.List.Folds.{list_any-append}
 use Rattle.std.proofs.lemmas.Grind.{flat_map-append}
 use Rattle.kq_model.specs.declared.object.Named.{Named}
@@ -68,20 +68,6 @@ pub among-behind : (xs ys zs : List Target) → AreAmong ys zs → AreAmong (xs 
 among-behind xs ys zs among = λ t is.
     in-either xs ys t is (λ in_xs. in-first xs zs t in_xs) (λ in_ys. in-second xs zs t (among t in_ys))
 
--- one part more, and what stands for one element more
-pub among-more : (xs ys init cur new : List Target) → AreAmong (xs ++ init) cur → AreAmong (ys ++ cur) new → AreAmong ((xs ++ ys) ++ init) new
-among-more xs ys init cur new so_far added = λ t is.
-    in-either (xs ++ ys) init t is
-    (λ both. in-either xs ys t both
-    (λ earlier. added t (in-second ys cur t (so_far t (in-first xs init t earlier)))) (λ here. added t (in-first ys cur t here)))
-    (λ there. added t (in-second ys cur t (so_far t (in-second xs init t there))))
-
-pub flat-more : {X : Type 0} (f : X → List Target) (xs : List X) (i : ℕ) (d : X) → i < length xs
-    → flat_map f (take (i + 1) xs) ≡ flat_map f (take i xs) ++ f (get_or xs i d)
-flat-more f xs i d below =
-    ap (flat_map f) (take_more xs i d below) ∙ flat_map-append f (take i xs) (get_or xs i d ∷ [])
-    ∙ ap (λ ys. flat_map f (take i xs) ++ ys) (append-nil (f (get_or xs i d)))
-
 -- ---- number by number
 
 module _ (left : Option Named → List Target) (before : ℕ × ℕ → Option Named) where
@@ -117,16 +103,24 @@ module _ (left : Option Named → List Target) (before : ℕ × ℕ → Option N
       refl))
       (λ in_init. from_cur (so_far t (in-second (flat_map around ns) init t in_init)))
 
+-- of more numbers, and behind them more targets
+pub all-touched : (of : ℕ × ℕ → List Target) (some more : List (ℕ × ℕ)) (others targets : List Target) → AreAmong others targets
+    → AreAmong (flat_map of some ++ others) (flat_map of (some ++ more) ++ targets)
+all-touched of some more others targets among = λ t is.
+    in-either (flat_map of some) others t is
+    (λ left. in-first (flat_map of (some ++ more)) targets t
+    (ap (has_target t) (flat_map-append of some more) ∙ in-first (flat_map of some) (flat_map of more) t left))
+    (λ other. in-second (flat_map of (some ++ more)) targets t (among t other))
+
 -- ---- the next world
 
--- it may differ in more numbers and targets
-pub next-world-among : (place : ℕ) (before after : Views) (touched noted : ℕ → ℕ → Bool) (targets more : List Target) (worlds next : ℕ → Views)
-    → ((pid number : ℕ) → noted pid number ≡ false → after.descriptor pid number ≡ before.descriptor pid number) → AreAmong targets more
-    → IsNextWorld place before after touched targets worlds next → IsNextWorld place before after noted more worlds next
-next-world-among place before after touched noted targets more worlds next kept among is = record {
+-- it may differ in more targets
+pub next-world-among : (place : ℕ) (before after : Views) (numbers : List (ℕ × ℕ)) (targets more : List Target) (worlds next : ℕ → Views) → AreAmong targets more
+    → IsNextWorld place before after numbers targets worlds next → IsNextWorld place before after numbers more worlds next
+next-world-among place before after numbers targets more worlds next among is = record {
   earlier = is.earlier;
   stood = is.stood;
-  same_numbers = kept;
+  same_numbers = is.same_numbers;
   same_views = λ t absent.
       is.same_views t
       (by_test (λ b. has_target t targets ≡ b → has_target t targets ≡ false) (has_target t targets)

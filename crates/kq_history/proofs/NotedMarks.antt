@@ -1,14 +1,13 @@
 -- The marks of each key, where those of one key became more.
-use Rattle.std.proofs.Common.{◌≡◌, ◌∙◌, ◌++◌, ◌&&◌, ℕ, Bool, true, false, cond, List, Some, refl, sym, ap}
+use Rattle.std.proofs.Common.{◌≡◌, ◌∙◌, ◌++◌, ◌&&◌, ℕ, Bool, cond, List, Some, refl, sym, ap}
 use Rattle.std.specs.Cmp.{IsEquivalence}
-use Rattle.std.specs.HashMap.{HashMap, get, IsUnique}
+use Rattle.std.specs.HashMap.{HashMap, get}
 use Rattle.std.specs.HashMap.Eq.{lookup_congr}
 use Rattle.std.proofs.lemmas.List.{append-nil}
-use Rattle.std.proofs.lemmas.Map.Entries.{hash_map_get_place}
 use Rattle.kq_model.proofs.KnoteLaws.{by_test}
-use Rattle.kq_history.specs.declared.marks.Mark.{Mark}
+use Rattle.kq_history.specs.declared.timeline.Mark.{Mark}
 use Rattle.kq_history.specs.Timeline.{marked}
-use Rattle.kq_history.specs.Timelines.{marks_at, or_none, StandsAt}
+use Rattle.kq_history.specs.Timelines.{marks_at, or_none}
 
 module _ {K V S : Type 0} (same : K → K → Bool) (laws : IsEquivalence same) where
   pub more-at : (old new : HashMap K (List (Mark V)) S) (key : K) (put : Bool) (place : ℕ) (value : V) (marks : List (Mark V))
@@ -21,23 +20,3 @@ module _ {K V S : Type 0} (same : K → K → Bool) (laws : IsEquivalence same) 
       (same key other)
       (λ _ is. pushed ∙ ap (λ found. or_none found ++ marked put place value) (lookup_congr same laws.congr old.entries key other is))
       (λ _ _. sym (append-nil (marks_at same old other))) refl
-
-  -- where they became more whatever they were
-  pub one-more-at : (old new : HashMap K (List (Mark V)) S) (key : K) (place : ℕ) (value : V) (marks : List (Mark V))
-      → marks ≡ marks_at same old key ++ marked true place value
-      → ((other : K) → get same new other ≡ cond (same key other) (Some marks) (get same old other)) → (other : K)
-      → marks_at same new other ≡ marks_at same old other ++ marked (same key other) place value
-  one-more-at old new key place value marks pushed there other =
-      more-at old new key true place value marks pushed there other
-      ∙ ap (λ b. marks_at same old other ++ marked b place value) (and_true (same key other))
-    where
-      and_true : (b : Bool) → (b && true) ≡ b
-      and_true true = refl
-      and_true false = refl
-
-  -- the marks of a key whose timeline stands there
-  pub marks-there : (table : HashMap K (List (Mark V)) S) (key : K) (index : ℕ) → IsUnique same table
-      → (there : StandsAt same key table index) → get same table key ≡ Some there.marks
-  marks-there table key index unique there =
-      sym (lookup_congr same laws.congr table.entries there.stored key there.equal)
-      ∙ hash_map_get_place laws table index there.stored there.marks unique there.entry

@@ -12,7 +12,7 @@ use Rattle.kq_history.specs.declared.item.Item.{Item}
 use Rattle.kq_history.specs.declared.item.Source.{Source}
 use Rattle.kq_history.specs.Items.{source_eq, source_of, is_from}
 use Rattle.kq_history.specs.Log.{standing, comes_from, all_standing, item_at}
-use Rattle.kq_index.specs.Standing.{shelved}
+use Rattle.kq_history.specs.Shelves.{shelved}
 use Rattle.kq_history.proofs.Rising.{AreFrom, DoNotFall, one_order}
 
 module _ {X : Type 0} where

@@ -28,13 +28,11 @@ use Rattle.kq_model.proofs.KnoteLaws.{by_test}
 use Rattle.kq_history.specs.Children.{AreReached, AreWithChildren}
 use Rattle.kq_history.specs.Concerned.{IsConcerned}
 use Rattle.kq_history.specs.Items.{bare_items, bare_what, has_source, is_from, source_of}
-use Rattle.kq_history.specs.Kept.{has_owner, is_gone}
 use Rattle.kq_history.specs.Kqueues.{IsAtPlace}
 use Rattle.kq_history.specs.Private.{IsPrivate, is_owned}
-use Rattle.kq_history.specs.Said.{kept_by, IsNamedBy, IsSaid}
+use Rattle.kq_history.specs.Said.{IsNamedBy, IsSaid}
 use Rattle.kq_history.specs.Sources.{AreKnown}
-use Rattle.kq_history.specs.Traced.{Traced, births_of, moments_of, world_at_end}
-use Rattle.kq_history.proofs.KeptCloses.{children-same}
+use Rattle.kq_history.specs.Traced.{Traced, births_of, moments_of}
 use Rattle.kq_history.proofs.Descending.{all-of, all-other, no-other}
 use Rattle.kq_history.proofs.NamedKqueues.{named-at}
 use Rattle.kq_history.proofs.PickedPrivate.{picked-private}
@@ -132,32 +130,16 @@ owned-there t said is place c at =
     let there = named-there t said is place c at in
     found-there (births_of t) there.0 no_birth place c.owner there.1 there.2 (sym there.3.owner_is)
 
-owner-there : (bs : List Birth) (index pid : ℕ) (d : Birth) → index < length bs → (get_or bs index d).owner ≡ pid → has_owner pid bs ≡ true
-owner-there [] index pid d within is = absurd (omega (arith, within))
-owner-there (x ∷ bs) zero pid d within is = ap (λ b. b || has_owner pid bs) (eq-eqb x.owner pid is)
-owner-there (x ∷ bs) (suc index) pid d within is =
-    ap (λ b. (x.owner == pid) || b) (owner-there bs index pid d (omega (arith, within)) is) ∙ or_true (x.owner == pid)
-
--- closes that concern it are those of its owner, who made a kqueue
-owner-kept : (t : Traced) (b : Birth) (index pid number : ℕ) (ns : Names) (owner : ℕ) (sources : List Source) → index < length (births_of t)
-    → b ≡ get_or (births_of t) index no_birth → IsConcerned ns b owner sources → has_source sources (source.Number pid number) ≡ true → kept_by t pid ≡ true
-unfolding model.is_own
-owner-kept t b index pid number ns owner sources within at concerned from =
-    let own : ((pid == b.owner) && ns.number number) ≡ true = sym (concerned.1 (model.Closed (record { pid = pid; number = number }))) ∙ from in
-    let same : pid ≡ b.owner = eqb-true pid b.owner (and_parts (pid == b.owner) (ns.number number) own).0 in
-    ap (λ o. o || not (is_gone pid (world_at_end t).processes))
-    (owner-there (births_of t) index pid no_birth within (ap (λ (x : Birth). x.owner) (sym at) ∙ sym same))
-
 -- what is picked by the sources of what concerns it, for its place and its owner
 picked-there : (t : Traced) (said : Said) → IsSaid t said → (place : ℕ) (c : Concerned) → IsAtPlace place said.kqueues c
     → (names : ℕ → ℕ → Names) (sources : List Source)
     → ((b : Birth) → IsNamedBy (moments_of t) b c → IsConcerned (names b.place b.owner) b c.owner sources)
-    → filter (is_from sources) said.log.items
+    → filter (is_from sources) said.log
     ≡ bare_items (flat_map model.items_of (private_by place c.owner (names place c.owner) (moments_of t)))
 picked-there t said is place c at names sources concerned =
     let there = named-there t said is place c at in
     let b = get_or (births_of t) there.0 no_birth in
-    is.logged (is_from sources) (λ here pid number from. owner-kept t b there.0 pid number (names b.place b.owner) c.owner sources there.1 refl (concerned b there.3) from)
+    ap (filter (is_from sources)) is.logged
     ∙ picked-private (names b.place b.owner) (moments_of t) b c.owner sources (concerned b there.3)
     ∙ ap₂ (λ p o. bare_items (flat_map model.items_of (private_by p o (names p o) (moments_of t)))) there.2 (sym there.3.owner_is)
 
@@ -183,14 +165,14 @@ no-forks (m ∷ ms) all =
 module _ (t : Traced) (said : Said) (is : IsSaid t said) (place : ℕ) (c : Concerned) (at : IsAtPlace place said.kqueues c) (sources : List Source) where
   -- in a later version than 1 the processes that descend from those that are named are reached
   reached-later : (b : Birth) → IsNamedBy (moments_of t) b c → (t.version == 1) ≡ false
-      → AreWithChildren said.log.items c.sources.list.items sources
+      → AreWithChildren said.log c.sources.list.items sources
       → IsConcerned (names_in (forks_at (moments_of t)) (references b.place b.owner (moments_of t))) b c.owner sources
   reached-later b named later with_children =
       concerned-later (moments_of t) b c sources named
       (All-weaker (λ (m : Moment). m.version ≡ t.version) (λ (m : Moment). eqb m.version 1 ≡ false) (λ m of. ap (λ n. eqb n 1) of ∙ later) (moments_of t)
       (all-version t.version 1 (empty_world listed) (plans listed t.version t.events)))
       (born-first listed t.version t.events)
-      (children-same (kept_by t) (bare_items (model.all_items (moments_of t))) said.log.items is.logged c.sources.list.items sources with_children)
+      (subst (λ xs. AreWithChildren xs c.sources.list.items sources) is.logged with_children)
 
   -- where no fork is asked for
   reached-none : (b : Birth) → IsNamedBy (moments_of t) b c → (forks : List Fork) → forks ≡ [] → sources ≡ c.sources.list.items
@@ -207,17 +189,17 @@ module _ (t : Traced) (said : Said) (is : IsSaid t said) (place : ℕ) (c : Conc
       (All-weaker (λ (m : Moment). m.version ≡ t.version) (λ (m : Moment). m.version ≡ 1) (λ m of. of ∙ eqb-true t.version 1 one) (moments_of t)
       (all-version t.version 1 (empty_world listed) (plans listed t.version t.events)))
 
-  reached-all : AreReached (not (t.version == 1)) said.log.items c.sources.list.items sources
+  reached-all : AreReached (not (t.version == 1)) said.log c.sources.list.items sources
       → (b : Birth) → IsNamedBy (moments_of t) b c
       → IsConcerned (names_in (forks_at (moments_of t)) (references b.place b.owner (moments_of t))) b c.owner sources
   reached-all reached b named =
-      by_test (λ v. (t.version == 1) ≡ v → AreReached (not v) said.log.items c.sources.list.items sources
+      by_test (λ v. (t.version == 1) ≡ v → AreReached (not v) said.log c.sources.list.items sources
       → IsConcerned (names_in (forks_at (moments_of t)) (references b.place b.owner (moments_of t))) b c.owner sources) (t.version == 1)
       (λ _ one same. reached-none b named (forks_at (moments_of t)) (none-at-first one) same)
       (λ _ later with_children. reached-later b named later with_children) refl reached
 
-  pub is-private : (items : List Item) → AreReached (not (t.version == 1)) said.log.items c.sources.list.items sources
-      → items ≡ filter (is_from sources) said.log.items → IsPrivate t place c.owner items
+  pub is-private : (items : List Item) → AreReached (not (t.version == 1)) said.log c.sources.list.items sources
+      → items ≡ filter (is_from sources) said.log → IsPrivate t place c.owner items
   is-private items reached picked = record {
     owned = owned-there t said is place c at;
     items_are = picked ∙ picked-there t said is place c at (λ p o. names_in (forks_at (moments_of t)) (references p o (moments_of t))) sources (reached-all reached);

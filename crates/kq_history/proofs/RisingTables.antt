@@ -1,6 +1,7 @@
 -- In a table in rising order each descriptor is what its number names.
 use Rattle.std.proofs.Common.{◌≡◌, ◌∙◌, ℕ, ◌&&◌, ◌||◌, Bool, true, false, cond, eqb, eq-eqb, ltb, List, [], ◌∷◌, Option, None, Some, refl, ap, ap₂, arith}
 use Rattle.std.specs.Prelude.{All}
+use Rattle.std.specs.List.{list_any}
 use Rattle.std.proofs.lemmas.Bool.Decides.{nat_tests}
 use Rattle.std.proofs.lemmas.List.Elements.{All-nil, All-cons, All-head, All-tail, All-weaker}
 use Rattle.kq_model.specs.Close.{Pair, has_pair}
@@ -66,3 +67,13 @@ module _ (P : Descriptor → Type 0) where
   unfolding with_kqueue
   opened-put place None ds es all = (many-put ds es all).0
   opened-put place (Some p) ds es all = (many-put ds es (one-put _ (with_descriptors ds es) all).1).0
+
+abbrev pub is_same : Descriptor → Descriptor → Bool
+is_same d x = eqb x.pid d.pid && eqb x.number d.number
+
+pub stand-there : (ds : List Descriptor) → All (λ (d : Descriptor). list_any (is_same d) ds ≡ true) ds
+stand-there [] = All-nil _
+stand-there (d ∷ ds) =
+    All-cons (λ (x : Descriptor). list_any (is_same x) (d ∷ ds) ≡ true) d ds (ap (λ b. b || list_any (is_same d) ds) (same_pair d.pid d.number))
+    (All-weaker (λ (x : Descriptor). list_any (is_same x) ds ≡ true) (λ (x : Descriptor). list_any (is_same x) (d ∷ ds) ≡ true)
+    (λ x there. ap (λ b. is_same x d || b) there ∙ or_true (is_same x d)) ds (stand-there ds))

@@ -1,11 +1,9 @@
 -- What was said and heard is what the trace with one record more says.
-use Rattle.std.proofs.Common.{◌≡◌, ◌∙◌, ◌<◌, ◌+◌, ◌==◌, ◌&&◌, ◌||◌, not, nat_eq, ℕ, Bool, true, false, length, get_or, List, [], ◌∷◌, ◌++◌, filter, map, Option, None, Some, Result, Ok, Err, refl, sym, ap, ap₂, subst, arith}
-use Rattle.std.specs.HashSet.{contains}
+use Rattle.std.proofs.Common.{◌≡◌, ◌∙◌, ◌<◌, ◌+◌, ℕ, length, get_or, List, [], ◌∷◌, ◌++◌, map, Option, None, Some, Result, Ok, Err, refl, sym, ap, ap₂, subst, arith}
 use Rattle.std.specs.Prelude.{All, IsOk}
-use Rattle.std.proofs.lemmas.Bool.{eqb-true, false≢true, not-true, true≢false}
+use Rattle.std.proofs.lemmas.Bool.{false≢true}
 use Rattle.std.proofs.lemmas.List.{append-nil, length-append, length-map, map-append}
-use Rattle.std.proofs.lemmas.List.Elements.{All-nil, All-cons, All-head, All-tail, All-append, All-weaker, filter-append}
-use Rattle.std.proofs.lemmas.List.Folds.{list_any-append}
+use Rattle.std.proofs.lemmas.List.Elements.{All-nil, All-cons, All-append, All-weaker}
 use Rattle.std.proofs.lemmas.Option.{none-some, same_Some}
 use Rattle.kq_model.specs.declared.event.Event.{Event}
 use Rattle.kq_model.specs.declared.event.Event.TheVariants as event
@@ -15,13 +13,12 @@ use Rattle.kq_model.specs.declared.why.Why.{Why}
 use Rattle.kq_model.specs.Births.{Birth, birth_at, birth_by, births_from}
 use Rattle.kq_model.specs.Close.{Pair}
 use Rattle.kq_model.specs.CountedWorld.{IsCountedWorld, place_named}
-use Rattle.kq_model.specs.Items.{Closed, Told, all_items, clock_whats, items_at, items_in, whats}
+use Rattle.kq_model.specs.Items.{all_items, items_at, items_in, whats}
 use Rattle.kq_model.specs.ListedFiles.{AreListed}
 use Rattle.kq_model.specs.Moment.{Moment, moment_of}
-use Rattle.kq_model.specs.Moments.{moment_by, moments_from, world_by}
+use Rattle.kq_model.specs.Moments.{moment_by, moments_from}
 use Rattle.kq_model.specs.Objects.{counted}
 use Rattle.kq_model.specs.Plans.{plan}
-use Rattle.kq_model.specs.Processes.{is_live, was_used}
 use Rattle.kq_model.specs.Views.{Views}
 use Rattle.kq_model.specs.World.{World, Call, Plan, Planned, Impossible, Possible, carried_out, empty_world, named_by, views_of}
 use Rattle.kq_model.proofs.CountedTables.{named_among-all}
@@ -31,27 +28,18 @@ use Rattle.kq_model.proofs.SeenWorld.{seen-counted}
 use Rattle.kq_process.specs.declared.effect.Effect.{Effect}
 use Rattle.kq_process.specs.Effects.{IsDone, IsEffectOf, pairs_in}
 use Rattle.kq_history.specs.declared.item.Item.{Item}
-use Rattle.kq_history.specs.declared.item.What.TheVariants as bare
 use Rattle.kq_history.specs.declared.kqueues.Kqueues.{Kqueues}
 use Rattle.kq_history.specs.declared.hearing.Hearing.{Hearing}
 use Rattle.kq_history.specs.Heard.{IsHeard, IsHeardBy, IsSaidOnce}
 use Rattle.kq_history.specs.Items.{bare_items}
-use Rattle.kq_history.specs.Kept.{has_owner, heard_closes, is_gone, is_kept, is_silent, KeepsTo, SaysAll}
-use Rattle.kq_history.specs.Said.{called_items, kept_by, said_items, said_whats, AreAllSaid, AreHeard, AreNamedBy, AreTheKqueues, CallsBelow, IsHearing}
+use Rattle.kq_history.specs.Said.{said_items, AreAllSaid, AreHeard, AreNamedBy, AreTheKqueues, CallsBelow, IsHearing}
 use Rattle.kq_history.specs.Sayings.{born_of, call_by, call_of, call_on, clock_of, kqueue_named, kqueue_of, Says, SaysBy}
 use Rattle.kq_history.specs.Sources.{Grows, call_sources}
-use Rattle.kq_history.specs.Spoken.{opened_numbers, spoken_numbers, spoken_targets}
-use Rattle.kq_history.specs.Traced.{Traced, births_of, longer, moments_of, places_of, world_at_end}
-use Rattle.kq_history.specs.Within.{IsWithin, IsWithinRecord}
-use Rattle.kq_history.proofs.AnyWithin.{any-within}
-use Rattle.kq_history.proofs.GoneClosers.{exit-leaves, Leaves, LeavesBy}
-use Rattle.kq_history.proofs.GoneProcesses.{gone-next}
-use Rattle.kq_history.proofs.KeptCloses.{none-pass, says-more}
+use Rattle.kq_history.specs.Traced.{Traced, births_of, longer, moments_of, places_of}
 use Rattle.kq_history.proofs.NamedKqueues.{all-called, all-quiet, new-named, one-more}
 use Rattle.kq_history.proofs.SaidItems.{items-longer, kqueue_in, said-parts}
 use Rattle.kq_history.proofs.Sayings.{says}
-use Rattle.kq_model.proofs.KnoteLaws.{by_test}
-use Rattle.kq_history.proofs.TracedWorlds.{end, now, past, pushed, reached, world-longer}
+use Rattle.kq_history.proofs.TracedWorlds.{end, now, past, pushed, reached}
 
 -- ---- calls
 
@@ -103,28 +91,6 @@ called-below (event.Kevent pid fd changes room) w next c counts is = of_name (na
     of_name (Some (named.Open place file)) found calls = absurd (none-some c calls)
 called-below e w next c counts is = absurd (none-some c is)
 
--- ---- parts of tests
-
-or_nothing : (b : Bool) → (b || false) ≡ b
-or_nothing true = refl
-or_nothing false = refl
-
-or_swapped : (a b : Bool) → (a || b) ≡ (b || (a || false))
-or_swapped true true = refl
-or_swapped true false = refl
-or_swapped false true = refl
-or_swapped false false = refl
-
-and_false : (b : Bool) → (b && not true) ≡ false
-and_false true = refl
-and_false false = refl
-
--- it is the exit of a process that made no kqueue
-silent-exit : (e : Event) (owns : ℕ → Bool) → is_silent e owns ≡ true → (pid : ℕ) × (status : ℕ) × (e ≡ event.Exit pid status) × (owns pid ≡ false)
-unfolding is_silent
-silent-exit (event.Exit pid status) owns is = (pid, status, refl, not-true (owns pid) is)
-silent-exit e owns is = absurd (false≢true is)
-
 -- ---- one record more
 
 module _ (t : Traced) (e : Event) (counts : IsCountedWorld (end t e) (now t e)) (lists : AreListed (now t e).objects) where
@@ -159,22 +125,12 @@ module _ (t : Traced) (e : Event) (counts : IsCountedWorld (end t e) (now t e)) 
     unfolding birth_by
     refused-births = births-longer ∙ ap (λ q. births_of t ++ birth_by (end t e) q) is ∙ append-nil (births_of t)
 
-    refused-world : world_at_end (longer t e) ≡ now t e
-    unfolding world_by
-    refused-world = world-longer t e ∙ ap (λ q. world_by (end t e) q (now t e)) is
-
-    refused-kept : kept_by (longer t e) ≡ kept_by t
-    refused-kept = ap₂ (λ bs (w : World counted). is_kept bs w.processes) refused-births refused-world
-
     refused-said : (items : List Item) → AreAllSaid t items → AreAllSaid (longer t e) items
-    refused-said items said =
-        subst (λ kept. SaysAll kept (bare_items (all_items (moments_of (longer t e)))) items) (sym refused-kept)
-        (subst (λ ms. SaysAll (kept_by t) (bare_items (all_items ms)) items) (sym refused-moments) said)
+    refused-said items said = said ∙ ap (λ ms. bare_items (all_items ms)) (sym refused-moments)
 
     refused-kqueues : (k : Kqueues) → AreTheKqueues t k → AreTheKqueues (longer t e) k
     refused-kqueues k are = record {
       births = are.births ∙ ap (λ bs. map (λ (b : Birth). b.place) bs) (sym refused-births);
-      owners = λ pid. are.owners pid ∙ ap (has_owner pid) (sym refused-births);
       concerned = subst (λ ms. AreNamedBy ms (births_of (longer t e)) k.concerned.items) (sym refused-moments)
           (subst (λ bs. AreNamedBy (moments_of t) bs k.concerned.items) (sym refused-births) are.concerned);
       calls = subst (λ ms. All (CallsBelow (length (t.events ++ e ∷ []) + 1)) ms) (sym refused-moments) (later-calls (moments_of t) are.calls);
@@ -230,7 +186,6 @@ module _ (t : Traced) (e : Event) (counts : IsCountedWorld (end t e) (now t e)) 
         → AreHeard (end t e) born call (views_of after) k k'
         → (k'.places.items ≡ places_of (longer t e))
         × AreNamedBy (moments_of t ++ m ∷ []) (births_of t ++ birth_at (end t e) born) k'.concerned.items
-        × ((pid : ℕ) → contains nat_eq k'.owners pid ≡ has_owner pid (births_of t ++ birth_at (end t e) born))
     unfolding birth_at
     kqueues-next k k' are (Some x) call born calls heard =
         let c = heard.1.0 in
@@ -243,16 +198,12 @@ module _ (t : Traced) (e : Event) (counts : IsCountedWorld (end t e) (now t e)) 
               (one-more (moments_of t ++ m ∷ []) (births_of t) k.concerned.items b c
               (all-quiet (moments_of t) m none (births_of t) k.concerned.items are.concerned)
               (new-named (moments_of t ++ m ∷ []) b c heard.1.1 (all-below k are))),
-          λ pid.
-              heard.2 pid ∙ ap (λ o. (x.pid == pid) || o) (are.owners pid) ∙ or_swapped (x.pid == pid) (has_owner pid (births_of t))
-              ∙ sym (list_any-append (λ (b : Birth). b.owner == pid) (births_of t) (b ∷ [])),
         )
     kqueues-next k k' are None None born calls heard = (
       ap (λ (ks : Kqueues). ks.places.items) heard ∙ are.births ∙ places-same born,
       subst (λ bs. AreNamedBy (moments_of t ++ m ∷ []) bs k'.concerned.items) (sym (append-nil (births_of t)))
           (subst (λ (ks : Kqueues). AreNamedBy (moments_of t ++ m ∷ []) (births_of t) ks.concerned.items) (sym heard)
           (all-quiet (moments_of t) m (m-call ∙ calls) (births_of t) k.concerned.items are.concerned)),
-      λ pid. ap (λ (ks : Kqueues). contains nat_eq ks.owners pid) heard ∙ are.owners pid ∙ ap (has_owner pid) (sym (append-nil (births_of t))),
     )
       where
         places-same : born_of e ≡ None → places_of t ≡ places_of (longer t e)
@@ -268,7 +219,6 @@ module _ (t : Traced) (e : Event) (counts : IsCountedWorld (end t e) (now t e)) 
           (heard.1.named index d (inside index within) (ap (λ ps. get_or ps index 0) are.births ∙ here)))
           (λ index d away. heard.1.others index d (λ here. away (ap (λ ps. get_or ps index 0) (sym are.births) ∙ here)))
           are.concerned),
-      λ pid. ap (λ s. contains nat_eq s pid) heard.2 ∙ are.owners pid ∙ ap (has_owner pid) (sym (append-nil (births_of t))),
     )
       where
         inside : (index : ℕ) → index < length (births_of t) → index < length k.places.items
@@ -280,93 +230,13 @@ module _ (t : Traced) (e : Event) (counts : IsCountedWorld (end t e) (now t e)) 
         places-same none = ap (λ bs. map (λ (b : Birth). b.place) bs)
             (sym (same_births ∙ ap (λ x. births_of t ++ birth_at (end t e) x) none ∙ append-nil (births_of t)))
 
-    within : IsWithin (opened_numbers e) (spoken_numbers e) (spoken_targets e) (now t e) p
-    within = subst (IsWithinRecord e (now t e)) is (any-within (end t e) e (now t e) counts lists)
-
-    next-world : world_at_end (longer t e) ≡ after
-    unfolding world_by
-    next-world = world-longer t e ∙ ap (λ q. world_by (end t e) q (now t e)) is
-
-    kept-longer : kept_by (longer t e) ≡ is_kept (births_of t ++ birth_at (end t e) p.born) after.processes
-    kept-longer =
-        ap₂ (λ bs (w : World counted). is_kept bs w.processes) (same_births ∙ ap (λ b. births_of t ++ birth_at (end t e) b) (sym speaks.born_is)) next-world
-
-    -- who is kept after the record was kept before it
-    new-maker : (pid : ℕ) (x : Option Pair) → p.born ≡ x → has_owner pid (birth_at (end t e) x) ≡ true → is_gone pid (now t e).processes ≡ false
-    unfolding birth_at
-    new-maker pid None born made = absurd (false≢true made)
-    new-maker pid (Some x) born made =
-        let same : x.pid ≡ pid = eqb-true x.pid pid (sym (or_nothing (x.pid == pid)) ∙ made) in
-        ap (λ b. was_used pid (now t e).processes && not b) (ap (λ n. is_live n (now t e).processes) (sym same) ∙ within.maker x born)
-        ∙ and_false (was_used pid (now t e).processes)
-
-    kept-earlier : (pid : ℕ) → is_kept (births_of t ++ birth_at (end t e) p.born) after.processes pid ≡ true → kept_by t pid ≡ true
-    kept-earlier pid kept =
-        by_test (λ o. has_owner pid (births_of t) ≡ o → (o || not (is_gone pid (now t e).processes)) ≡ true) (has_owner pid (births_of t))
-        (λ _ _. refl)
-        (λ _ none. ap not (by_test (λ g. is_gone pid (now t e).processes ≡ g → g ≡ false) (is_gone pid (now t e).processes)
-        (λ _ gone. sym gone ∙ new-maker pid p.born refl
-        (not-gone (has_owner pid (births_of t)) (has_owner pid (birth_at (end t e) p.born)) (is_gone pid after.processes) none
-        (gone-next (end t e) pid p (now t e) within.fresh gone)
-        (ap (λ b. b || not (is_gone pid after.processes)) (sym (list_any-append (λ (b : Birth). b.owner == pid) (births_of t) (birth_at (end t e) p.born))) ∙ kept)))
-        (λ _ _. refl) refl)) refl
-      where
-        not-gone : (old new gone : Bool) → old ≡ false → gone ≡ true → ((old || new) || not gone) ≡ true → new ≡ true
-        not-gone true new gone none is kept = absurd (true≢false none)
-        not-gone false true gone none is kept = refl
-        not-gone false false true none is kept = kept
-        not-gone false false false none is kept = absurd (false≢true is)
-
-    own-closed : (pid : ℕ) (closed : List (ℕ × ℕ)) → All (λ (x : Pair). x.pid ≡ pid) (pairs_in closed) → All (λ (x : ℕ × ℕ). x.0 ≡ pid) closed
-    own-closed pid [] own = All-nil _
-    own-closed pid (x ∷ xs) own =
-        All-cons (λ (y : ℕ × ℕ). y.0 ≡ pid) x xs (All-head (λ (y : Pair). y.pid ≡ pid) _ (pairs_in xs) own)
-        (own-closed pid xs (All-tail (λ (y : Pair). y.pid ≡ pid) _ (pairs_in xs) own))
-
-    closes-are : (closed : List (ℕ × ℕ)) → said_whats (end t e) (map Closed (pairs_in closed)) ≡ map (λ (x : ℕ × ℕ). record { place = end t e; what = bare.Closed x.0 x.1 }) closed
-    closes-are [] = refl
-    closes-are (x ∷ xs) = ap (λ rest. record { place = end t e; what = bare.Closed x.0 x.1 } ∷ rest) (closes-are xs)
-
-    -- the closes of a process that exits and made no kqueue
-    none-kept : (pid status : ℕ) → e ≡ event.Exit pid status → has_owner pid (births_of t) ≡ false
-        → All (λ (x : ℕ × ℕ). x.0 ≡ pid) effect.closed × (kept_by (longer t e) pid ≡ false)
-    unfolding plan birth_at
-    none-kept pid status exits none =
-        let leaves : Leaves (end t e) pid (now t e) p =
-        subst (LeavesBy (end t e) pid (now t e)) (ap (λ x. plan (end t e) x (now t e)) (sym exits) ∙ is) (exit-leaves (end t e) pid status (now t e)) in (
-          own-closed pid effect.closed (subst (λ cs. All (λ (x : Pair). x.pid ≡ pid) cs) (sym done.closed) leaves.own),
-          ap (λ kept. kept pid) kept-longer
-              ∙ ap (λ b. is_kept (births_of t ++ birth_at (end t e) b) after.processes pid) leaves.none_born
-              ∙ ap₂ (λ o g. o || not g) (ap (has_owner pid) (append-nil (births_of t)) ∙ none) leaves.gone,
-        )
-
-    silent-same : (silent : Bool) (owns : ℕ → Bool) → ((pid : ℕ) → owns pid ≡ has_owner pid (births_of t)) → silent ≡ is_silent e owns
-        → (test : Item → Bool) → KeepsTo (kept_by (longer t e)) test
-        → filter test (said_whats (end t e) (map Closed (pairs_in (heard_closes silent effect.closed)))) ≡ filter test (said_whats (end t e) (map Closed (pairs_in effect.closed)))
-    silent-same false owns own is_one test keeps = refl
-    silent-same true owns own is_one test keeps =
-        let exits = silent-exit e owns (sym is_one) in
-        let none = none-kept exits.0 exits.1 exits.2 (sym (own exits.0) ∙ exits.3) in
-        sym (ap (filter test) (closes-are effect.closed) ∙ none-pass (kept_by (longer t e)) test (end t e) exits.0 effect.closed none.1 keeps none.0)
-
-    done-said : (silent : Bool) (owns : ℕ → Bool) → ((pid : ℕ) → owns pid ≡ has_owner pid (births_of t)) → silent ≡ is_silent e owns
-        → (items more : List Item) → AreAllSaid t items
-        → more ≡ items ++ said_items (end t e) (heard_closes silent effect.closed) effect.hints (clock_of e (now t e).now) (kqueue_of e (now t e))
+    done-said : (items more : List Item) → AreAllSaid t items
+        → more ≡ items ++ said_items (end t e) effect.closed effect.hints (clock_of e (now t e).now) (kqueue_of e (now t e))
         → AreAllSaid (longer t e) more
-    done-said silent owns own is_one items more said once =
-        let heard = said_items (end t e) (heard_closes silent effect.closed) effect.hints (clock_of e (now t e).now) (kqueue_of e (now t e)) in
+    done-said items more said once =
         let these = said_items (end t e) effect.closed effect.hints (clock_of e (now t e).now) (kqueue_of e (now t e)) in
-        let all : bare_items (all_items (moments_of (longer t e))) ≡ bare_items (all_items (moments_of t)) ++ these =
-        ap (λ ms. bare_items (all_items ms)) same_moments ∙ items-longer (moments_of t) m ∙ ap (λ xs. bare_items (all_items (moments_of t)) ++ xs) m-items in
-        subst (λ xs. SaysAll (kept_by (longer t e)) xs more) (sym all)
-        (subst (λ xs. SaysAll (kept_by (longer t e)) (bare_items (all_items (moments_of t)) ++ these) xs) (sym once)
-        (says-more (kept_by t) (kept_by (longer t e)) (bare_items (all_items (moments_of t))) items these heard
-        (λ pid kept. kept-earlier pid (ap (λ f. f pid) (sym kept-longer) ∙ kept)) said
-        (λ test keeps.
-        let rest = said_whats (end t e) (map Told effect.hints) ++ (said_whats (end t e) (clock_whats (clock_of e (now t e).now)) ++ called_items (end t e) (kqueue_of e (now t e))) in
-        filter-append test (said_whats (end t e) (map Closed (pairs_in (heard_closes silent effect.closed)))) rest
-        ∙ ap (λ xs. xs ++ filter test rest) (silent-same silent owns own is_one test keeps)
-        ∙ sym (filter-append test (said_whats (end t e) (map Closed (pairs_in effect.closed))) rest))))
+        once ∙ ap (λ xs. xs ++ these) said ∙ ap (λ xs. bare_items (all_items (moments_of t)) ++ xs) (sym m-items)
+        ∙ sym (ap (λ ms. bare_items (all_items ms)) same_moments ∙ items-longer (moments_of t) m)
 
     done-kqueues : (k k' : Kqueues) → AreTheKqueues t k
         → AreHeard (end t e) (born_of e) (call_by e (kqueue_of e (now t e))) (views_of after) k k' → AreTheKqueues (longer t e) k'
@@ -375,7 +245,6 @@ module _ (t : Traced) (e : Event) (counts : IsCountedWorld (end t e) (now t e)) 
         let next = kqueues-next k k' are (born_of e) (call_of e (now t e)) refl refl heard in
         record {
           births = next.0;
-          owners = λ pid. next.2 pid ∙ ap (has_owner pid) (sym same_births);
           concerned = subst (λ ms. AreNamedBy ms (births_of (longer t e)) k'.concerned.items) (sym same_moments)
               (subst (λ bs. AreNamedBy (moments_of t ++ m ∷ []) bs k'.concerned.items) (sym same_births) next.1);
           calls = subst (λ ms. All (CallsBelow (length (t.events ++ e ∷ []) + 1)) ms) (sym same_moments) (later-calls (moments_of t ++ m ∷ []) (all-below k are));
@@ -384,23 +253,23 @@ module _ (t : Traced) (e : Event) (counts : IsCountedWorld (end t e) (now t e)) 
   -- ---- any
 
   pub said-next : (q : Planned) → plan (end t e) e (now t e) ≡ q → (effect : Effect) → IsEffectOf q effect → (next : World counted)
-      → ((p : Plan) → q ≡ Possible p → next ≡ carried_out (end t e) p (now t e)) → (silent : Bool) → (s s' : Hearing) → IsHearing t s
-      → silent ≡ is_silent e (contains nat_eq s.kqueues.owners) → IsHeard silent (end t e) e effect (now t e) next s s' → IsHearing (longer t e) s'
-  said-next (Impossible why) is effect refused next leads silent s s' said silent_is heard =
-      let none : s' ≡ s = subst (λ v. IsHeardBy v silent (end t e) e effect (now t e) next s s') refused.verdict heard in
+      → ((p : Plan) → q ≡ Possible p → next ≡ carried_out (end t e) p (now t e)) → (s s' : Hearing) → IsHearing t s
+      → IsHeard (end t e) e effect (now t e) next s s' → IsHearing (longer t e) s'
+  said-next (Impossible why) is effect refused next leads s s' said heard =
+      let none : s' ≡ s = subst (λ v. IsHeardBy v (end t e) e effect (now t e) next s s') refused.verdict heard in
       subst (IsHearing (longer t e)) (sym none) (record {
-        logged = refused-said why is s.log said.logged;
+        logged = refused-said why is s.log.items said.logged;
         kqueues = refused-kqueues why is s.kqueues said.kqueues;
       })
-  said-next (Possible p) is effect done next leads silent s s' said silent_is heard =
+  said-next (Possible p) is effect done next leads s s' said heard =
       let once = possible effect.verdict done.verdict heard in
       record {
-        logged = done-said p is effect done silent (contains nat_eq s.kqueues.owners) said.kqueues.owners silent_is s.log s'.log said.logged once.items;
+        logged = done-said p is effect done s.log.items s'.log.items said.logged once.items;
         kqueues = done-kqueues p is effect done s.kqueues s'.kqueues said.kqueues
             (subst (λ w. AreHeard (end t e) (born_of e) (call_by e (kqueue_of e (now t e))) (views_of w) s.kqueues s'.kqueues) (leads p refl) once.kqueues);
       }
     where
-      possible : (v : Result (Unit {0}) Why) → IsOk v → IsHeardBy v silent (end t e) e effect (now t e) next s s'
-          → IsSaidOnce silent (end t e) e effect (now t e) next s s'
+      possible : (v : Result (Unit {0}) Why) → IsOk v → IsHeardBy v (end t e) e effect (now t e) next s s'
+          → IsSaidOnce (end t e) e effect (now t e) next s s'
       possible (Ok done) is heard = heard
       possible (Err why) is heard = absurd (false≢true is)

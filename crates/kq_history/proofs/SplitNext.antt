@@ -1,7 +1,6 @@
 -- What a split keeps, before the first record and with one record more.
-use Rattle.std.proofs.Common.{◌≡◌, ◌∙◌, ◌<◌, ◌≤◌, ◌+◌, nat_eq, ℕ, zero, suc, Bool, false, length, get_or, List, [], ◌∷◌, ◌++◌, filter, map, Option, None, Some, refl, sym, ap, subst, arith}
+use Rattle.std.proofs.Common.{◌≡◌, ◌∙◌, ◌<◌, ◌≤◌, ◌+◌, ℕ, zero, suc, length, get_or, List, [], ◌∷◌, ◌++◌, map, Option, None, Some, refl, sym, ap, subst, arith}
 use Rattle.std.specs.List.Sorted.{IsStrictlyIncreasing}
-use Rattle.std.specs.HashSet.{contains}
 use Rattle.std.specs.Prelude.{All}
 use Rattle.std.proofs.lemmas.List.{length-map}
 use Rattle.std.proofs.lemmas.List.Elements.{All-head, All-map, All-nil, All-weaker}
@@ -24,7 +23,6 @@ use Rattle.kq_process.specs.World.{world_of, IsEffectBy}
 use Rattle.kq_history.specs.declared.kqueues.Kqueues.{Kqueues}
 use Rattle.kq_history.specs.declared.hearing.Hearing.{Hearing}
 use Rattle.kq_history.specs.Heard.{IsHeard}
-use Rattle.kq_history.specs.Kept.{is_silent}
 use Rattle.kq_history.specs.Said.{AreNamedBy, AreTheKqueues, IsHearing}
 use Rattle.kq_history.specs.Sayings.{kqueue_of}
 use Rattle.kq_history.specs.Traced.{Traced, births_of, longer, places_of}
@@ -93,14 +91,13 @@ few-kqueues t =
 
 -- ---- no record
 
-pub first-said : (version : ℕ) (s : Hearing) → s.log ≡ [] → s.kqueues.places.items ≡ []
-    → s.kqueues.concerned.items ≡ [] → ((pid : ℕ) → contains nat_eq s.kqueues.owners pid ≡ false) → IsHearing (record { version = version; events = [] }) s
+pub first-said : (version : ℕ) (s : Hearing) → s.log.items ≡ [] → s.kqueues.places.items ≡ []
+    → s.kqueues.concerned.items ≡ [] → IsHearing (record { version = version; events = [] }) s
 unfolding plans_from moments_from births_from
-first-said version s items places concerned none = record {
-  logged = λ test keeps. ap (filter test) items;
+first-said version s items places concerned = record {
+  logged = items;
   kqueues = record {
     births = places;
-    owners = none;
     concerned = subst (AreNamedBy [] []) (sym concerned) tt;
     calls = All-nil _;
   };
@@ -108,16 +105,16 @@ first-said version s items places concerned none = record {
 
 -- ---- one record more
 
-pub heard-next : (t : Traced) (e : Event) (place : ℕ) (old new : World) (effect : Effect) (clock : ℕ) (kqueue : Option ℕ) (silent : Bool) (s s' : Hearing)
+pub heard-next : (t : Traced) (e : Event) (place : ℕ) (old new : World) (effect : Effect) (clock : ℕ) (kqueue : Option ℕ) (s s' : Hearing)
     → length t.events + 1 ≡ place → IsWorldAfter t old → IsWorldAfter (longer t e) new → IsEffectBy (plan place e) old effect
-    → clock ≡ (world_of old).now → kqueue ≡ kqueue_of e (world_of old) → silent ≡ is_silent e (contains nat_eq s.kqueues.owners)
-    → ((w : model.World counted) → clock ≡ w.now → kqueue ≡ kqueue_of e w → IsHeard silent place e effect w (world_of new) s s')
+    → clock ≡ (world_of old).now → kqueue ≡ kqueue_of e (world_of old)
+    → ((w : model.World counted) → clock ≡ w.now → kqueue ≡ kqueue_of e w → IsHeard place e effect w (world_of new) s s')
     → IsHearing t s → IsHearing (longer t e) s'
-heard-next t e place old new effect clock kqueue silent s s' at before after of clock_is kqueue_is silent_is heard said =
+heard-next t e place old new effect clock kqueue s s' at before after of clock_is kqueue_is heard said =
     said-next t e counts lists (plan (end t e) e (now t e)) refl effect
     (subst (λ n. IsEffectOf (plan n e (now t e)) effect) (sym at) (subst (λ (w : model.World counted). IsEffectOf (plan place e w) effect) before.world of))
-    (world_of new) leads silent s s' said silent_is
-    (subst (λ n. IsHeard silent n e effect (now t e) (world_of new) s s') (sym at)
+    (world_of new) leads s s' said
+    (subst (λ n. IsHeard n e effect (now t e) (world_of new) s s') (sym at)
     (heard (now t e) (clock_is ∙ ap (λ (w : model.World counted). w.now) before.world) (kqueue_is ∙ ap (kqueue_of e) before.world)))
   where
     counts : IsCountedWorld (end t e) (now t e)

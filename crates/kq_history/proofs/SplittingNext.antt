@@ -1,6 +1,5 @@
 -- A splitting with one record more.
-use Rattle.std.proofs.Common.{◌≡◌, ◌∙◌, ◌+◌, ◌≤◌, nat_eq, ℕ, Bool, length, take, List, [], ◌∷◌, ◌++◌, Option, sym, ap, arith}
-use Rattle.std.specs.HashSet.{contains}
+use Rattle.std.proofs.Common.{◌≡◌, ◌∙◌, ◌+◌, ◌≤◌, ℕ, length, take, List, [], ◌∷◌, ◌++◌, Option, sym, ap, arith}
 use Rattle.std.proofs.lemmas.List.{append-nil, append_assoc, length-append, length-take-le}
 use Rattle.kq_model.specs.declared.event.Event.{Event}
 use Rattle.kq_model.specs.Objects.{counted}
@@ -10,7 +9,6 @@ use Rattle.kq_process.specs.declared.effect.Effect.{Effect}
 use Rattle.kq_process.specs.World.{world_of, IsEffectBy}
 use Rattle.kq_history.specs.declared.splitting.Splitting.{Splitting}
 use Rattle.kq_history.specs.Heard.{IsHeard}
-use Rattle.kq_history.specs.Kept.{is_silent}
 use Rattle.kq_history.specs.Plain.{plain_row}
 use Rattle.kq_history.specs.Sayings.{kqueue_of}
 use Rattle.kq_history.specs.Splitting.{IsSplitSoFar}
@@ -38,15 +36,15 @@ place-of-next t es before n at within =
 
 -- ---- one record more
 
-pub split-next : (t : Traced) (e : Event) (place : ℕ) (old new : Splitting) (effect : Effect) (clock : ℕ) (kqueue : Option ℕ) (silent : Bool)
+pub split-next : (t : Traced) (e : Event) (place : ℕ) (old new : Splitting) (effect : Effect) (clock : ℕ) (kqueue : Option ℕ)
     → length t.events + 1 ≡ place → IsSplitSoFar t old → IsTracked (longer t e) new.world new.seen → IsEffectBy (plan place e) old.world effect
-    → clock ≡ (world_of old.world).now → kqueue ≡ kqueue_of e (world_of old.world) → silent ≡ is_silent e (contains nat_eq old.said.kqueues.owners)
-    → ((w : model.World counted) → clock ≡ w.now → kqueue ≡ kqueue_of e w → IsHeard silent place e effect w (world_of new.world) old.said new.said)
+    → clock ≡ (world_of old.world).now → kqueue ≡ kqueue_of e (world_of old.world)
+    → ((w : model.World counted) → clock ≡ w.now → kqueue ≡ kqueue_of e w → IsHeard place e effect w (world_of new.world) old.said new.said)
     → new.plain.items ≡ old.plain.items ++ plain_row place effect.verdict → IsSplitSoFar (longer t e) new
-split-next t e place old new effect clock kqueue silent at so_far onward of clock_is kqueue_is silent_is heard rows = record {
+split-next t e place old new effect clock kqueue at so_far onward of clock_is kqueue_is heard rows = record {
   tracked = onward;
-  said = heard-next t e place old.world new.world effect clock kqueue silent old.said new.said at so_far.tracked.after onward.after
-      of clock_is kqueue_is silent_is heard so_far.said;
+  said = heard-next t e place old.world new.world effect clock kqueue old.said new.said at so_far.tracked.after onward.after
+      of clock_is kqueue_is heard so_far.said;
   plain_is = rows ∙ ap (λ xs. xs ++ plain_row place effect.verdict) so_far.plain_is
       ∙ sym (plain-longer t e place old.world effect at so_far.tracked.after.world of);
 }

@@ -2,66 +2,37 @@
 use Rattle.std.proofs.Common.{◌≡◌, ℕ, zero, suc, ◌+◌, ◌-◌, ◌<◌, ◌≤◌, Bool, true, false, cond, leb, length, get_or, List, [], ◌∷◌, None, Some, refl, sym, ap, ◌∙◌, arith}
 use Rattle.std.specs.List.{slice_get}
 use Rattle.std.proofs.lemmas.Option.{get_or_from_slice_get, none-some, slice_get-get_or, slice_get_within}
-use Rattle.kq_model.proofs.KnoteLaws.{by_test}
-use Rattle.kq_history.specs.declared.marks.Mark.{Mark}
-use Rattle.kq_history.specs.Timeline.{last_value, mark, mark_at, value_at, HaveBegun}
+use Rattle.kq_history.specs.declared.timeline.Mark.{Mark}
+use Rattle.kq_history.specs.Timeline.{last_value, value_at}
 
 module _ {V : Type 0} (place : ℕ) where
   abbrev has_begun : Mark V → Bool
   has_begun m = leb m.place place
 
-  abbrev with_mark : Mark V → List (Mark V) → Mark V → Bool → Mark V
-  with_mark before ms m b = mark_at place (cond b m before) ms
-
-  -- the value is that of the mark
-  value-is : (ms : List (Mark V)) (before : Mark V) → value_at place before.value ms ≡ (mark_at place before ms).value
-  value-is [] before = refl
-  value-is (m ∷ ms) before =
-      by_test (λ b. value_at place (cond b m.value before.value) ms ≡ (mark_at place (cond b m before) ms).value) (has_begun m)
-      (λ _. value-is ms m) (λ _. value-is ms before)
+  abbrev with_mark : V → List (Mark V) → V → Bool → V
+  with_mark before ms value b = value_at place (cond b value before) ms
 
   -- all marks are later
-  mark_before : (ms : List (Mark V)) (before : Mark V)
-      → ((k : ℕ) (d : Mark V) → k < length ms → has_begun (get_or ms k d) ≡ false) → mark_at place before ms ≡ before
-  mark_before [] before later = refl
-  mark_before (m ∷ ms) before later =
-      ap (with_mark before ms m) (later 0 m (omega arith))
-      ∙ mark_before ms before (λ k d within. later (suc k) d (omega (arith, within)))
+  pub value_before : (ms : List (Mark V)) (before : V)
+      → ((k : ℕ) (d : Mark V) → k < length ms → has_begun (get_or ms k d) ≡ false) → value_at place before ms ≡ before
+  value_before [] before later = refl
+  value_before (m ∷ ms) before later =
+      ap (with_mark before ms m.value) (later 0 m (omega arith))
+      ∙ value_before ms before (λ k d within. later (suc k) d (omega (arith, within)))
 
   -- so many marks and one more have begun, and no others
-  mark_from : (ms : List (Mark V)) (n : ℕ) (before : Mark V) → n < length ms
+  pub value_from : (ms : List (Mark V)) (n : ℕ) (before : V) → n < length ms
       → ((k : ℕ) (d : Mark V) → k ≤ n → has_begun (get_or ms k d) ≡ true)
       → ((k : ℕ) (d : Mark V) → n < k → k < length ms → has_begun (get_or ms k d) ≡ false) → (d : Mark V)
-      → mark_at place before ms ≡ get_or ms n d
-  mark_from [] n before within begun later d = absurd (omega (arith, within))
-  mark_from (m ∷ ms) zero before within begun later d =
-      ap (with_mark before ms m) (begun 0 m (omega arith))
-      ∙ mark_before ms m (λ k e inside. later (suc k) e (omega arith) (omega (arith, inside)))
-  mark_from (m ∷ ms) (suc n) before within begun later d =
-      mark_from ms n (cond (has_begun m) m before) (omega (arith, within))
+      → value_at place before ms ≡ (get_or ms n d).value
+  value_from [] n before within begun later d = absurd (omega (arith, within))
+  value_from (m ∷ ms) zero before within begun later d =
+      ap (with_mark before ms m.value) (begun 0 m (omega arith))
+      ∙ value_before ms m.value (λ k e inside. later (suc k) e (omega arith) (omega (arith, inside)))
+  value_from (m ∷ ms) (suc n) before within begun later d =
+      value_from ms n (cond (has_begun m) m.value before) (omega (arith, within))
       (λ k e up_to. begun (suc k) e (omega (arith, up_to)))
       (λ k e after inside. later (suc k) e (omega (arith, after)) (omega (arith, inside))) d
-
-  -- ---- so many marks are at the place or before it
-
-  pub mark-none : (ms : List (Mark V)) (before : Mark V) → HaveBegun place 0 ms → mark_at place before ms ≡ before
-  mark-none ms before begun = mark_before ms before (λ k d within. begun.1 k d (omega arith) within)
-
-  pub mark-behind : (ms : List (Mark V)) (count : ℕ) (before d : Mark V) → 1 ≤ count → count ≤ length ms → HaveBegun place count ms
-      → mark_at place before ms ≡ get_or ms (count - 1) d
-  mark-behind ms count before d some within begun =
-      mark_from ms (count - 1) before (omega (arith, some, within))
-      (λ k e up_to. begun.0 k e (omega arith) (omega (arith, some, up_to)))
-      (λ k e after inside. begun.1 k e (omega (arith, some, after)) inside) d
-
-  pub value-none : (ms : List (Mark V)) (before : V) → HaveBegun place 0 ms → before ≡ value_at place before ms
-  value-none ms before begun =
-      sym (value-is ms (mark 0 before) ∙ ap (λ (m : Mark V). m.value) (mark-none ms (mark 0 before) begun))
-
-  pub value-behind : (ms : List (Mark V)) (count : ℕ) (before : V) (d : Mark V) → 1 ≤ count → count ≤ length ms → HaveBegun place count ms
-      → (get_or ms (count - 1) d).value ≡ value_at place before ms
-  value-behind ms count before d some within begun =
-      sym (value-is ms (mark 0 before) ∙ ap (λ (m : Mark V). m.value) (mark-behind ms count (mark 0 before) d some within begun))
 
 -- ---- behind all marks
 

@@ -1,21 +1,30 @@
 -- Lists of numbers and of targets: what stands in them, and in parts of them.
-use Rattle.std.proofs.Common.{◌≡◌, ◌∙◌, ℕ, ◌&&◌, ◌||◌, Bool, true, false, eqb, eq-eqb, List, [], ◌∷◌, ◌++◌, map, Option, None, Some, refl, sym, ap, ap₂}
+use Rattle.std.proofs.Common.{◌≡◌, ◌∙◌, ℕ, ◌&&◌, ◌||◌, Bool, true, false, cond, eqb, eq-eqb, List, [], ◌∷◌, ◌++◌, map, Option, None, Some, refl, sym, ap, ap₂}
 use Rattle.std.specs.Prelude.{All}
 use Rattle.std.specs.List.{flat_map, list_any}
 use Rattle.std.proofs.lemmas.Bool.{and_parts, eqb-true, false_from_ne_true, true≢false}
 use Rattle.std.proofs.lemmas.List.Elements.{All-nil, All-cons, All-head, All-tail}
 use Rattle.std.proofs.lemmas.List.Folds.{list_any-append}
+use Rattle.kq_model.specs.declared.object.Named.TheVariants as named
 use Rattle.kq_model.specs.declared.object.Target.{Target}
 use Rattle.kq_model.specs.declared.object.Target.TheVariants as target
 use Rattle.kq_model.specs.Close.{Pair, has_pair}
+use Rattle.kq_model.specs.Descriptors.{Descriptor, is_before, with_descriptor, with_descriptors}
+use Rattle.kq_model.specs.ProcessPlans.{descriptors_of}
 use Rattle.kq_model.specs.Targets.{target_eq}
+use Rattle.kq_model.specs.World.{with_kqueue}
 use Rattle.kq_model.proofs.KnoteLaws.{by_test}
 use Rattle.kq_history.specs.Spoken.{process_targets, file_targets}
-use Rattle.kq_history.specs.Touched.{has_number, has_target}
+use Rattle.kq_history.specs.Touched.{has_number, has_target, keys_of}
 
 pub or_true : (b : Bool) → (b || true) ≡ true
 or_true true = refl
 or_true false = refl
+
+or_swapped : (a b c : Bool) → (a || (b || c)) ≡ (b || (a || c))
+or_swapped true true c = refl
+or_swapped true false c = refl
+or_swapped false b c = refl
 
 module _ {X : Type 0} (test : X → Bool) where
   pub in_left : (xs ys : List X) → list_any test xs ≡ true → list_any test (xs ++ ys) ≡ true
@@ -29,6 +38,46 @@ module _ {X : Type 0} (test : X → Bool) where
   none-passes P [] all never = refl
   none-passes P (x ∷ xs) all never =
       ap₂ (λ a b. a || b) (false_from_ne_true (test x) (never x (All-head P x xs all))) (none-passes P xs (All-tail P x xs all) never)
+
+-- ---- tables
+
+module _ (test : Descriptor → Bool) where
+  any-with : (d : Descriptor) (es : List Descriptor) → list_any test (with_descriptor d es) ≡ (test d || list_any test es)
+  unfolding with_descriptor
+  any-with d [] = refl
+  any-with d (e ∷ es) =
+      by_test (λ b. list_any test (cond b (d ∷ e ∷ es) (e ∷ with_descriptor d es)) ≡ (test d || (test e || list_any test es))) (is_before d e)
+      (λ _. refl) (λ _. ap (λ b. test e || b) (any-with d es) ∙ or_swapped (test e) (test d) (list_any test es))
+
+  still : (ds es : List Descriptor) → list_any test es ≡ true → list_any test (with_descriptors ds es) ≡ true
+  unfolding with_descriptors
+  still [] es there = there
+  still (d ∷ ds) es there = still ds (with_descriptor d es) (any-with d es ∙ ap (λ b. test d || b) there ∙ or_true (test d))
+
+  opened-there : (ds es : List Descriptor) → list_any test ds ≡ true → list_any test (with_descriptors ds es) ≡ true
+  unfolding with_descriptors
+  opened-there [] es there = absurd (true≢false (sym there))
+  opened-there (d ∷ ds) es there =
+      by_test (λ b. test d ≡ b → (b || list_any test ds) ≡ true → list_any test (with_descriptors ds (with_descriptor d es)) ≡ true) (test d)
+      (λ _ is _. still ds (with_descriptor d es) (any-with d es ∙ ap (λ b. b || list_any test es) is))
+      (λ _ _ later. opened-there ds (with_descriptor d es) later) refl there
+
+  -- what a record opens stands in its table
+  pub table-has : (place : ℕ) (born : Option Pair) (ds es : List Descriptor) → list_any test ds ≡ true → list_any test (with_kqueue place born (with_descriptors ds es)) ≡ true
+  unfolding with_kqueue
+  table-has place None ds es there = opened-there ds es there
+  table-has place (Some p) ds es there =
+      let d : Descriptor = record { pid = p.pid; number = p.number; named = named.Kqueue place } in
+      any-with d (with_descriptors ds es) ∙ ap (λ b. test d || b) (opened-there ds es there) ∙ or_true (test d)
+
+-- the numbers of one process
+pub open-has : (pid number : ℕ) (es : List Descriptor)
+    → has_number pid number (keys_of (descriptors_of pid es)) ≡ list_any (λ (d : Descriptor). eqb d.pid pid && eqb d.number number) es
+open-has pid number [] = refl
+open-has pid number (d ∷ es) =
+    by_test (λ b. eqb d.pid pid ≡ b → has_number pid number (keys_of (cond b (d ∷ descriptors_of pid es) (descriptors_of pid es)))
+    ≡ ((b && eqb d.number number) || list_any (λ (x : Descriptor). eqb x.pid pid && eqb x.number number) es)) (eqb d.pid pid)
+    (λ _ is. ap₂ (λ a b. (a && eqb d.number number) || b) is (open-has pid number es)) (λ _ _. open-has pid number es) refl
 
 -- ---- pairs
 

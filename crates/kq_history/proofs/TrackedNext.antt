@@ -2,7 +2,6 @@
 use Rattle.std.proofs.Common.{◌≡◌, ◌+◌, ◌≤◌, ℕ, length, [], ◌∷◌, ◌++◌, Result, Ok, Err, refl, sym, subst, arith}
 use Rattle.std.specs.Prelude.{IsOk}
 use Rattle.std.proofs.lemmas.Bool.{false≢true}
-use Rattle.std.proofs.lemmas.List.Elements.{All-weaker}
 use Rattle.kq_model.specs.declared.event.Event.{Event}
 use Rattle.kq_model.specs.declared.why.Why.{Why}
 use Rattle.kq_model.specs.CountedWorld.{IsCountedWorld}
@@ -17,27 +16,24 @@ use Rattle.kq_process.specs.Effects.{IsEffectOf, world_after}
 use Rattle.kq_process.specs.World.{last_of, world_of, IsEffectBy, IsNext}
 use Rattle.kq_process.proofs.Applied.{counted-now}
 use Rattle.kq_history.specs.declared.seen.Seen.{Seen}
-use Rattle.kq_history.specs.Noted.{AreAllBefore, AreAllUpTo, IsNextWorld}
-use Rattle.kq_history.specs.Sights.{Sight}
+use Rattle.kq_history.specs.Keys.{pair_eq, target_key}
+use Rattle.kq_history.specs.Noted.{AreAllUpTo, IsNextWorld}
 use Rattle.kq_history.specs.Seen.{seen_by, Shows}
-use Rattle.kq_history.specs.Touched.{touched_targets, touches}
+use Rattle.kq_history.specs.Timelines.{marks_at}
+use Rattle.kq_history.specs.Touched.{touched_numbers, touched_targets}
 use Rattle.kq_history.specs.Traced.{Traced, longer, seen_at}
 use Rattle.kq_history.specs.Tracked.{IsFollowed, IsFollowedBy, IsNoted, IsTracked}
 use Rattle.kq_history.proofs.Following.{marks-later}
-use Rattle.kq_history.proofs.NumberLemmas.{numbers-later}
 use Rattle.kq_history.proofs.TracedWorlds.{end, now}
 use Rattle.kq_history.proofs.TrackedRecords.{next-world, shows-still}
 use Rattle.kq_history.proofs.WorldNext.{counted_now, length_is, listed_now, planned-next, world-by}
 
 pub up-later : (n m : ℕ) (s : Seen) → n ≤ m → AreAllUpTo n s → AreAllUpTo m s
 up-later n m s later up = record {
-  numbers = numbers-later n m s.numbers later up.numbers;
-  views = All-weaker (λ (x : Sight). x.place ≤ n) (λ (x : Sight). x.place ≤ m) (λ x below. omega (arith, below, later)) s.views up.views;
+  numbers = λ key. marks-later n m later (marks_at pair_eq s.numbers.table key) (up.numbers key);
+  views = λ t. marks-later n m later (marks_at target_key s.views.table t) (up.views t);
   clock = marks-later n m later s.clock up.clock;
 }
-
-pub all-before : (place : ℕ) (s : Seen) → AreAllBefore place s → AreAllUpTo place s
-all-before place s given = let before = given.1 in up-later given.0 place s (omega (arith, before)) given.2
 
 module _ (t : Traced) (e : Event) (old new : World) (s s' : Seen) (effect : Effect) (tracked : IsTracked t old s) (last : last_of new ≡ end t e) where
   abbrev counted_here : IsCountedWorld (end t e) (now t e)
@@ -74,9 +70,10 @@ module _ (t : Traced) (e : Event) (old new : World) (s s' : Seen) (effect : Effe
       record {
         after = world-by t e old tracked.after new last (Possible p) is same;
         shows = noted.1 (seen_at t) (seen_at (longer t e))
-            (subst (λ (w : model.World counted). IsNextWorld (end t e) (views_of (now t e)) (views_of w) (touches e effect.closed)
+            (subst (λ (w : model.World counted). IsNextWorld (end t e) (views_of (now t e)) (views_of w) (touched_numbers e effect.closed w)
             (touched_targets e effect.closed effect.hints (views_of (now t e)) (views_of w)) (seen_at t) (seen_at (longer t e))) (sym same)
-            (subst (λ hints. IsNextWorld (end t e) (views_of (now t e)) (views_of (carried_out (end t e) p (now t e))) (touches e effect.closed)
+            (subst (λ hints. IsNextWorld (end t e) (views_of (now t e)) (views_of (carried_out (end t e) p (now t e)))
+            (touched_numbers e effect.closed (carried_out (end t e) p (now t e)))
             (touched_targets e effect.closed hints (views_of (now t e)) (views_of (carried_out (end t e) p (now t e))))
             (seen_at t) (seen_at (longer t e))) (sym done.hints) onward))
             tracked.shows;

@@ -12,7 +12,7 @@ use Rattle.kq_model.specs.Views.{Views}
 use Rattle.kq_model.specs.World.{World, Plan, Impossible, Possible, carried_out, named_by, views_of}
 use Rattle.kq_history.specs.Noted.{IsNextWorld}
 use Rattle.kq_history.specs.Seen.{Shows}
-use Rattle.kq_history.specs.Touched.{touched_targets, touches}
+use Rattle.kq_history.specs.Touched.{touched_numbers, touched_targets}
 use Rattle.kq_history.specs.Spoken.{opened_numbers, spoken_numbers, spoken_targets}
 use Rattle.kq_history.specs.Traced.{Traced, longer, seen_at}
 use Rattle.kq_history.proofs.AnyWithin.{any-within}
@@ -40,7 +40,7 @@ module _ (t : Traced) (e : Event) (counts : IsCountedWorld (end t e) (now t e)) 
     next-listed = (subst (KeepsLists (end t e) (now t e)) is (listed-record (end t e) e (now t e))).keeps counts lists
 
     pub next-world : (closed : List (ℕ × ℕ)) → map to_pair closed ≡ p.closed → IsCountedWorld (end t e + 1) after
-        → IsNextWorld (end t e) (views_of (now t e)) (views_of after) (touches e closed)
+        → IsNextWorld (end t e) (views_of (now t e)) (views_of after) (touched_numbers e closed after)
         (touched_targets e closed p.hints (views_of (now t e)) (views_of after)) (seen_at t) (seen_at (longer t e))
     unfolding views_of named_by
     next-world closed shut counted_after = record {

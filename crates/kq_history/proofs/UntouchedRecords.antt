@@ -1,9 +1,10 @@
 -- What a record does not touch is after it as it was: what a number names, and what is seen of a target.
-use Rattle.std.proofs.Common.{◌≡◌, ◌∙◌, ◌==◌, ℕ, ◌&&◌, ◌||◌, Bool, true, false, eqb, eq-eqb, List, [], ◌∷◌, ◌++◌, map, Option, None, Some, refl, sym, ap, ap₂, subst}
+use Rattle.std.proofs.Common.{◌≡◌, ◌∙◌, ◌==◌, ℕ, ◌&&◌, ◌||◌, Bool, true, false, eqb, List, [], ◌∷◌, ◌++◌, map, Option, None, Some, refl, sym, ap, ap₂, subst}
 use Rattle.std.specs.Prelude.{All}
-use Rattle.std.specs.List.{flat_map}
+use Rattle.std.specs.List.{flat_map, list_any}
 use Rattle.std.proofs.lemmas.Bool.{and_parts, both_ways, eqb-true, false_from_ne_true, true≢false}
 use Rattle.std.proofs.lemmas.List.Elements.{All-map, All-weaker}
+use Rattle.kq_model.proofs.ListFilters.{All-both}
 use Rattle.std.proofs.lemmas.List.Folds.{list_any-append}
 use Rattle.kq_model.specs.declared.event.Event.{Event}
 use Rattle.kq_model.specs.declared.event.Event.TheVariants as event
@@ -20,10 +21,10 @@ use Rattle.kq_model.proofs.KnoteLaws.{by_test}
 use Rattle.kq_model.proofs.UntouchedNumbers.{untouched-number}
 use Rattle.kq_model.proofs.UntouchedTargets.{untouched-target}
 use Rattle.kq_history.specs.Spoken.{first_number, first_opened, opened_numbers, second_number, second_opened, spoken_file, spoken_numbers, spoken_process, spoken_targets}
-use Rattle.kq_history.specs.Touched.{all_named, has_number, has_target, is_of, left_of, targets_left, targets_named, tells_file, told_targets, touched_numbers, touched_targets, touches}
+use Rattle.kq_history.specs.Touched.{all_named, has_number, has_target, left_of, open_numbers, targets_left, targets_named, tells_file, told_targets, touched_numbers, touched_targets}
 use Rattle.kq_history.specs.Within.{IsWithin, PassesAll}
-use Rattle.kq_history.proofs.RisingTables.{IsNamedIn, named-rising, opened-put}
-use Rattle.kq_history.proofs.TouchedKeys.{all-have, in_left, in_right, named-have, none-passes, or_true, pairs-have, process-spoken, to_pair}
+use Rattle.kq_history.proofs.RisingTables.{IsNamedIn, is_same, named-rising, opened-put, stand-there}
+use Rattle.kq_history.proofs.TouchedKeys.{all-have, in_left, in_right, named-have, none-passes, open-has, pairs-have, process-spoken, table-has, to_pair}
 
 -- what it opens it speaks of
 opened-spoken : (e : Event) (pid number : ℕ) → has_number pid number (opened_numbers e) ≡ true → has_number pid number (spoken_numbers e) ≡ true
@@ -57,96 +58,105 @@ opened-spoken (event.Note file note) pid number there = there
 opened-spoken (event.Clock ns) pid number there = there
 opened-spoken (event.Kevent p fd changes room) pid number there = there
 
--- where it speaks of a number it starts and ends no process
-none-started : (pid number : ℕ) (e : Event) → has_number pid number (spoken_numbers e) ≡ true → is_of (spoken_process e) pid ≡ false
+-- where it speaks of a number it starts no process
+none-started : (pid number : ℕ) (e : Event) (w : World counted) → has_number pid number (spoken_numbers e) ≡ true → has_number pid number (open_numbers (spoken_process e) w) ≡ false
 unfolding first_number second_number spoken_process
-none-started pid number (event.Proc p) there = absurd (true≢false (sym there))
-none-started pid number (event.Fork p child) there = absurd (true≢false (sym there))
-none-started pid number (event.Exit p status) there = absurd (true≢false (sym there))
-none-started pid number (event.Kqueue p fd) there = refl
-none-started pid number (event.Dup p fd to) there = refl
-none-started pid number (event.Close p fd) there = refl
-none-started pid number (event.Socket p fd rcv snd) there = refl
-none-started pid number (event.Listen p fd backlog) there = refl
-none-started pid number (event.Arrive p fd) there = refl
-none-started pid number (event.Accept p fd to rcv snd) there = refl
-none-started pid number (event.Connect p fd) there = refl
-none-started pid number (event.Rx p fd n) there = refl
-none-started pid number (event.Tx p fd n) there = refl
-none-started pid number (event.Shut p fd side error) there = refl
-none-started pid number (event.Lowat p fd side n) there = refl
-none-started pid number (event.Pipe p rfd wfd cap) there = refl
-none-started pid number (event.Read p fd n) there = refl
-none-started pid number (event.Write p fd n) there = refl
-none-started pid number (event.Exec p) there = refl
-none-started pid number (event.Sigset p sig ignore) there = refl
-none-started pid number (event.Sig p sig) there = refl
-none-started pid number (event.File file size) there = refl
-none-started pid number (event.Open p fd file mode) there = refl
-none-started pid number (event.Seek p fd offset) there = refl
-none-started pid number (event.Truncate file size) there = refl
-none-started pid number (event.Note file note) there = refl
-none-started pid number (event.Clock ns) there = refl
-none-started pid number (event.Kevent p fd changes room) there = refl
+none-started pid number (event.Proc p) w there = absurd (true≢false (sym there))
+none-started pid number (event.Fork p child) w there = absurd (true≢false (sym there))
+none-started pid number (event.Exit p status) w there = absurd (true≢false (sym there))
+none-started pid number (event.Kqueue p fd) w there = refl
+none-started pid number (event.Dup p fd to) w there = refl
+none-started pid number (event.Close p fd) w there = refl
+none-started pid number (event.Socket p fd rcv snd) w there = refl
+none-started pid number (event.Listen p fd backlog) w there = refl
+none-started pid number (event.Arrive p fd) w there = refl
+none-started pid number (event.Accept p fd to rcv snd) w there = refl
+none-started pid number (event.Connect p fd) w there = refl
+none-started pid number (event.Rx p fd n) w there = refl
+none-started pid number (event.Tx p fd n) w there = refl
+none-started pid number (event.Shut p fd side error) w there = refl
+none-started pid number (event.Lowat p fd side n) w there = refl
+none-started pid number (event.Pipe p rfd wfd cap) w there = refl
+none-started pid number (event.Read p fd n) w there = refl
+none-started pid number (event.Write p fd n) w there = refl
+none-started pid number (event.Exec p) w there = refl
+none-started pid number (event.Sigset p sig ignore) w there = refl
+none-started pid number (event.Sig p sig) w there = refl
+none-started pid number (event.File file size) w there = refl
+none-started pid number (event.Open p fd file mode) w there = refl
+none-started pid number (event.Seek p fd offset) w there = refl
+none-started pid number (event.Truncate file size) w there = refl
+none-started pid number (event.Note file note) w there = refl
+none-started pid number (event.Clock ns) w there = refl
+none-started pid number (event.Kevent p fd changes room) w there = refl
 
 module _ (place : ℕ) (e : Event) (w : World counted) (p : Plan) (closed : List (ℕ × ℕ)) (shut : map to_pair closed ≡ p.closed)
     (within : IsWithin (opened_numbers e) (spoken_numbers e) (spoken_targets e) w p) where
   abbrev after : World counted
   after = carried_out place p w
 
-  abbrev touched : ℕ → ℕ → Bool
-  touched = touches e closed
+  abbrev numbers : List (ℕ × ℕ)
+  numbers = touched_numbers e closed after
 
   -- ---- numbers
 
-  single-touched : (pid number : ℕ) → has_number pid number (touched_numbers e closed) ≡ true → touched pid number ≡ true
-  single-touched pid number there = ap (λ b. is_of (spoken_process e) pid || b) there ∙ or_true (is_of (spoken_process e) pid)
+  is_it : ℕ → ℕ → Descriptor → Bool
+  is_it pid number d = eqb d.pid pid && eqb d.number number
 
-  said-touched : (pid number : ℕ) → has_number pid number (opened_numbers e) ≡ true → touched pid number ≡ true
+  said-touched : (pid number : ℕ) → has_number pid number (opened_numbers e) ≡ true → has_number pid number numbers ≡ true
   said-touched pid number there =
-      single-touched pid number (in_right (λ (x : ℕ × ℕ). (x.0 == pid) && (x.1 == number)) closed (opened_numbers e) there)
+      in_right (λ (x : ℕ × ℕ). (x.0 == pid) && (x.1 == number)) closed (opened_numbers e ++ open_numbers (spoken_process e) after)
+      (in_left (λ (x : ℕ × ℕ). (x.0 == pid) && (x.1 == number)) (opened_numbers e) (open_numbers (spoken_process e) after) there)
 
   closed-there : (pid number : ℕ) → has_pair pid number p.closed ≡ true → has_number pid number closed ≡ true
   closed-there pid number there = sym (pairs-have pid number closed) ∙ ap (has_pair pid number) shut ∙ there
 
-  closed-touched : (pid number : ℕ) → has_pair pid number p.closed ≡ true → touched pid number ≡ true
+  closed-touched : (pid number : ℕ) → has_pair pid number p.closed ≡ true → has_number pid number numbers ≡ true
   closed-touched pid number there =
-      single-touched pid number (in_left (λ (x : ℕ × ℕ). (x.0 == pid) && (x.1 == number)) closed (opened_numbers e) (closed-there pid number there))
+      in_left (λ (x : ℕ × ℕ). (x.0 == pid) && (x.1 == number)) closed (opened_numbers e ++ open_numbers (spoken_process e) after) (closed-there pid number there)
 
-  started-touched : (d : Descriptor) → starts d.pid p.started ≡ true → touched d.pid d.number ≡ true
-  started-touched d starting =
+  open-touched : (x : Option ℕ) (pid number : ℕ) → x ≡ Some pid → list_any (λ (d : Descriptor). eqb d.pid pid && eqb d.number number) after.table ≡ true
+      → has_number pid number (open_numbers x after) ≡ true
+  open-touched x pid number is there =
+      ap (λ y. has_number pid number (open_numbers y after)) is ∙ open-has pid number after.table ∙ there
+
+  started-touched : (d : Descriptor) → starts d.pid p.started ≡ true → list_any (is_same d) p.opened ≡ true → has_number d.pid d.number numbers ≡ true
+  unfolding carried_out
+  started-touched d starting there =
       let spoken = process-spoken (spoken_process e) (spoken_file e) d.pid (within.process d.pid (ap (λ b. b || ends d.pid p.ended) starting)) in
-      ap (λ x. is_of x d.pid || has_number d.pid d.number (touched_numbers e closed)) spoken
-      ∙ ap (λ b. b || has_number d.pid d.number (touched_numbers e closed)) (eq-eqb d.pid d.pid refl)
+      in_right (λ (x : ℕ × ℕ). (x.0 == d.pid) && (x.1 == d.number)) closed (opened_numbers e ++ open_numbers (spoken_process e) after)
+      (in_right (λ (x : ℕ × ℕ). (x.0 == d.pid) && (x.1 == d.number)) (opened_numbers e) (open_numbers (spoken_process e) after)
+      (open-touched (spoken_process e) d.pid d.number spoken
+      (table-has (is_same d) place p.born p.opened (without_closed p.closed w.table) there)))
 
-  opened-touched : All (λ (d : Descriptor). touched d.pid d.number ≡ true) p.opened
+  opened-touched : All (λ (d : Descriptor). has_number d.pid d.number numbers ≡ true) p.opened
   opened-touched =
-      All-weaker (λ (d : Descriptor). (has_number d.pid d.number (opened_numbers e) || starts d.pid p.started) ≡ true)
-      (λ (d : Descriptor). touched d.pid d.number ≡ true) (λ d spoken.
-      by_test (λ b. has_number d.pid d.number (opened_numbers e) ≡ b → (b || starts d.pid p.started) ≡ true → touched d.pid d.number ≡ true) (has_number d.pid d.number (opened_numbers e))
-      (λ _ is _. said-touched d.pid d.number is) (λ _ _ starting. started-touched d starting) refl spoken)
-      p.opened within.opened
+      All-both (λ (d : Descriptor). (has_number d.pid d.number (opened_numbers e) || starts d.pid p.started) ≡ true) (λ (d : Descriptor). list_any (is_same d) p.opened ≡ true)
+      (λ (d : Descriptor). has_number d.pid d.number numbers ≡ true) (λ d spoken there.
+      by_test (λ b. has_number d.pid d.number (opened_numbers e) ≡ b → (b || starts d.pid p.started) ≡ true → has_number d.pid d.number numbers ≡ true) (has_number d.pid d.number (opened_numbers e))
+      (λ _ is _. said-touched d.pid d.number is) (λ _ _ starting. started-touched d starting there) refl spoken)
+      p.opened within.opened (stand-there p.opened)
 
-  born-touched : (pid number : ℕ) (x : Option Pair) → p.born ≡ x → touched pid number ≡ false → has_pair pid number (born_numbers x) ≡ false
+  born-touched : (pid number : ℕ) (x : Option Pair) → p.born ≡ x → has_number pid number numbers ≡ false → has_pair pid number (born_numbers x) ≡ false
   unfolding born_numbers
   born-touched pid number None is absent = refl
   born-touched pid number (Some b) is absent =
       ap (λ t. t || false) (false_from_ne_true (eqb b.pid pid && eqb b.number number) (λ same.
       let both = and_parts (eqb b.pid pid) (eqb b.number number) same in
-      both_ways (touched pid number) absent
-      (ap₂ (λ x y. touched x y) (sym (eqb-true b.pid pid both.0)) (sym (eqb-true b.number number both.1)) ∙ said-touched b.pid b.number (within.born b is))))
+      both_ways (has_number pid number numbers) absent
+      (ap₂ (λ x y. has_number x y numbers) (sym (eqb-true b.pid pid both.0)) (sym (eqb-true b.number number both.1)) ∙ said-touched b.pid b.number (within.born b is))))
 
-  pub untouched_number : (pid number : ℕ) → touched pid number ≡ false → named_among pid number after.table ≡ named_among pid number w.table
+  pub untouched_number : (pid number : ℕ) → has_number pid number numbers ≡ false → named_among pid number after.table ≡ named_among pid number w.table
   untouched_number pid number absent =
       let test : Pair → Bool = λ x. eqb x.pid pid && eqb x.number number in
       let no_closed : has_pair pid number p.closed ≡ false =
-      false_from_ne_true (has_pair pid number p.closed) (λ there. both_ways (touched pid number) absent (closed-touched pid number there)) in
+      false_from_ne_true (has_pair pid number p.closed) (λ there. both_ways (has_number pid number numbers) absent (closed-touched pid number there)) in
       let no_opened : has_pair pid number (map pair_of p.opened) ≡ false =
-      none-passes test (λ (x : Pair). touched x.pid x.number ≡ true) (map pair_of p.opened)
-      (All-map (λ (x : Pair). touched x.pid x.number ≡ true) pair_of p.opened opened-touched)
+      none-passes test (λ (x : Pair). has_number x.pid x.number numbers ≡ true) (map pair_of p.opened)
+      (All-map (λ (x : Pair). has_number x.pid x.number numbers ≡ true) pair_of p.opened opened-touched)
       (λ x there same. let both = and_parts (eqb x.pid pid) (eqb x.number number) same in
-      both_ways (touched pid number) absent
-      (ap₂ (λ a b. touched a b) (sym (eqb-true x.pid pid both.0)) (sym (eqb-true x.number number both.1)) ∙ there)) in
+      both_ways (has_number pid number numbers) absent
+      (ap₂ (λ a b. has_number a b numbers) (sym (eqb-true x.pid pid both.0)) (sym (eqb-true x.number number both.1)) ∙ there)) in
       untouched-number pid number place p w
       (list_any-append test p.closed (map pair_of p.opened ++ born_numbers p.born)
       ∙ ap₂ (λ a b. a || b) no_closed
@@ -200,9 +210,10 @@ module _ (place : ℕ) (e : Event) (w : World counted) (p : Plan) (closed : List
         → has_pair pid number p.closed ≡ false → named_among pid number after.table ≡ named_among pid number w.table
     same-named pid number there old still =
         untouched_number pid number
-        (ap₂ (λ a b. a || b) (none-started pid number e there)
-        (list_any-append (λ (x : ℕ × ℕ). (x.0 == pid) && (x.1 == number)) closed (opened_numbers e)
-        ∙ ap₂ (λ a b. a || b) (sym (pairs-have pid number closed) ∙ ap (has_pair pid number) shut ∙ still) old))
+        (list_any-append (λ (x : ℕ × ℕ). (x.0 == pid) && (x.1 == number)) closed (opened_numbers e ++ open_numbers (spoken_process e) after)
+        ∙ ap₂ (λ a b. a || b) (sym (pairs-have pid number closed) ∙ ap (has_pair pid number) shut ∙ still)
+        (list_any-append (λ (x : ℕ × ℕ). (x.0 == pid) && (x.1 == number)) (opened_numbers e) (open_numbers (spoken_process e) after)
+        ∙ ap₂ (λ a b. a || b) old (none-started pid number e after there)))
 
     kept-passes : (pid number : ℕ) → has_number pid number (spoken_numbers e) ≡ true → has_number pid number (opened_numbers e) ≡ false
         → has_pair pid number p.closed ≡ false → All (λ t. passes t ≡ true) (targets_named (named_among pid number w.table))

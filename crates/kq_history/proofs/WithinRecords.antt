@@ -3,7 +3,7 @@ use Rattle.std.proofs.Common.{◌≡◌, ◌∙◌, ◌==◌, not, nat_lt, ◌&&
 use Rattle.std.specs.Prelude.{All}
 use Rattle.std.specs.Option.{is_some}
 use Rattle.std.proofs.lemmas.Bool.{eqb-true, false_from_ne_true, true≢false}
-use Rattle.std.proofs.lemmas.Option.{none-some, same_Some}
+use Rattle.std.proofs.lemmas.Option.{none-some}
 use Rattle.std.proofs.lemmas.List.Elements.{All-nil, All-cons, All-head, All-tail, All-append, All-filter, All-map, All-weaker}
 use Rattle.kq_model.specs.declared.act.Act.{Act}
 use Rattle.kq_model.specs.declared.act.Act.TheVariants as act
@@ -28,7 +28,7 @@ use Rattle.kq_model.specs.ObjectPlan as object
 use Rattle.kq_model.specs.ObjectRecordPlans.{descriptor, pipe_ends, plan_accept, plan_act, plan_at, plan_open, plan_pipe, plan_socket, unless_open, with_objects}
 use Rattle.kq_model.specs.Objects.{all_done, counted, view_of}
 use Rattle.kq_model.specs.Planning as object_planning
-use Rattle.kq_model.specs.Processes.{Start, ignored_by, ignores_none, is_live, process_of, was_used}
+use Rattle.kq_model.specs.Processes.{ignored_by, ignores_none, process_of, was_used}
 use Rattle.kq_model.specs.ProcessPlans.{delivery, descriptors_of, forked, hold_all, inheritable, inherited, is_signal, names_of, noted, pairs_of, plan_clock, plan_clock_at, plan_exec, plan_exit, plan_fork, plan_proc, plan_sig, plan_sigset}
 use Rattle.kq_model.specs.Targets.{target_eq}
 use Rattle.kq_model.specs.TouchedTargets.{starts, ends}
@@ -96,8 +96,6 @@ module _ (opens numbers : List (ℕ × ℕ)) (targets : List Target) (w : World 
     opened = subst (λ (ds : List Descriptor). All (λ (d : Descriptor). (has_number d.pid d.number opens || starts d.pid p.started) ≡ true) ds) (sym no_opened) (All-nil _);
     born = λ x is. absurd (no_number x (sym no_born ∙ is));
     process = λ pid is. absurd (true≢false (sym is ∙ ap₂ (λ s e. starts pid s || ends pid e) no_started no_ended));
-    fresh = λ s is. absurd (none-some s (sym no_started ∙ is));
-    maker = λ x is. absurd (no_number x (sym no_born ∙ is));
     doings = λ has passes t absent. ap (λ (ds : List Doing). view_of t (all_done ds w.objects)) no_doings;
   }
 
@@ -115,8 +113,6 @@ module _ (opens numbers : List (ℕ × ℕ)) (targets : List Target) (w : World 
         (λ d has. ap (λ b. b || false) has) ds there;
     born = λ x none. absurd (no_number x none);
     process = λ pid never. absurd (true≢false (sym never));
-    fresh = λ s none. absurd (none-some s none);
-    maker = λ x none. absurd (no_number x none);
     doings = λ has passes t absent.
         unaltered has w.objects listed t p.doings absent
         (subst (AreAccounted has w.objects) is (accounted has w.objects place a (names has _ refl refl passes)) passes.told);
@@ -216,8 +212,6 @@ module _ (opens numbers : List (ℕ × ℕ)) (targets : List Target) (w : World 
         opened = All-nil _;
         born = λ x none. absurd (no_number x none);
         process = λ other never. absurd (true≢false (sym never));
-        fresh = λ s none. absurd (none-some s none);
-        maker = λ x none. absurd (no_number x none);
         doings = λ has passes t absent. released pid fd n has t absent found (passes.closed pid fd (ap (λ b. b || false) (same_pair pid fd))) passes.told;
       })
 
@@ -249,8 +243,6 @@ module _ (opens numbers : List (ℕ × ℕ)) (targets : List Target) (w : World 
             (ap (λ b. b || false) opens_it) (All-nil _);
         born = λ x none. absurd (no_number x none);
         process = λ other never. absurd (true≢false (sym never));
-        fresh = λ s none. absurd (none-some s none);
-        maker = λ x none. absurd (no_number x none);
         doings = λ has passes t absent.
             ap (view_of t) (all_done-append (close_doings (named_among pid to w.table) w.objects) (hold_doings n) w.objects)
             ∙ spared-hold has t n (all_done (close_doings (named_among pid to w.table) w.objects) w.objects) absent (opened-one pid to n opens_it has _ refl passes)
@@ -280,13 +272,11 @@ module _ (opens numbers : List (ℕ × ℕ)) (targets : List Target) (w : World 
   kqueue-within pid fd there =
       let makes : Planned = Possible (record idle { born = Some (record { pid = pid; number = fd }) }) in
       unless_gone Stays refused w pid (if is_some (named_by pid fd w) then Impossible UsedDescriptor else makes)
-      (λ live. unless Stays refused w (is_some (named_by pid fd w)) UsedDescriptor makes
+      (λ _. unless Stays refused w (is_some (named_by pid fd w)) UsedDescriptor makes
       (λ _. record {
         opened = All-nil _;
         born = λ x is. (let same : record { pid = pid; number = fd } ≡ x = cc in ap (λ (p : Pair). has_number p.pid p.number opens) (sym same) ∙ there);
         process = λ other never. absurd (true≢false (sym never));
-        fresh = λ s none. absurd (none-some s none);
-        maker = λ x is. (let same : record { pid = pid; number = fd } ≡ x = cc in ap (λ (p : Pair). is_live p.pid w.processes) (sym same) ∙ live);
         doings = λ has passes t absent. refl;
       }))
 
@@ -306,12 +296,10 @@ module _ (opens numbers : List (ℕ × ℕ)) (targets : List Target) (w : World 
   proc-within pid there =
       let starts_one : Planned = Possible (record idle { started = Some (record { pid = pid; ignores = ignores_none }) }) in
       unless Stays refused w (was_used pid w.processes) UsedPid starts_one
-      (λ unused. record {
+      (λ _. record {
         opened = All-nil _;
         born = λ x none. absurd (no_number x none);
         process = λ other is. started-there pid other there is;
-        fresh = λ s is. ap (λ (x : Start). was_used x.pid w.processes) (sym (same_Some (record { pid = pid; ignores = ignores_none }) s is)) ∙ unused;
-        maker = λ x none. absurd (no_number x none);
         doings = λ has passes t absent. refl;
       })
 
@@ -327,14 +315,12 @@ module _ (opens numbers : List (ℕ × ℕ)) (targets : List Target) (w : World 
       }) in
       unless_gone Stays refused w pid (if was_used child w.processes then Impossible UsedPid else forks)
       (λ _. unless Stays refused w (was_used child w.processes) UsedPid forks
-      (λ unused. record {
+      (λ _. record {
         opened = All-map (λ (d : Descriptor). (has_number d.pid d.number opens || (child == d.pid)) ≡ true) (λ (d : Descriptor). record d { pid = child }) (inheritable (descriptors_of pid w.table))
             (every (λ (d : Descriptor). (has_number child d.number opens || (child == child)) ≡ true)
             (λ d. ap (λ b. has_number child d.number opens || b) (eq-eqb child child refl) ∙ or_true (has_number child d.number opens)) (inheritable (descriptors_of pid w.table)));
         born = λ x none. absurd (no_number x none);
         process = λ other is. started-there child other there is;
-        fresh = λ s is. ap (λ (x : Start). was_used x.pid w.processes) (sym (same_Some (record { pid = child; ignores = ignored_by (process_of pid w.processes) }) s is)) ∙ unused;
-        maker = λ x none. absurd (no_number x none);
         doings = λ has passes t absent. same-inherited t next pid child w counts;
       }))
     where
@@ -357,8 +343,6 @@ module _ (opens numbers : List (ℕ × ℕ)) (targets : List Target) (w : World 
         opened = All-nil _;
         born = λ x none. absurd (no_number x none);
         process = λ other is. exited-there pid other there is;
-        fresh = λ s none. absurd (none-some s none);
-        maker = λ x none. absurd (no_number x none);
         doings = λ has passes t absent.
             let tells = tells_file (release_hints (names_of ds) w.objects ++ noted pid exit_note ∷ []) in
             same-released has t (names_of ds) w.objects (noted pid exit_note ∷ []) absent passes.told

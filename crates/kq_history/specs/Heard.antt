@@ -1,27 +1,25 @@
 -- What was heard of one record more: nothing of an impossible one.
-use Rattle.std.specs.Prelude.{◌≡◌, ℕ, Bool, ◌++◌, Result, Ok, Err}
+use Rattle.std.specs.Prelude.{◌≡◌, ℕ, ◌++◌, Result, Ok, Err}
 use Rattle.kq_model.specs.declared.event.Event.{Event}
 use Rattle.kq_model.specs.declared.why.Why.{Why}
 use Rattle.kq_model.specs.Objects.{counted}
 use Rattle.kq_model.specs.World.{World, views_of}
 use Rattle.kq_process.specs.declared.effect.Effect.{Effect}
 use Rattle.kq_history.specs.declared.hearing.Hearing.{Hearing}
-use Rattle.kq_history.specs.Kept.{heard_closes}
 use Rattle.kq_history.specs.Said.{said_items, AreHeard}
 use Rattle.kq_history.specs.Sayings.{born_of, call_by, clock_of, kqueue_of}
 
--- of a possible one, with the worlds before it and after it, where `silent` says whether its closes concern no kqueue
-pub record IsSaidOnce (silent : Bool) (place : ℕ) (e : Event) (effect : Effect) (before after : World counted)
-    (old new : Hearing) : Type 0 where
-  pub items : new.log ≡ old.log
-      ++ said_items place (heard_closes silent effect.closed) effect.hints (clock_of e before.now) (kqueue_of e before)
+-- of a possible one, with the worlds before it and after it
+pub record IsSaidOnce (place : ℕ) (e : Event) (effect : Effect) (before after : World counted) (old new : Hearing)
+    : Type 0 where
+  pub items : new.log.items ≡ old.log.items
+      ++ said_items place effect.closed effect.hints (clock_of e before.now) (kqueue_of e before)
   pub kqueues : AreHeard place (born_of e) (call_by e (kqueue_of e before)) (views_of after) old.kqueues new.kqueues
 
-abbrev pub IsHeardBy : Result (Unit {0}) Why → Bool → ℕ → Event → Effect → World counted → World counted
+abbrev pub IsHeardBy : Result (Unit {0}) Why → ℕ → Event → Effect → World counted → World counted
     → Hearing → Hearing → Type 0
-IsHeardBy (Err why) silent place e effect before after old new = new ≡ old
-IsHeardBy (Ok done) silent place e effect before after old new = IsSaidOnce silent place e effect before after old new
+IsHeardBy (Err why) place e effect before after old new = new ≡ old
+IsHeardBy (Ok done) place e effect before after old new = IsSaidOnce place e effect before after old new
 
-abbrev pub IsHeard : Bool → ℕ → Event → Effect → World counted → World counted → Hearing → Hearing
-    → Type 0
-IsHeard silent place e effect before after old new = IsHeardBy effect.verdict silent place e effect before after old new
+abbrev pub IsHeard : ℕ → Event → Effect → World counted → World counted → Hearing → Hearing → Type 0
+IsHeard place e effect before after old new = IsHeardBy effect.verdict place e effect before after old new

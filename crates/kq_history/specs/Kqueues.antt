@@ -1,8 +1,7 @@
 -- The kqueues that a trace makes: by rising place, each with its owner and the sources of what concerns it.
-use Rattle.std.specs.Prelude.{◌≡◌, ◌≢◌, ◌<◌, ◌==◌, ◌||◌, nat_eq, ℕ, List, []}
+use Rattle.std.specs.Prelude.{◌≡◌, ◌≢◌, ◌<◌, ℕ, List, []}
 use Rattle.std.specs.Prelude.{◌∷◌, length, slice_index}
 use Rattle.std.specs.Prelude.{slice_index_or}
-use Rattle.std.specs.HashSet.{contains}
 use Rattle.kq_model.specs.declared.change.Change.{Change}
 use Rattle.kq_model.specs.Views.{Views}
 use Rattle.kq_history.specs.declared.item.Source.TheVariants.{Kqueue}
@@ -43,8 +42,3 @@ pub record IsNamedAt (place : ℕ) (views : Views) (changes : List Change) (old 
       (slice_index_or old.concerned.items index c).sources (slice_index_or new.concerned.items index c).sources
   pub others : (index : ℕ) (c : Concerned) → slice_index old.places.items index ≢ place
       → slice_index_or new.concerned.items index c ≡ slice_index_or old.concerned.items index c
-
--- the owner is one of those who made kqueues
-abbrev pub HasMaker : ℕ → Kqueues → Kqueues → Type 0
-HasMaker owner old new =
-    (pid : ℕ) → contains nat_eq new.owners pid ≡ ((owner == pid) || contains nat_eq old.owners pid)

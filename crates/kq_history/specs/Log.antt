@@ -1,20 +1,24 @@
 -- Where the items of each source stand in a log.
-use Rattle.std.specs.Prelude.{◌≡◌, ℕ, Bool, List, slice_index_or}
+use Rattle.std.specs.Prelude.{◌≡◌, ℕ, ◌+◌, Bool, List, [], ◌∷◌, ◌++◌, slice_index_or}
+use Rattle.std.specs.HashMap.{HashMap}
 use Rattle.std.specs.List.{flat_map}
-pub use Rattle.kq_index.specs.Standing.{standing}
-use Rattle.kq_history.specs.declared.filed.Filed.{Filed}
 use Rattle.kq_history.specs.declared.item.Item.{Item}
 use Rattle.kq_history.specs.declared.item.Source.{Source}
 use Rattle.kq_history.specs.declared.item.What.TheVariants.{Closed}
 use Rattle.kq_history.specs.Items.{source_eq, source_of}
-use Rattle.kq_history.specs.Filed.{filed_at}
+use Rattle.kq_history.specs.Shelves.{shelf_at, shelved}
+
+-- where those of a list stand that pass a test; its first stands at `from`
+abbrev pub standing : {X : Type 0} → (X → Bool) → ℕ → List X → List ℕ
+standing test from [] = []
+standing test from (x ∷ xs) = shelved (test x) from ++ standing test (from + 1) xs
 
 abbrev pub comes_from : Source → Item → Bool
 comes_from s i = source_eq (source_of i.what) s
 
 -- the shelf of each source has where its items stand
-abbrev pub AreShelved : {V : Type 0} → List Item → Filed V ℕ → Type 0
-AreShelved items shelves = (s : Source) → filed_at shelves s ≡ standing (comes_from s) 0 items
+abbrev pub AreShelved : {S : Type 0} → List Item → HashMap Source (List ℕ) S → Type 0
+AreShelved items shelves = (s : Source) → shelf_at shelves s ≡ standing (comes_from s) 0 items
 
 -- where those of these sources stand, source by source
 abbrev pub all_standing : List Item → List Source → List ℕ

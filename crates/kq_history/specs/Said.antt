@@ -1,7 +1,6 @@
 -- What the records of a trace say to kqueues, as far as it was gone through.
-use Rattle.std.specs.Prelude.{◌≡◌, ◌<◌, ℕ, ◌+◌, nat_eq, Bool, List, [], ◌∷◌, ◌++◌}
+use Rattle.std.specs.Prelude.{◌≡◌, ◌<◌, ℕ, ◌+◌, List, [], ◌∷◌, ◌++◌}
 use Rattle.std.specs.Prelude.{length, map, All, Option, Some, None}
-use Rattle.std.specs.HashSet.{contains}
 use Rattle.kq_model.specs.Births.{Birth}
 use Rattle.kq_model.specs.Clock.{Span}
 use Rattle.kq_model.specs.Close.{Pair}
@@ -20,10 +19,9 @@ use Rattle.kq_history.specs.declared.kqueues.Kqueues.{Kqueues}
 use Rattle.kq_history.specs.declared.hearing.Hearing.{Hearing}
 use Rattle.kq_history.specs.declared.said.Said.{Said}
 use Rattle.kq_history.specs.Items.{bare_items, has_source}
-use Rattle.kq_history.specs.Kept.{has_owner, is_kept, SaysAll}
-use Rattle.kq_history.specs.Kqueues.{HasMaker, IsNamedAt, IsNew}
+use Rattle.kq_history.specs.Kqueues.{IsNamedAt, IsNew}
 use Rattle.kq_history.specs.Sources.{AreKnown, named_sources}
-use Rattle.kq_history.specs.Traced.{Traced, births_of, moments_of, places_of, world_at_end}
+use Rattle.kq_history.specs.Traced.{Traced, births_of, moments_of, places_of}
 
 -- ---- one record
 
@@ -46,9 +44,8 @@ abbrev pub AreHeard : ℕ → Option Pair → Option Call → Views → Kqueues 
 AreHeard place (Some p) call views old new =
     (new.places.items ≡ old.places.items ++ place ∷ [])
     × ((c : Concerned) × IsNew place p.pid c × (new.concerned.items ≡ old.concerned.items ++ c ∷ []))
-    × HasMaker p.pid old new
 AreHeard place None (Some c) views old new =
-    (new.places.items ≡ old.places.items) × IsNamedAt c.kqueue views c.changes old new × (new.owners ≡ old.owners)
+    (new.places.items ≡ old.places.items) × IsNamedAt c.kqueue views c.changes old new
 AreHeard place None None views old new = new ≡ old
 
 -- ---- all records so far
@@ -71,25 +68,20 @@ AreNamedBy ms (b ∷ bs) (c ∷ cs) = IsNamedBy ms b c × AreNamedBy ms bs cs
 abbrev pub CallsBelow : ℕ → Moment → Type 0
 CallsBelow next m = (c : Call) → m.call ≡ Some c → c.kqueue < next
 
--- whose closes may concern a kqueue
-abbrev pub kept_by : Traced → ℕ → Bool
-kept_by t = is_kept (births_of t) (world_at_end t).processes
-
--- these items say all that they say, but for closes that concern no kqueue
+-- all that they say
 abbrev pub AreAllSaid : Traced → List Item → Type 0
-AreAllSaid t items = SaysAll (kept_by t) (bare_items (all_items (moments_of t))) items
+AreAllSaid t items = items ≡ bare_items (all_items (moments_of t))
 
 -- these are their kqueues, with what concerns each
 pub record AreTheKqueues (t : Traced) (k : Kqueues) : Type 0 where
   pub births : k.places.items ≡ places_of t
-  pub owners : (pid : ℕ) → contains nat_eq k.owners pid ≡ has_owner pid (births_of t)
   pub concerned : AreNamedBy (moments_of t) (births_of t) k.concerned.items
   pub calls : All (CallsBelow (length t.events + 1)) (moments_of t)
 
 pub record IsHearing (t : Traced) (h : Hearing) : Type 0 where
-  pub logged : AreAllSaid t h.log
+  pub logged : AreAllSaid t h.log.items
   pub kqueues : AreTheKqueues t h.kqueues
 
 pub record IsSaid (t : Traced) (s : Said) : Type 0 where
-  pub logged : AreAllSaid t s.log.items
+  pub logged : AreAllSaid t s.log
   pub kqueues : AreTheKqueues t s.kqueues

@@ -2,13 +2,13 @@
 use Rattle.std.specs.Prelude.{◌≡◌, ◌<◌, ◌^◌, List, length}
 use Rattle.kq_model.specs.declared.row.Row.{Row}
 use Rattle.kq_history.specs.declared.said.Said.{Said}
-use Rattle.kq_history.specs.declared.shown.Shown.{Shown}
+use Rattle.kq_history.specs.declared.seen.Seen.{Seen}
 use Rattle.kq_history.specs.Said.{IsSaid}
-use Rattle.kq_history.specs.Seen.{shown_by, Shows}
+use Rattle.kq_history.specs.Seen.{seen_by, Shows}
 use Rattle.kq_history.specs.Traced.{Traced, plain_rows_of, seen_at}
 
-pub record IsSplit (t : Traced) (seen : Shown) (heard : Said) (plain : List Row) : Type 0 where
-  pub shows : Shows (seen_at t) (shown_by seen)
+pub record IsSplit (t : Traced) (seen : Seen) (heard : Said) (plain : List Row) : Type 0 where
+  pub shows : Shows (seen_at t) (seen_by seen)
   pub said : IsSaid t heard
   pub plain_is : plain ≡ plain_rows_of t
   -- of the type of traces

@@ -1,5 +1,5 @@
 -- What a record speaks of by itself: numbers of the process that acts, a process that starts or exits, and a file.
-use Rattle.std.specs.Prelude.{◌≡◌, ℕ, List, [], ◌∷◌, ◌++◌, Option, Some, None}
+use Rattle.std.specs.Prelude.{ℕ, List, [], ◌∷◌, ◌++◌, Option, Some, None}
 use Rattle.kq_model.specs.declared.event.Event.{Event}
 use Rattle.kq_model.specs.declared.event.Event.TheVariants as event
 use Rattle.kq_model.specs.declared.object.Target.{Target}
@@ -79,11 +79,3 @@ file_targets (Some number) = target.File number ∷ []
 
 abbrev pub spoken_targets : Event → List Target
 spoken_targets e = process_targets (spoken_process e) ++ file_targets (spoken_file e)
-
--- it speaks of one number at most, and of nothing else, and opens none
-pub record IsAct (e : Event) : Type 0 where
-  pub process : spoken_process e ≡ None
-  pub file : spoken_file e ≡ None
-  pub first_opened : first_opened e ≡ None
-  pub second_opened : second_opened e ≡ None
-  pub second_number : second_number e ≡ None

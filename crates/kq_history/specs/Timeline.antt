@@ -1,24 +1,13 @@
 -- A value that changes from place to place: what it was before all marks, and from each mark on what the mark says.
-use Rattle.std.specs.Prelude.{◌≡◌, ℕ, nat_le, List, [], ◌∷◌, Bool, true, false}
-use Rattle.std.specs.Prelude.{if◌then◌else◌, ◌≤◌, All, Option}
-use Rattle.std.specs.Prelude.{None, Some}
-use Rattle.std.specs.List.Sorted.{IsNonDecreasingBy, IsPartitionPoint}
-use Rattle.kq_history.specs.declared.marks.Mark.{Mark}
+use Rattle.std.specs.Prelude.{ℕ, nat_le, List, [], ◌∷◌, Bool, if◌then◌else◌, ◌≤◌, All}
+use Rattle.std.specs.List.Sorted.{IsNonDecreasingBy}
+use Rattle.kq_history.specs.declared.timeline.Mark.{Mark}
 
 module _ {V : Type 0} where
   -- the value of the last mark at the place or before it; `before` where there is none
   abbrev pub value_at : ℕ → V → List (Mark V) → V
   value_at place before [] = before
   value_at place before (m ∷ ms) = value_at place (if nat_le m.place place then m.value else before) ms
-
-  -- the last mark at the place or before it; `before` where there is none
-  abbrev pub mark_at : ℕ → Mark V → List (Mark V) → Mark V
-  mark_at place before [] = before
-  mark_at place before (m ∷ ms) = mark_at place (if nat_le m.place place then m else before) ms
-
-  abbrev pub mark_or : Mark V → Option (Mark V) → Mark V
-  mark_or before None = before
-  mark_or before (Some m) = m
 
   -- the value behind all marks
   abbrev pub last_value : V → List (Mark V) → V
@@ -39,10 +28,3 @@ module _ {V : Type 0} where
   -- none is earlier than one before it
   abbrev pub AreRising : List (Mark V) → Type 0
   AreRising ms = IsNonDecreasingBy (λ (m : Mark V). m.place) ms
-
-  -- so many marks are at the place or before it
-  abbrev pub HaveBegun : ℕ → ℕ → List (Mark V) → Type 0
-  HaveBegun place count ms =
-      IsPartitionPoint (λ (m : Mark V). nat_le m.place place ≡ true)
-      (λ (m : Mark V). nat_le m.place place ≡ false) ms
-      count

@@ -1,8 +1,7 @@
--- What may be another one after a record: the numbers that it closed or opens, and all of a process that it starts or
--- ends; whom it told, what it speaks of, what the numbers that it speaks of name after it, and what may have ended
--- with those that it closed. A descriptor more alters nothing that is seen.
-use Rattle.std.specs.Prelude.{◌≡◌, ℕ, ◌==◌, Bool, true, false, not, ◌&&◌, ◌||◌, List, []}
-use Rattle.std.specs.Prelude.{◌∷◌, ◌++◌, filter, map}
+-- What may be another one after a record: the numbers that it closed or opens, and those of a process that it started;
+-- whom it told, what it speaks of, what the numbers that it speaks of name after it, and what may have ended with those
+-- that it closed. A descriptor more alters nothing that is seen.
+use Rattle.std.specs.Prelude.{◌≡◌, ℕ, ◌==◌, Bool, true, false, ◌&&◌, List, [], ◌∷◌, ◌++◌, map}
 use Rattle.std.specs.Prelude.{Option, Some, None, if◌then◌else◌}
 use Rattle.std.specs.List.{flat_map, list_any}
 use Rattle.kq_model.specs.declared.event.Event.{Event}
@@ -10,8 +9,12 @@ use Rattle.kq_model.specs.declared.object.Named.{Named}
 use Rattle.kq_model.specs.declared.object.Named.TheVariants as named
 use Rattle.kq_model.specs.declared.object.Target.{Target}
 use Rattle.kq_model.specs.declared.object.Target.TheVariants as target
+use Rattle.kq_model.specs.Descriptors.{Descriptor}
+use Rattle.kq_model.specs.Objects.{counted}
+use Rattle.kq_model.specs.ProcessPlans.{descriptors_of}
 use Rattle.kq_model.specs.Targets.{Posted, target_eq}
 use Rattle.kq_model.specs.Views.{Views}
+use Rattle.kq_model.specs.World.{World}
 use Rattle.kq_history.specs.Spoken.{opened_numbers, spoken_numbers, spoken_process, spoken_targets}
 
 abbrev pub has_number : ℕ → ℕ → List (ℕ × ℕ) → Bool
@@ -26,29 +29,17 @@ AreAmong xs ys = (t : Target) → has_target t xs ≡ true → has_target t ys �
 
 -- ---- numbers
 
--- those that a record closed or opens
-abbrev pub touched_numbers : Event → List (ℕ × ℕ) → List (ℕ × ℕ)
-touched_numbers e closed = closed ++ opened_numbers e
+abbrev pub keys_of : List Descriptor → List (ℕ × ℕ)
+keys_of ds = map (λ (d : Descriptor). (d.pid, d.number)) ds
 
-abbrev pub is_of : Option ℕ → ℕ → Bool
-is_of None pid = false
-is_of (Some process) pid = process == pid
+-- all that are open in the process
+abbrev pub open_numbers : Option ℕ → World counted → List (ℕ × ℕ)
+open_numbers None w = []
+open_numbers (Some pid) w = keys_of (descriptors_of pid w.table)
 
--- those of other processes
-abbrev pub without_process : Option ℕ → List (ℕ × ℕ) → List (ℕ × ℕ)
-without_process process numbers = filter (λ (p : ℕ × ℕ). not (is_of process p.0)) numbers
-
--- none of them is of the process
-abbrev pub AreApart : Option ℕ → List (ℕ × ℕ) → Type 0
-AreApart process numbers = (pid number : ℕ) → has_number pid number numbers ≡ true → is_of process pid ≡ false
-
--- what is to be noted: all numbers of a process, and single ones
-abbrev pub to_note : Option ℕ → List (ℕ × ℕ) → ℕ → ℕ → Bool
-to_note process numbers pid number = is_of process pid || has_number pid number numbers
-
--- what a record touches: all numbers of a process that it starts or ends, and those that it closed or opens
-abbrev pub touches : Event → List (ℕ × ℕ) → ℕ → ℕ → Bool
-touches e closed = to_note (spoken_process e) (touched_numbers e closed)
+-- `w` is the world after the record
+abbrev pub touched_numbers : Event → List (ℕ × ℕ) → World counted → List (ℕ × ℕ)
+touched_numbers e closed w = closed ++ (opened_numbers e ++ open_numbers (spoken_process e) w)
 
 -- ---- targets
 

@@ -14,7 +14,7 @@ use Rattle.kq_process.specs.declared.world.World.{World}
 use Rattle.kq_history.specs.declared.seen.Seen.{Seen}
 use Rattle.kq_history.specs.Noted.{AreAllUpTo, IsNextWorld}
 use Rattle.kq_history.specs.Seen.{seen_by, Shows}
-use Rattle.kq_history.specs.Touched.{touched_targets, touches}
+use Rattle.kq_history.specs.Touched.{touched_numbers, touched_targets}
 use Rattle.kq_history.specs.Traced.{Traced, seen_at, world_at_end}
 
 -- this is the world after all of the records
@@ -37,7 +37,7 @@ abbrev pub IsNoted : ℕ → Event → List (ℕ × ℕ) → List Posted → mod
     → (ℕ → Views) → Type 0
 IsNoted place e closed hints before after old new =
     (worlds next : ℕ → Views)
-    → IsNextWorld place (views_of before) (views_of after) (touches e closed)
+    → IsNextWorld place (views_of before) (views_of after) (touched_numbers e closed after)
     (touched_targets e closed hints (views_of before) (views_of after)) worlds next
     → Shows worlds old → Shows next new
 

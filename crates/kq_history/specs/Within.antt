@@ -8,7 +8,6 @@ use Rattle.kq_model.specs.declared.object.Target.TheVariants.{Process}
 use Rattle.kq_model.specs.Close.{Pair, has_pair}
 use Rattle.kq_model.specs.Descriptors.{Descriptor, named_among}
 use Rattle.kq_model.specs.Objects.{all_done, counted, view_of}
-use Rattle.kq_model.specs.Processes.{Start, is_live, was_used}
 use Rattle.kq_model.specs.TouchedTargets.{starts, ends}
 use Rattle.kq_model.specs.World.{World, Plan, Planned, Impossible, Possible}
 use Rattle.kq_history.specs.Spoken.{opened_numbers, spoken_numbers, spoken_targets}
@@ -37,9 +36,6 @@ module _ (opens numbers : List (ℕ × ℕ)) (targets : List Target) (w : World 
     pub born : (x : Pair) → p.born ≡ Some x → has_number x.pid x.number opens ≡ true
     pub process : (pid : ℕ) → (starts pid p.started || ends pid p.ended) ≡ true
         → has_target (Process pid) targets ≡ true
-    -- a process that starts is a new one, and who makes a kqueue is live
-    pub fresh : (s : Start) → p.started ≡ Some s → was_used s.pid w.processes ≡ false
-    pub maker : (x : Pair) → p.born ≡ Some x → is_live x.pid w.processes ≡ true
     pub doings : (has : Target → Bool) → PassesAll has p → (t : Target) → has t ≡ false
         → view_of t (all_done p.doings w.objects) ≡ view_of t w.objects
 

@@ -1,5 +1,4 @@
-ghost use Rattle.std.specs.Prelude.{◌≡◌, ◌++◌, nat_eq, length, map, IfOk, OnOk};
-ghost use Rattle.std.specs.HashSet.{contains};
+ghost use Rattle.std.specs.Prelude.{◌≡◌, ◌++◌, length, map, IfOk, OnOk};
 ghost use Rattle.std.specs.List.Sorted.{IsStrictlyIncreasing};
 ghost use Rattle.kq_model.specs.Items.{clock_whats, Closed, Told};
 ghost use Rattle.kq_model.specs.Objects.{counted};
@@ -7,14 +6,13 @@ ghost use Rattle.kq_model.specs.World as model;
 ghost use Rattle.kq_model.specs.World.{views_of};
 ghost use Rattle.kq_process.specs.Effects.{pairs_in};
 ghost use Rattle.kq_process.specs.World.{world_of};
-ghost use Rattle.kq_history.specs.Kept.{heard_closes, is_silent};
 ghost use Rattle.kq_history.specs.Said.{called_items, said_items, said_whats, AreHeard};
 ghost use Rattle.kq_history.specs.Sayings.{born_of, call_by, clock_of, kqueue_of};
 
 use crate::item::{Item, What};
 use crate::kqueues::Kqueues;
+use crate::log::Log;
 use crate::said::Said;
-use crate::saying::Saying;
 use kq_model::{Event, Hint, Memory, Named, Target};
 use kq_process::{Effect, World};
 use std::alloc::Global;
@@ -22,40 +20,26 @@ use std::alloc::Global;
 /// What the records that came say to kqueues.
 #[derive(Drop)]
 pub struct Hearing {
-    pub(crate) log: Saying,
+    pub(crate) log: Vec<Item>,
     pub(crate) kqueues: Kqueues,
 }
 
-/// What is asked before a record: the clock, which kqueue the record calls, and whether its closes concern no kqueue.
+/// What is asked before a record: the clock, and which kqueue the record calls.
 #[derive(Drop, Clone, Copy)]
 pub struct Before {
     pub clock: u64,
     pub kqueue: Option<u64>,
-    pub silent: bool,
 }
 
 impl Before {
-    pub fn of(event: &Event, world: &World, kqueues: &Kqueues) -> Self
+    pub fn of(event: &Event, world: &World) -> Self
         ensures clock { result.clock ≡ (world_of world.now).now }
         ensures kqueue { result.kqueue ≡ kqueue_of event.now (world_of world.now) }
-        ensures silent { result.silent ≡ is_silent event.now (contains nat_eq kqueues.now.owners) }
     {
         Before {
             clock: world.now() as u64,
             kqueue: called(event, world),
-            silent: is_silent(event, kqueues),
         }
-    }
-}
-
-/// Whether the closes of a record concern no kqueue: a process exits that made none. Its pid is not used again.
-#[tactic(auto, unfolding(crate::specs::Kept::is_silent))]
-fn is_silent(event: &Event, kqueues: &Kqueues) -> bool
-    ensures { result ≡ is_silent event.now (contains nat_eq kqueues.now.owners) }
-{
-    match event {
-        Event::Exit { pid, .. } => !kqueues.has_owner(*pid),
-        _ => false,
     }
 }
 
@@ -83,7 +67,7 @@ impl Hearing {
     pub fn new(alloc: Global) -> Self
         ensures { (version : ℕ) → IsHearing (record { version = version; events = [] }) result }
     {
-        let log = Saying::new(alloc);
+        let log = Vec::new(alloc);
         let kqueues = Kqueues::new(alloc);
         Hearing { log, kqueues }
     }
@@ -94,7 +78,7 @@ impl Hearing {
         ensures { IfOk result (λ said. (t : Traced) → IsHearing t self → IsSaid t said) }
     {
         let Hearing { log, kqueues } = self;
-        let log = log.end()?;
+        let log = Log::of(log)?;
         Ok(Said { log, kqueues })
     }
 
@@ -112,7 +96,7 @@ impl Hearing {
         requires one_each { length self.old.kqueues.concerned.items ≡ length self.old.kqueues.places.items }
         ensures { OnOk result ((old : model.World counted) → before.clock ≡ old.now
             → before.kqueue ≡ kqueue_of event.now old
-            → IsHeard before.silent place event.now effect.now old (world_of world.now) self.old self.new) }
+            → IsHeard place event.now effect.now old (world_of world.now) self.old self.new) }
     {
         match effect.verdict {
             Err(_) => Ok(()),
@@ -131,14 +115,13 @@ impl Hearing {
     ) -> Result<(), Memory>
         requires rising { IsStrictlyIncreasing self.old.kqueues.places.items }
         requires one_each { length self.old.kqueues.concerned.items ≡ length self.old.kqueues.places.items }
-        ensures items { OnOk result (self.new.log ≡ self.old.log
-            ++ said_items place (heard_closes before.silent effect.now.closed) effect.now.hints
-            (clock_of event.now before.clock) before.kqueue) }
+        ensures items { OnOk result (self.new.log.items ≡ self.old.log.items
+            ++ said_items place effect.now.closed effect.now.hints (clock_of event.now before.clock) before.kqueue) }
         ensures kqueues { OnOk result (AreHeard place (born_of event.now) (call_by event.now before.kqueue)
             (views_of (world_of world.now)) self.old.kqueues self.new.kqueues) }
     {
         let log = &mut self.log;
-        push_closes(log, place, effect.closed.as_slice(), before.silent)?;
+        push_closed(log, place, effect.closed.as_slice())?;
         push_told(log, place, effect.hints.as_slice())?;
         push_clock(log, place, event, before.clock)?;
         push_call(log, place, before.kqueue)?;
@@ -146,25 +129,9 @@ impl Hearing {
     }
 }
 
-/// Adds the closes of a record, unless they concern no kqueue.
-fn push_closes(
-    log: &mut Saying,
-    place: u64,
-    closed: &[(u32, u32)],
-    silent: bool,
-) -> Result<(), Memory>
-    ensures { OnOk result (log.new
-        ≡ log.old ++ said_whats place (map Closed (pairs_in (heard_closes silent closed.now)))) }
-{
-    if silent {
-        return Ok(());
-    }
-    push_closed(log, place, closed)
-}
-
-fn push_closed(log: &mut Saying, place: u64, closed: &[(u32, u32)]) -> Result<(), Memory>
-    ensures { OnOk result (log.new
-        ≡ log.old ++ said_whats place (map Closed (pairs_in closed.now))) }
+fn push_closed(log: &mut Vec<Item>, place: u64, closed: &[(u32, u32)]) -> Result<(), Memory>
+    ensures { OnOk result (log.new.items
+        ≡ log.old.items ++ said_whats place (map Closed (pairs_in closed.now))) }
 {
     for pair in closed {
         let what = What::Closed {
@@ -176,9 +143,9 @@ fn push_closed(log: &mut Saying, place: u64, closed: &[(u32, u32)]) -> Result<()
     Ok(())
 }
 
-fn push_told(log: &mut Saying, place: u64, hints: &[(Target, Hint)]) -> Result<(), Memory>
-    ensures { OnOk result (log.new
-        ≡ log.old ++ said_whats place (map Told hints.now)) }
+fn push_told(log: &mut Vec<Item>, place: u64, hints: &[(Target, Hint)]) -> Result<(), Memory>
+    ensures { OnOk result (log.new.items
+        ≡ log.old.items ++ said_whats place (map Told hints.now)) }
 {
     for told in hints {
         let what = What::Told {
@@ -191,9 +158,9 @@ fn push_told(log: &mut Saying, place: u64, hints: &[(Target, Hint)]) -> Result<(
 }
 
 #[tactic(auto, unfolding(crate::proofs::Unfolded::clocking))]
-fn push_clock(log: &mut Saying, place: u64, event: &Event, from: u64) -> Result<(), Memory>
-    ensures { OnOk result (log.new
-        ≡ log.old ++ said_whats place (clock_whats (clock_of event.now from))) }
+fn push_clock(log: &mut Vec<Item>, place: u64, event: &Event, from: u64) -> Result<(), Memory>
+    ensures { OnOk result (log.new.items
+        ≡ log.old.items ++ said_whats place (clock_whats (clock_of event.now from))) }
 {
     match event {
         Event::Clock { ns } => {
@@ -204,20 +171,20 @@ fn push_clock(log: &mut Saying, place: u64, event: &Event, from: u64) -> Result<
                 from,
                 to: *ns as u64,
             };
-            log.push(Item { place, what })
+            Ok(log.push(Item { place, what })?)
         }
         _ => Ok(()),
     }
 }
 
-fn push_call(log: &mut Saying, place: u64, kqueue: Option<u64>) -> Result<(), Memory>
-    ensures { OnOk result (log.new ≡ log.old ++ called_items place kqueue) }
+fn push_call(log: &mut Vec<Item>, place: u64, kqueue: Option<u64>) -> Result<(), Memory>
+    ensures { OnOk result (log.new.items ≡ log.old.items ++ called_items place kqueue) }
 {
     match kqueue {
         None => Ok(()),
         Some(kqueue) => {
             let what = What::Called { kqueue };
-            log.push(Item { place, what })
+            Ok(log.push(Item { place, what })?)
         }
     }
 }

@@ -1,17 +1,15 @@
-ghost use Rattle.std.specs.Prelude.{◌≡◌, ◌<◌, ◌++◌, ◌∷◌, [], ℕ, false, length, nat_eq, slice_index};
+ghost use Rattle.std.specs.Prelude.{◌≡◌, ◌<◌, ◌++◌, ◌∷◌, [], ℕ, length, slice_index};
 ghost use Rattle.std.specs.Prelude.{None, IfOk, IfSome, OnOk};
-ghost use Rattle.std.specs.HashSet.{contains};
 ghost use Rattle.std.specs.List.{Contains};
 ghost use Rattle.std.specs.List.Sorted.{IsStrictlyIncreasing};
 ghost use Rattle.kq_history.specs.declared.kqueues.Concerned.{Concerned};
-ghost use Rattle.kq_history.specs.Kqueues.{HasMaker, IsAbsent, IsAlone, IsAtPlace, IsNamedAt, IsNew};
+ghost use Rattle.kq_history.specs.Kqueues.{IsAbsent, IsAlone, IsAtPlace, IsNamedAt, IsNew};
 ghost use Rattle.kq_history.specs.Sources.{call_sources, Grows};
 
 use crate::item::Source;
 use crate::sources::Sources;
 use kq_model::{Change, Memory, Views};
 use std::alloc::Global;
-use std::collections::HashSet;
 
 /// A kqueue's owner, and the sources of what concerns it.
 #[derive(Drop)]
@@ -46,8 +44,6 @@ pub struct Kqueues {
     pub(crate) places: Vec<u64>,
     /// Who owns each, and what concerns it.
     pub(crate) concerned: Vec<Concerned>,
-    /// The processes that made some.
-    pub(crate) owners: HashSet<u32>,
     alloc: Global,
 }
 
@@ -56,12 +52,10 @@ impl Kqueues {
     pub fn new(alloc: Global) -> Self
         ensures places { result.places.items ≡ [] }
         ensures concerned { result.concerned.items ≡ [] }
-        ensures owners { (pid : ℕ) → contains nat_eq result.owners pid ≡ false }
     {
         Kqueues {
             places: Vec::new(alloc),
             concerned: Vec::new(alloc),
-            owners: HashSet::new(alloc),
             alloc,
         }
     }
@@ -70,13 +64,6 @@ impl Kqueues {
         ensures { result.now ≡ self.now.places.items }
     {
         self.places.as_slice()
-    }
-
-    /// Whether a process made one of them.
-    pub fn has_owner(&self, pid: u32) -> bool
-        ensures { result ≡ contains nat_eq self.now.owners pid }
-    {
-        self.owners.contains(&pid)
     }
 
     /// What concerns the kqueue that was made at a place.
@@ -95,12 +82,10 @@ impl Kqueues {
         ensures places { OnOk result (self.new.places.items ≡ self.old.places.items ++ place ∷ []) }
         ensures concerned { OnOk result ((c : Concerned) × IsNew place owner c
             × (self.new.concerned.items ≡ self.old.concerned.items ++ c ∷ [])) }
-        ensures owners { OnOk result (HasMaker owner self.old self.new) }
     {
         let concerned = Concerned::new(self.alloc, place, owner)?;
-        self.owners.insert(owner).map_err(|_| Memory)?;
-        self.places.push(place).map_err(|_| Memory)?;
-        self.concerned.push(concerned).map_err(|_| Memory)
+        self.places.push(place)?;
+        Ok(self.concerned.push(concerned)?)
     }
 
     /// A call of the kqueue that was made at a place: what its changes name concerns it. Where none
@@ -114,7 +99,6 @@ impl Kqueues {
         requires rising { IsStrictlyIncreasing self.old.places.items }
         requires one_each { length self.old.concerned.items ≡ length self.old.places.items }
         ensures places { self.new.places.items ≡ self.old.places.items }
-        ensures owners { self.new.owners ≡ self.old.owners }
         ensures named { OnOk result (IsNamedAt place (V.sees views.now) changes.now self.old self.new) }
     {
         if changes.is_empty() {

@@ -3,32 +3,19 @@
 #![tactic(auto)]
 
 mod at;
-mod brief;
-mod filed;
-mod guesses;
 mod hearing;
 mod item;
 mod kqueues;
-mod lines;
-mod listing;
 mod log;
-mod marks;
-mod note;
-mod notes;
-mod numbers;
 mod plain;
 mod private;
 mod said;
-mod saying;
 mod seen;
-mod shown;
-mod sighting;
-mod sights;
+mod shelves;
 mod sources;
 mod split;
 mod splitting;
 mod spoken;
-mod spots;
 mod timeline;
 mod timelines;
 mod touched;

@@ -3,31 +3,76 @@ ghost use Rattle.std.specs.List.{IsDistinct};
 ghost use Rattle.kq_history.specs.Children.{child_told, children_at, children_of, is_of_process, AreReached};
 ghost use Rattle.kq_history.specs.Children.{AreWithChildren};
 ghost use Rattle.kq_history.specs.Items.{is_from, source_eq};
-ghost use Rattle.kq_history.specs.Log.{all_standing, item_at};
+ghost use Rattle.kq_history.specs.Log.{all_standing, comes_from, item_at, standing};
 ghost use Rattle.kq_history.specs.Sources.{AreKnown, Begins, Grows};
 ghost use Rattle.kq_history.specs.declared.item.Source.{Source};
 
 use crate::item::{Item, Source, What};
-use crate::notes::Notes;
+use crate::shelves::Shelves;
 use crate::sources::Sources;
 use kq_model::{Hint, Memory, Target};
 use std::alloc::Global;
+use std::marker::Model;
 
-/// All that the records of a trace say to kqueues, in order.
+/// All that the records of a trace say to kqueues, in order. Contracts see the list of its items.
 #[derive(Drop)]
 pub struct Log {
-    pub(crate) items: Notes,
-    pub(crate) alloc: Global,
+    items: Vec<Item>,
+    /// Where the items of each source stand.
+    shelves: Shelves,
+}
+
+impl Model for Log {
+    ghost use Rattle.std.specs.Prelude.{List};
+    ghost use Rattle.kq_history.specs.declared.item.Item.{Item as Declared};
+    ghost use Rattle.kq_history.specs.Log.{AreShelved};
+
+    ghost Value = { List Declared };
+
+    ghost view = { λ l. l.items.items };
+
+    ghost invariant = { λ l. AreShelved l.items.items l.shelves.table };
 }
 
 impl Log {
+    /// These items, of which those of each source can be found. Its cost is theirs. Memory: a growth was refused.
+    pub fn of(items: Vec<Item>) -> Result<Self, Memory>
+        ensures { IfOk result (λ log. log ≡ items.items) }
+    {
+        let mut shelves = Shelves::new(*items.allocator());
+        for (number, item) in items.iter().enumerate() {
+            shelves.add(item.what.source(), number)?;
+        }
+        Ok(Log { items, shelves })
+    }
+
+    /// What its memory is from.
+    fn allocator(&self) -> Global {
+        *self.items.allocator()
+    }
+
+    /// The item that stands there.
+    fn get(&self, number: usize) -> Item
+        requires { number < length self.now }
+        ensures { result ≡ item_at self.now number }
+    {
+        self.items[number]
+    }
+
+    /// Where the items of a source stand, rising.
+    fn at(&self, source: Source) -> &[usize]
+        ensures { result.now ≡ standing (comes_from source) 0 self.now }
+    {
+        self.shelves.at(source)
+    }
+
     /// Where the items of these sources stand, source by source.
     fn numbers_of(&self, sources: &[Source]) -> Result<Vec<usize>, Memory>
-        ensures { IfOk result (λ numbers. numbers.items ≡ all_standing self.now.items sources.now) }
+        ensures { IfOk result (λ numbers. numbers.items ≡ all_standing self.now sources.now) }
     {
-        let mut numbers = Vec::new(self.alloc);
+        let mut numbers = Vec::new(self.allocator());
         for source in sources {
-            let standing = self.items.at(*source);
+            let standing = self.at(*source);
             numbers.extend_from_slice(standing)?;
         }
         Ok(numbers)
@@ -35,12 +80,12 @@ impl Log {
 
     /// The items that stand there.
     fn items_at(&self, numbers: &[usize]) -> Result<Vec<Item>, Memory>
-        requires { All (λ n. n < length self.now.items) numbers.now }
-        ensures { IfOk result (λ picked. picked.items ≡ map (item_at self.now.items) numbers.now) }
+        requires { All (λ n. n < length self.now) numbers.now }
+        ensures { IfOk result (λ picked. picked.items ≡ map (item_at self.now) numbers.now) }
     {
-        let mut picked = Vec::with_capacity(self.alloc, numbers.len())?;
+        let mut picked = Vec::with_capacity(self.allocator(), numbers.len())?;
         for number in numbers {
-            picked.push(self.items.get(*number))?;
+            picked.push(self.get(*number))?;
         }
         Ok(picked)
     }
@@ -48,7 +93,7 @@ impl Log {
     /// The items that come from these sources, in their order. Its cost is that of a sort of their numbers.
     pub fn pick(&self, sources: &[Source]) -> Result<Vec<Item>, Memory>
         requires { IsDistinct source_eq sources.now }
-        ensures { IfOk result (λ picked. picked.items ≡ filter (is_from sources.now) self.now.items) }
+        ensures { IfOk result (λ picked. picked.items ≡ filter (is_from sources.now) self.now) }
     {
         let mut numbers = self.numbers_of(sources)?;
         numbers.sort()?;
@@ -59,9 +104,9 @@ impl Log {
     /// forks. It costs the items of these processes, which are among those that are picked.
     pub fn with_children(&self, named: &[Source]) -> Result<Sources, Memory>
         ensures known { IfOk result AreKnown }
-        ensures sources { IfOk result (λ all. AreWithChildren self.now.items named.now all.list.items) }
+        ensures sources { IfOk result (λ all. AreWithChildren self.now named.now all.list.items) }
     {
-        let mut all = Sources::of(self.alloc, named)?;
+        let mut all = Sources::of(self.allocator(), named)?;
         for next in 0..usize::MAX {
             let Some(source) = all.get(next) else {
                 return Ok(all);
@@ -75,8 +120,8 @@ impl Log {
     /// descend from theirs. Else nothing tells of these, and no fork is read.
     pub fn pick_reached(&self, children: bool, named: &[Source]) -> Result<Vec<Item>, Memory>
         requires { IsDistinct source_eq named.now }
-        ensures { IfOk result (λ picked. (all : List Source) × AreReached children self.now.items named.now all
-            × (picked.items ≡ filter (is_from all) self.now.items)) }
+        ensures { IfOk result (λ picked. (all : List Source) × AreReached children self.now named.now all
+            × (picked.items ≡ filter (is_from all) self.now)) }
     {
         if !children {
             return self.pick(named);
@@ -87,23 +132,23 @@ impl Log {
 
     /// The children of which the items of a source tell.
     fn add_children(&self, all: &mut Sources, source: Source) -> Result<(), Memory>
-        ensures grows { OnOk result (Grows (children_of self.now.items source) all.old all.new) }
+        ensures grows { OnOk result (Grows (children_of self.now source) all.old all.new) }
         ensures begins { OnOk result (Begins all.old.list.items all.new.list.items) }
     {
         if !is_of_process(source) {
             return Ok(());
         }
-        self.add_told(all, self.items.at(source))
+        self.add_told(all, self.at(source))
     }
 
     /// The children of which the items at these places tell.
     fn add_told(&self, all: &mut Sources, numbers: &[usize]) -> Result<(), Memory>
-        requires { All (λ n. n < length self.now.items) numbers.now }
-        ensures grows { OnOk result (Grows (children_at self.now.items numbers.now) all.old all.new) }
+        requires { All (λ n. n < length self.now) numbers.now }
+        ensures grows { OnOk result (Grows (children_at self.now numbers.now) all.old all.new) }
         ensures begins { OnOk result (Begins all.old.list.items all.new.list.items) }
     {
         for number in numbers {
-            let item = self.items.get(*number);
+            let item = self.get(*number);
             all.add_target(child_told(item.what))?;
         }
         Ok(())

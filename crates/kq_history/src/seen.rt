@@ -1,31 +1,29 @@
-ghost use Rattle.std.specs.Prelude.{◌≡◌, ◌≤◌, ◌++◌, ℕ, ◌&&◌, nat_le, IfOk, OnOk};
+ghost use Rattle.std.specs.Prelude.{◌≡◌, ◌≤◌, ◌++◌, ◌&&◌, ℕ, nat_le, None, OnOk};
 ghost use Rattle.std.specs.Prelude.{if◌then◌else◌};
 ghost use Rattle.std.specs.List.{flat_map};
 ghost use Rattle.kq_model.specs.Ticks.{last_moment};
 ghost use Rattle.kq_model.specs.Views as model;
 ghost use Rattle.kq_model.specs.World.{views_of};
 ghost use Rattle.kq_process.specs.World.{world_of};
-ghost use Rattle.kq_history.specs.Glances.{seen_of};
-ghost use Rattle.kq_history.specs.Noted.{AreAllBefore, AreAllUpTo, IsNextWorld};
-ghost use Rattle.kq_history.specs.Numbers.{named_at, AreNumbersBefore, AreNumbersUpTo};
+ghost use Rattle.kq_history.specs.Keys.{pair_eq, target_key};
+ghost use Rattle.kq_history.specs.Noted.{AreAllUpTo, IsNextWorld};
 ghost use Rattle.kq_history.specs.Seen.{left_at, IsBlank, seen_by, Shows};
-ghost use Rattle.kq_history.specs.Sights.{view_at, AreUpTo};
-ghost use Rattle.kq_history.specs.Touched.{has_number, has_target, is_of, left_of, to_note, AreAmong, AreApart};
+ghost use Rattle.kq_history.specs.Timeline.{value_at};
+ghost use Rattle.kq_history.specs.Timelines.{marks_at, AreUpTo};
+ghost use Rattle.kq_history.specs.Touched.{has_number, has_target, left_of, AreAmong};
 
-use crate::numbers::Numbers;
-use crate::shown::Shown;
-use crate::sighting::Sighting;
 use crate::timeline::Timeline;
+use crate::timelines::Timelines;
 use crate::touched::{Touched, add_left};
-use kq_model::{Memory, Target};
+use kq_model::{Memory, Named, Target, View};
 use kq_process::World;
 use std::alloc::Global;
 
-/// What was seen of the world after each record that came: what numbers named, the views of targets, and the clock.
+/// What was seen of the world after each record: what numbers named, the views of targets, and the clock.
 #[derive(Drop)]
 pub struct Seen {
-    pub(crate) numbers: Numbers,
-    pub(crate) views: Sighting,
+    pub(crate) numbers: Timelines<(u32, u32), Option<Named>>,
+    pub(crate) views: Timelines<Target, Option<View>>,
     pub(crate) clock: Timeline<u64>,
 }
 
@@ -35,16 +33,36 @@ impl Seen {
         ensures { IsBlank result }
     {
         Seen {
-            numbers: Numbers::new(alloc),
-            views: Sighting::new(alloc),
+            numbers: Timelines::new(alloc),
+            views: Timelines::new(alloc),
             clock: Timeline::new(alloc),
         }
     }
 
-    /// Notes the world after the record of a place, behind all that was noted: of the process that the record
-    /// retables, and of the single numbers that it touched, what they name; of the targets that it touched, to which
-    /// it adds what may have ended of those that these numbers named; and of the clock. `tells` is whether it told a
-    /// file. After Memory nothing is known.
+    /// What is seen of a target after a place.
+    pub fn view(&self, place: u64, target: Target) -> Option<View>
+        ensures { result ≡ (seen_by self.now place).view target }
+    {
+        self.views.at(target, place, None)
+    }
+
+    /// What a number of a process names after a place.
+    pub fn descriptor(&self, place: u64, pid: u32, number: u32) -> Option<Named>
+        ensures { result ≡ (seen_by self.now place).descriptor pid number }
+    {
+        self.numbers.at((pid, number), place, None)
+    }
+
+    /// The clock after a place, in ns.
+    pub fn now(&self, place: u64) -> u64
+        ensures { result ≡ (seen_by self.now place).now }
+    {
+        self.clock.at(place, 0)
+    }
+
+    /// Notes the world after the record of a place: of the numbers that the record touched, what they name; of the
+    /// targets that it touched, to which it adds what may have ended of those that these numbers named; and of the
+    /// clock. `tells` is whether it told a file. After Memory nothing is known.
     pub fn note(
         &mut self,
         place: u64,
@@ -52,16 +70,13 @@ impl Seen {
         touched: &mut Touched,
         world: &World,
     ) -> Result<(), Memory>
-        requires before { AreAllBefore place self.old }
-        requires apart { AreApart touched.old.process touched.old.numbers.items }
+        requires { AreAllUpTo place self.old }
         ensures up_to { OnOk result (AreAllUpTo place self.new) }
         ensures shows { OnOk result ((before : model.Views) (worlds next : ℕ → model.Views)
-            → IsNextWorld place before (views_of (world_of world.now))
-            (to_note touched.old.process touched.old.numbers.items)
+            → IsNextWorld place before (views_of (world_of world.now)) touched.old.numbers.items
             (flat_map (left_of tells before) touched.old.numbers.items ++ touched.old.targets.items) worlds next
             → Shows worlds (seen_by self.old) → Shows next (seen_by self.new)) }
     {
-        note_process(&mut self.numbers, place, touched.process, world)?;
         let numbers = touched.numbers.as_slice();
         note_numbers(
             &mut self.numbers,
@@ -75,27 +90,6 @@ impl Seen {
         self.clock.note(place, 0, moment_of(world))?;
         Ok(())
     }
-
-    /// What was seen, of which that of each target can be found. Its cost is that of what was seen. Memory: a growth
-    /// was refused.
-    pub fn end(self) -> Result<Shown, Memory>
-        ensures numbers { IfOk result (λ shown. shown.numbers ≡ self.numbers) }
-        ensures views { IfOk result (λ shown. (t : Target) (place : ℕ)
-            → seen_of shown.views t place ≡ view_at self.views place t) }
-        ensures clock { IfOk result (λ shown. shown.clock ≡ self.clock) }
-    {
-        let Seen {
-            numbers,
-            views,
-            clock,
-        } = self;
-        let views = views.end()?;
-        Ok(Shown {
-            numbers,
-            views,
-            clock,
-        })
-    }
 }
 
 /// The moment at which the clock is.
@@ -107,46 +101,28 @@ fn moment_of(world: &World) -> u64
     world.now() as u64
 }
 
-/// What all numbers of a process name.
-fn note_process(
-    numbers: &mut Numbers,
-    place: u64,
-    process: Option<u32>,
-    world: &World,
-) -> Result<(), Memory>
-    requires { AreNumbersBefore place numbers.old }
-    ensures up_to { OnOk result (AreNumbersUpTo place numbers.new) }
-    ensures noted { OnOk result ((pid number at : ℕ) → named_at numbers.new at pid number
-        ≡ (if is_of process pid && nat_le place at then (views_of (world_of world.now)).descriptor pid number
-        else named_at numbers.old at pid number)) }
-{
-    match process {
-        None => Ok(()),
-        Some(pid) => numbers.retable(pid, place, world.descriptors(pid)),
-    }
-}
-
 /// What these numbers name, and the targets that may have ended of those that they named before the place.
 fn note_numbers(
-    numbers: &mut Numbers,
+    timelines: &mut Timelines<(u32, u32), Option<Named>>,
     place: u64,
-    touched: &[(u32, u32)],
+    numbers: &[(u32, u32)],
     tells: bool,
     targets: &mut Vec<Target>,
     world: &World,
 ) -> Result<(), Memory>
-    requires { AreNumbersUpTo place numbers.old }
-    ensures up_to { OnOk result (AreNumbersUpTo place numbers.new) }
-    ensures noted { OnOk result ((pid number at : ℕ) → named_at numbers.new at pid number
-        ≡ (if has_number pid number touched.now && nat_le place at
+    requires { AreUpTo pair_eq place timelines.old.table }
+    ensures up_to { OnOk result (AreUpTo pair_eq place timelines.new.table) }
+    ensures noted { OnOk result ((pid number at : ℕ)
+        → value_at at None (marks_at pair_eq timelines.new.table (pid, number))
+        ≡ (if has_number pid number numbers.now && nat_le place at
         then (views_of (world_of world.now)).descriptor pid number
-        else named_at numbers.old at pid number)) }
+        else value_at at None (marks_at pair_eq timelines.old.table (pid, number)))) }
     ensures named { OnOk result (AreAmong
-        (flat_map (left_at numbers.old place tells) touched.now ++ targets.old.items) targets.new.items) }
+        (flat_map (left_at timelines.old.table place tells) numbers.now ++ targets.old.items) targets.new.items) }
 {
-    for pair in touched {
-        let (pid, number) = *pair;
-        let had = numbers.note(pid, number, place, world.descriptor(pid, number))?;
+    for number in numbers {
+        let named = world.descriptor(number.0, number.1);
+        let had = timelines.note(*number, place, None, named)?;
         add_left(targets, tells, had)?;
     }
     Ok(())
@@ -154,19 +130,20 @@ fn note_numbers(
 
 /// What is seen of these targets.
 fn note_targets(
-    sights: &mut Sighting,
+    timelines: &mut Timelines<Target, Option<View>>,
     place: u64,
     targets: &[Target],
     world: &World,
 ) -> Result<(), Memory>
-    requires { AreUpTo place sights.old }
-    ensures up_to { OnOk result (AreUpTo place sights.new) }
-    ensures noted { OnOk result ((t : Target) (at : ℕ) → view_at sights.new at t
+    requires { AreUpTo target_key place timelines.old.table }
+    ensures up_to { OnOk result (AreUpTo target_key place timelines.new.table) }
+    ensures noted { OnOk result ((t : Target) (at : ℕ)
+        → value_at at None (marks_at target_key timelines.new.table t)
         ≡ (if has_target t targets.now && nat_le place at then (views_of (world_of world.now)).view t
-        else view_at sights.old at t)) }
+        else value_at at None (marks_at target_key timelines.old.table t))) }
 {
     for target in targets {
-        sights.note(*target, place, world.view(*target))?;
+        timelines.note(*target, place, None, world.view(*target))?;
     }
     Ok(())
 }

@@ -3,7 +3,7 @@ ghost use Rattle.std.specs.Prelude.{◌≡◌, pos, IfOk};
 use crate::at::HistoryAt;
 use crate::private::Private;
 use crate::said::Said;
-use crate::shown::Shown;
+use crate::seen::Seen;
 use crate::splitting::Splitting;
 use kq_model::{Event, Memory, Named, Row, Target, Trace, View};
 use std::alloc::Global;
@@ -15,7 +15,7 @@ use std::marker::Model;
 pub struct Split<'a> {
     pub(crate) version: u32,
     pub(crate) events: &'a [Event],
-    pub(crate) seen: Shown,
+    pub(crate) seen: Seen,
     pub(crate) said: Said,
     pub(crate) plain: Vec<Row>,
 }
@@ -90,22 +90,21 @@ impl<'a> Split<'a> {
     pub(crate) fn view(&self, place: u64, target: Target) -> Option<View>
         ensures { result ≡ (seen_at self.now place).view target }
     {
-        let views = &self.seen.views;
-        views.at(target, place).view(views.wholes())
+        self.seen.view(place, target)
     }
 
     /// What a number of a process names after a place.
     pub(crate) fn descriptor(&self, place: u64, pid: u32, number: u32) -> Option<Named>
         ensures { result ≡ (seen_at self.now place).descriptor pid number }
     {
-        self.seen.numbers.at(pid, number, place)
+        self.seen.descriptor(place, pid, number)
     }
 
     /// The clock after a place, in ns.
     pub(crate) fn now(&self, place: u64) -> i64
         ensures { result ≡ pos (seen_at self.now place).now }
     {
-        self.seen.clock.at(place, 0) as i64
+        self.seen.now(place) as i64
     }
 }
 

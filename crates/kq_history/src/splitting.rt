@@ -52,8 +52,6 @@ impl Splitting {
         ensures { OnOk result ((t : Traced) → length t.events ≡ before → IsSplitSoFar t self.old
             → IsSplitSoFar (record { version = t.version; events = t.events ++ events.now }) self.new) }
     {
-        // Most records say one thing to kqueues.
-        self.said.log.reserve(events.len())?;
         for (taken, event) in events.iter().enumerate() {
             self.take_one(before + taken as u64 + 1, event)?;
         }
@@ -66,7 +64,7 @@ impl Splitting {
         ensures { OnOk result ((t : Traced) → length t.events + 1 ≡ place → IsSplitSoFar t self.old
             → IsSplitSoFar (longer t event.now) self.new) }
     {
-        let before_it = Before::of(event, &self.world, &self.said.kqueues);
+        let before_it = Before::of(event, &self.world);
         let world = &mut self.world;
         let effect = &mut self.effect;
         track(
@@ -82,8 +80,8 @@ impl Splitting {
         put_plain(&mut self.plain, place, &self.effect.verdict)
     }
 
-    /// The split of a trace all of whose records came. Its cost is that of what was seen and said, and of dropping
-    /// the world. Memory: a growth was refused.
+    /// The split of a trace all of whose records came. Its cost is that of what was said, and of dropping the world.
+    /// Memory: a growth was refused.
     pub fn end<'a>(self, trace: &'a Trace) -> Result<Split<'a>, Memory>
         requires { IsSplitSoFar (traced trace.now) self }
         ensures { IfOk result (λ s. s ≡ traced trace.now) }
@@ -95,7 +93,6 @@ impl Splitting {
             plain,
             ..
         } = self;
-        let seen = seen.end()?;
         let said = said.end()?;
         Ok(Split {
             version: trace.version,

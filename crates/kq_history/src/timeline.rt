@@ -1,15 +1,16 @@
 ghost use Rattle.std.specs.Prelude.{◌≡◌, ◌++◌, ◌∷◌, [], not, IfOk, OnOk, OnErr};
-ghost use Rattle.std.specs.Option.{option_copied};
-ghost use Rattle.kq_history.specs.Timeline.{last_value, mark, mark_at, mark_or, marked, value_at, IsUpTo};
+ghost use Rattle.kq_history.specs.Timeline.{last_value, mark, marked, value_at, IsUpTo};
 
-use crate::marks::{Mark, count_at, value_behind};
-use crate::note::small;
 use kq_model::Memory;
 use std::alloc::Global;
 use std::marker::Model;
 
-/// Most timelines have so many marks.
-const MARKS_OF_MOST: usize = 2;
+/// From this place on the value is another one.
+#[derive(Debug, Drop, Clone, Copy)]
+pub struct Mark<V> {
+    pub place: u64,
+    pub value: V,
+}
 
 /// A value that changes from place to place, by its marks in rising order of their places.
 #[derive(Drop)]
@@ -20,7 +21,7 @@ pub struct Timeline<V> {
 impl<V> Model for Timeline<V> {
     ghost use Rattle.std.specs.Prelude.{List};
     ghost use Rattle.kq_history.specs.Timeline.{AreRising};
-    ghost use Rattle.kq_history.specs.declared.marks.Mark.{Mark};
+    ghost use Rattle.kq_history.specs.declared.timeline.Mark.{Mark};
 
     ghost Value = { List (Mark V) };
 
@@ -39,28 +40,25 @@ impl<V> Timeline<V> {
         }
     }
 
-    /// One mark alone, with room for another: most things have one mark where they begin and one
-    /// where they end.
+    /// One mark alone.
     pub fn one(alloc: Global, place: u64, value: V) -> Result<Self, Memory>
     where
         V: Drop,
         ensures { IfOk result (λ t. t ≡ mark place value ∷ []) }
     {
-        let place = small(place)?;
-        let mut marks = Vec::with_capacity(alloc, MARKS_OF_MOST)?;
+        let mut marks = Vec::new(alloc);
         marks.push(Mark { place, value })?;
         Ok(Timeline { marks })
     }
 
-    /// One mark more. After Memory, which is also the answer where the place is above 2^32, nothing has changed.
-    pub fn push(&mut self, place: u64, value: V) -> Result<(), Memory>
+    /// One mark more. After Memory nothing has changed.
+    fn push(&mut self, place: u64, value: V) -> Result<(), Memory>
     where
         V: Drop,
         requires { IsUpTo place self.old }
         ensures pushed { OnOk result (self.new ≡ self.old ++ mark place value ∷ []) }
         ensures memory { OnErr result (self.new ≡ self.old) }
     {
-        let place = small(place)?;
         Ok(self.marks.push(Mark { place, value })?)
     }
 
@@ -83,7 +81,7 @@ impl<V> Timeline<V> {
     }
 
     /// The value behind all marks, else the value before them.
-    pub fn last(&self, before: V) -> V
+    fn last(&self, before: V) -> V
     where
         V: Copy + Drop,
         ensures { result ≡ last_value before self.now }
@@ -101,19 +99,10 @@ impl<V> Timeline<V> {
         V: Copy + Drop,
         ensures { result ≡ value_at place before self.now }
     {
-        let marks = self.marks.as_slice();
-        value_behind(marks, count_at(marks, place), before)
-    }
-
-    /// The last mark at the place or before it, if there is one.
-    pub fn mark_at(&self, place: u64) -> Option<&Mark<V>>
-        ensures { (before : Mark V) → mark_at place before self.now ≡ mark_or before (option_copied result) }
-    {
-        let marks = self.marks.as_slice();
-        let count = count_at(marks, place);
+        let count = self.marks.partition_point(|mark| mark.place <= place);
         if count == 0 {
-            return None;
+            return before;
         }
-        Some(&self.marks[count - 1])
+        self.marks[count - 1].value
     }
 }

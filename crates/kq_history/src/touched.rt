@@ -1,14 +1,13 @@
 // What may be another one after a record. To name too much does no harm: what did not change is
 // noted as it was.
-ghost use Rattle.std.specs.Prelude.{◌≡◌, ◌++◌, ◌∷◌, [], OnOk, true};
+ghost use Rattle.std.specs.Prelude.{◌≡◌, ◌++◌, ◌∷◌, [], OnOk};
 ghost use Rattle.kq_model.specs.World.{views_of};
-ghost use Rattle.kq_history.specs.Spoken.{file_targets, option_list, process_targets};
-ghost use Rattle.kq_history.specs.Spoken.{spoken_process, spoken_targets, IsAct};
-ghost use Rattle.kq_history.specs.Slots.{left_in, AreSlotsOf, AreTouched, IsChanged};
-ghost use Rattle.kq_history.specs.Touched.{all_named, is_file, other_targets, targets_left, targets_named};
-ghost use Rattle.kq_history.specs.Touched.{tells_file, told_targets, touched_numbers, without_process, AreAmong};
-ghost use Rattle.std.specs.List.{flat_map};
+ghost use Rattle.kq_process.specs.Processes.{descriptors_in};
+ghost use Rattle.kq_process.specs.Slots.{filled};
 ghost use Rattle.kq_process.specs.World.{world_of};
+ghost use Rattle.kq_history.specs.Spoken.{file_targets, option_list, process_targets, spoken_targets};
+ghost use Rattle.kq_history.specs.Touched.{all_named, is_file, keys_of, open_numbers, other_targets, targets_left};
+ghost use Rattle.kq_history.specs.Touched.{targets_named, tells_file, told_targets, touched_numbers, AreAmong};
 
 use crate::spoken::{
     first_number, first_opened, second_number, second_opened, spoken_file, spoken_process,
@@ -23,11 +22,7 @@ const MOST_LOOKED_THROUGH: usize = 8;
 /// What a record touched. One serves all records of a pass, so that none allocates for itself.
 #[derive(Drop)]
 pub struct Touched {
-    /// The slots of the process that the record starts or ends, before it.
-    pub(crate) before: Vec<(u32, Option<Named>)>,
-    /// The process of which all numbers are noted at once.
-    pub(crate) process: Option<u32>,
-    /// Single numbers of other processes, by pid and number.
+    /// By pid and number.
     pub(crate) numbers: Vec<(u32, u32)>,
     pub(crate) targets: Vec<Target>,
 }
@@ -35,124 +30,39 @@ pub struct Touched {
 impl Touched {
     pub fn new(alloc: Global) -> Self {
         Touched {
-            before: Vec::new(alloc),
-            process: None,
             numbers: Vec::new(alloc),
             targets: Vec::new(alloc),
         }
     }
 
-    /// What is asked before a record, in place of what another one did: the slots of the process that it starts or
-    /// ends.
-    pub fn begin(&mut self, event: &Event, world: &World) -> Result<(), Memory>
-        ensures { OnOk result (AreSlotsOf (spoken_process event.now) (world_of world.now) self.new.before.items) }
-    {
-        self.before.clear();
-        match spoken_process(event) {
-            None => Ok(()),
-            Some(pid) => {
-                let slots = world.descriptors(pid);
-                Ok(self.before.extend_from_slice(slots)?)
-            }
-        }
-    }
-
-    /// What the record touched, but for the targets that ended with single numbers. The world is that after it.
+    /// The numbers that this record touched, and the targets but those that ended with numbers, in
+    /// place of what another one did. The world is that after the record.
     pub fn fill(&mut self, event: &Event, effect: &Effect, world: &World) -> Result<(), Memory>
-        ensures { OnOk result (AreTouched event.now effect.now.closed effect.now.hints self.old.before.items
-            (world_of world.now) self.new) }
+        ensures numbers { OnOk result (self.new.numbers.items
+            ≡ touched_numbers event.now effect.now.closed (world_of world.now)) }
+        ensures targets { OnOk result (AreAmong
+            (other_targets event.now effect.now.hints (views_of (world_of world.now))) self.new.targets.items) }
     {
-        let hints = effect.hints.as_slice();
-        if effect.closed.is_empty() && self.before.is_empty() && is_act(event) {
-            return self.fill_by_act(event, hints, world);
-        }
-        let process = spoken_process(event);
-        let before = self.before.as_slice();
-        self.process = changed(process, before, world);
-        put_numbers(&mut self.numbers, event, effect.closed.as_slice())?;
-        put_targets(&mut self.targets, event, hints, world)?;
-        add_all_left(&mut self.targets, tells_file(hints), before)
-    }
-
-    /// The same of an act that closes nothing: whom it told, and what its number names.
-    fn fill_by_act(
-        &mut self,
-        event: &Event,
-        hints: &[(Target, Hint)],
-        world: &World,
-    ) -> Result<(), Memory>
-        requires act { IsAct event.now }
-        requires none { self.old.before.items ≡ [] }
-        ensures { OnOk result (AreTouched event.now [] hints.now [] (world_of world.now) self.new) }
-    {
-        self.process = None;
-        self.numbers.clear();
-        self.targets.clear();
-        push_told(&mut self.targets, hints)?;
-        add_by_number(&mut self.targets, first_number(event), world)
+        put_numbers(&mut self.numbers, event, effect.closed.as_slice(), world)?;
+        put_targets(&mut self.targets, event, effect.hints.as_slice(), world)
     }
 }
 
-/// Whether a record is known to speak of one number at most and of nothing else, and to open none.
-#[tactic(auto, unfolding(crate::proofs::Unfolded::spoken))]
-fn is_act(event: &Event) -> bool
-    ensures { result ≡ true → IsAct event.now }
-{
-    matches!(
-        event,
-        Event::Kevent { .. }
-            | Event::Listen { .. }
-            | Event::Arrive { .. }
-            | Event::Connect { .. }
-            | Event::Rx { .. }
-            | Event::Tx { .. }
-            | Event::Shut { .. }
-            | Event::Lowat { .. }
-            | Event::Read { .. }
-            | Event::Write { .. }
-            | Event::Seek { .. }
-    )
-}
-
-/// The process, unless it has no numbers, before a record and after it.
-fn changed(process: Option<u32>, before: &[(u32, Option<Named>)], world: &World) -> Option<u32>
-    ensures { IsChanged process before.now (world_of world.now) result }
-{
-    let pid = process?;
-    if before.is_empty() && world.descriptors(pid).is_empty() {
-        return None;
-    }
-    Some(pid)
-}
-
-/// The numbers that a record closed or opened, but for those of a process that it starts or ends.
+/// The numbers that may name something else after a record: those that it closed or opened, and
+/// those of a process that it started. The world is that after the record.
 fn put_numbers(
     numbers: &mut Vec<(u32, u32)>,
     event: &Event,
     closed: &[(u32, u32)],
+    world: &World,
 ) -> Result<(), Memory>
-    ensures { OnOk result (numbers.new.items
-        ≡ without_process (spoken_process event.now) (touched_numbers event.now closed.now)) }
-{
-    put_touched(numbers, event, closed)?;
-    if let Some(pid) = spoken_process(event) {
-        numbers.retain(|number| pid != number.0);
-    }
-    Ok(())
-}
-
-/// The numbers that a record closed or opened.
-fn put_touched(
-    numbers: &mut Vec<(u32, u32)>,
-    event: &Event,
-    closed: &[(u32, u32)],
-) -> Result<(), Memory>
-    ensures { OnOk result (numbers.new.items ≡ touched_numbers event.now closed.now) }
+    ensures { OnOk result (numbers.new.items ≡ touched_numbers event.now closed.now (world_of world.now)) }
 {
     numbers.clear();
     numbers.extend_from_slice(closed)?;
     push_number(numbers, first_opened(event))?;
-    push_number(numbers, second_opened(event))
+    push_number(numbers, second_opened(event))?;
+    push_open(numbers, spoken_process(event), world)
 }
 
 fn push_number(numbers: &mut Vec<(u32, u32)>, number: Option<(u32, u32)>) -> Result<(), Memory>
@@ -162,6 +72,35 @@ fn push_number(numbers: &mut Vec<(u32, u32)>, number: Option<(u32, u32)>) -> Res
         None => Ok(()),
         Some(number) => Ok(numbers.push(number)?),
     }
+}
+
+/// All that are open in the process.
+fn push_open(
+    numbers: &mut Vec<(u32, u32)>,
+    process: Option<u32>,
+    world: &World,
+) -> Result<(), Memory>
+    ensures { OnOk result (numbers.new.items ≡ numbers.old.items ++ open_numbers process (world_of world.now)) }
+{
+    match process {
+        None => Ok(()),
+        Some(pid) => push_numbers(numbers, pid, world.descriptors(pid)),
+    }
+}
+
+fn push_numbers(
+    numbers: &mut Vec<(u32, u32)>,
+    pid: u32,
+    slots: &[(u32, Option<Named>)],
+) -> Result<(), Memory>
+    ensures { OnOk result (numbers.new.items ≡ numbers.old.items ++ keys_of (descriptors_in pid (filled slots.now))) }
+{
+    for slot in slots {
+        if slot.1.is_some() {
+            numbers.push((pid, slot.0))?;
+        }
+    }
+    Ok(())
 }
 
 /// The targets of which something else may be seen after a record, besides those that ended with
@@ -235,20 +174,6 @@ pub fn add_left(targets: &mut Vec<Target>, tells: bool, had: Option<Named>) -> R
         }
         None | Some(Named::PipeRead(_) | Named::PipeWrite(_) | Named::Kqueue(_)) => Ok(()),
     }
-}
-
-/// Adds what may have ended with all of these slots.
-fn add_all_left(
-    targets: &mut Vec<Target>,
-    tells: bool,
-    slots: &[(u32, Option<Named>)],
-) -> Result<(), Memory>
-    ensures { OnOk result (AreAmong (flat_map (left_in tells) slots.now ++ targets.old.items) targets.new.items) }
-{
-    for slot in slots {
-        add_left(targets, tells, slot.1)?;
-    }
-    Ok(())
 }
 
 /// Adds what filters may watch by what a number names.

@@ -4,10 +4,8 @@ ghost use Rattle.kq_model.specs.Objects.{counted};
 ghost use Rattle.kq_model.specs.Plans.{plan};
 ghost use Rattle.kq_model.specs.World as model;
 ghost use Rattle.kq_process.specs.World.{last_of, world_of, IsEffectBy};
-ghost use Rattle.kq_history.specs.Noted.{AreAllBefore, AreAllUpTo};
+ghost use Rattle.kq_history.specs.Noted.{AreAllUpTo};
 ghost use Rattle.kq_history.specs.Seen.{seen_by};
-ghost use Rattle.kq_history.specs.Slots.{AreSlotsOf};
-ghost use Rattle.kq_history.specs.Spoken.{spoken_process};
 ghost use Rattle.kq_history.specs.Traced.{longer, Traced};
 ghost use Rattle.kq_history.specs.Tracked.{IsFollowed, IsNoted, IsTracked};
 
@@ -27,12 +25,11 @@ pub fn track(
     effect: &mut Effect,
 ) -> Result<(), Memory>
     requires places { last_of world.old < place }
-    requires before { AreAllBefore place seen.old }
+    requires up_to { AreAllUpTo place seen.old }
     ensures effect { OnOk result (IsEffectBy (plan place event.now) world.old effect.new) }
     ensures tracked { OnOk result ((t : Traced) → length t.events + 1 ≡ place
         → IsTracked t world.old seen.old → IsTracked (longer t event.now) world.new seen.new) }
 {
-    touched.begin(event, world)?;
     world.apply_into(place, event, effect)?;
     follow(place, event, effect, world, seen, touched)
 }
@@ -46,9 +43,8 @@ fn follow(
     seen: &mut Seen,
     touched: &mut Touched,
 ) -> Result<(), Memory>
-    requires { AreAllBefore place seen.old }
+    requires { AreAllUpTo place seen.old }
     ensures { OnOk result ((before : model.World counted)
-        → AreSlotsOf (spoken_process event.now) before touched.old.before.items
         → IsFollowed place event.now effect.now before (world_of world.now) seen.old seen.new) }
 {
     match effect.verdict {
@@ -66,13 +62,13 @@ fn note(
     seen: &mut Seen,
     touched: &mut Touched,
 ) -> Result<(), Memory>
-    requires { AreAllBefore place seen.old }
+    requires { AreAllUpTo place seen.old }
     ensures up_to { OnOk result (AreAllUpTo place seen.new) }
     ensures noted { OnOk result ((before : model.World counted)
-        → AreSlotsOf (spoken_process event.now) before touched.old.before.items
         → IsNoted place event.now effect.now.closed effect.now.hints before (world_of world.now)
         (seen_by seen.old) (seen_by seen.new)) }
 {
     touched.fill(event, effect, world)?;
-    seen.note(place, tells_file(effect.hints.as_slice()), touched, world)
+    let tells = tells_file(effect.hints.as_slice());
+    seen.note(place, tells, touched, world)
 }

@@ -5,4 +5,4 @@ use Rattle.kq_history.specs.Said.{said_whats}
 use Rattle.kq_history.proofs.hearing.push_closed.Given as goal
 
 abbrev pub invariant-loop-pair : goal.invariant-loop-pair
-invariant-loop-pair l = l.log ≡ l.initial.log ++ said_whats l.place (map Closed (pairs_in (take l.pair-index l.closed)))
+invariant-loop-pair l = l.log.items ≡ l.initial.log.items ++ said_whats l.place (map Closed (pairs_in (take l.pair-index l.closed)))

@@ -1,4 +1,4 @@
-use Rattle.std.proofs.Common.{◌≡◌, ◌∙◌, ◌<◌, ◌&&◌, ◌++◌, ℕ, cond, leb, length, get_or, take, Option, sym, ap, subst, rules, arith}
+use Rattle.std.proofs.Common.{◌≡◌, ◌∙◌, ◌<◌, ◌≤◌, ◌&&◌, ◌++◌, ℕ, Bool, cond, leb, length, get_or, not, take, None, Option, refl, sym, ap, subst, arith}
 use Rattle.std.specs.List.{flat_map}
 use Rattle.std.proofs.lemmas.List.{take_more}
 use Rattle.kq_model.specs.declared.object.Named.{Named}
@@ -6,50 +6,54 @@ use Rattle.kq_model.specs.Views.{Views}
 use Rattle.kq_model.specs.World.{views_of}
 use Rattle.kq_process.specs.World.{world_of}
 use Rattle.kq_history.specs.Keys.{pair_eq}
-use Rattle.kq_history.specs.Numbers.{named_at}
 use Rattle.kq_history.specs.Seen.{left_at}
+use Rattle.kq_history.specs.Timeline.{last_value, marked, value_at, IsUpTo}
+use Rattle.kq_history.specs.Timelines.{marks_at}
 use Rattle.kq_history.specs.Touched.{has_number, targets_left, AreAmong}
-use Rattle.kq_history.proofs.Following.{marked-more}
+use Rattle.kq_history.proofs.Following.{noted-more, settled, up_to-marked}
 use Rattle.kq_history.proofs.NamedTargets.{one-number-more}
 use Rattle.kq_history.proofs.NotedKeys.{any-more, same-number}
+use Rattle.kq_history.proofs.SameValues.{named_eq, same_named}
 use Rattle.kq_history.proofs.seen.note_numbers.Goals as goal
 
-pub note-requires : goal.note-requires
-note-requires c = c.loop-pair.invariant.up_to
-
-pub loop-pair-preserved : goal.loop-pair-preserved
+pub loop-number-preserved : goal.loop-number-preserved
 unfolding views_of
-loop-pair-preserved c =
-    let ps = c.args.touched.now in
+loop-number-preserved c =
+    let ns = c.args.numbers.now in
     let place = c.args.place in
-    let tells = c.args.tells in
-    let i = c.loop-pair.pair-index in
-    let below : i < length ps = omega arith in
-    let p : ℕ × ℕ = get_or ps i (0, 0) in
-    let here : Option Named = c.descriptor.result in
+    let i = c.loop-number.number-index in
+    let below : i < length ns = omega arith in
+    let p : ℕ × ℕ = get_or ns i (0, 0) in
+    let here : Option Named = c.descriptor-named.result in
     let after : Views = views_of (world_of c.args.world.now) in
-    let here_is : here ≡ after.descriptor p.0 p.1 = search rules in
-    let start = c.args.numbers.now in
-    let cur = c.loop-pair.numbers in
-    let new = c.note.new.self in
-    let put : (pid number at : ℕ) → named_at new at pid number ≡ cond (pair_eq p (pid, number) && leb place at) here (named_at cur at pid number) =
-    c.in_ok-had.ensures.noted in
-    let added : AreAmong (targets_left tells c.in_ok-had.had ++ c.loop-pair.targets.items) c.add_left.new.targets.items = c.in_ok-add_left.ensures in
+    let start = c.args.timelines.now.table in
+    let old = c.loop-number.timelines.table in
+    let new = c.note.new.self.table in
+    let same : Bool = named_eq (last_value None (marks_at pair_eq old p)) here in
+    let put : (other : ℕ × ℕ) → marks_at pair_eq new other
+    ≡ marks_at pair_eq old other ++ marked (pair_eq p other && not same) place here = c.in_ok-had.ensures.noted in
+    let up : IsUpTo place (marks_at pair_eq old p) = c.loop-number.invariant.up_to p in
+    let up_here : place ≤ place = omega arith in
+    let added : AreAmong (targets_left c.args.tells c.in_ok-had.had ++ c.loop-number.targets.items) c.add_left.new.targets.items = c.in_ok-add_left.ensures in
     record {
-      up_to = c.in_ok-had.ensures.up_to;
+      up_to = λ key. subst (IsUpTo place) (sym (put key))
+          (up_to-marked (pair_eq p key && not same) place here (marks_at pair_eq old key) (c.loop-number.invariant.up_to key));
       noted = λ pid number at.
-          let is = pair_eq p (pid, number) in
-          let any = has_number pid number (take i ps) in
-          let read = after.descriptor pid number in
-          let before = named_at start at pid number in
-          put pid number at ∙ ap (λ v. cond (is && leb place at) here v) (c.loop-pair.invariant.noted pid number at)
-          ∙ marked-more is any (leb place at) here read before (same-number after.descriptor p pid number here here_is)
-          ∙ ap (λ b. cond (b && leb place at) read before) (sym (any-more (λ (x : ℕ × ℕ). pair_eq x (pid, number)) ps i (0, 0) below));
-      named = subst (λ xs. AreAmong (flat_map (left_at start place tells) xs ++ c.args.targets.now.items) c.add_left.new.targets.items)
-          (sym (take_more ps i (0, 0) below))
-          (one-number-more (targets_left tells) (λ (q : ℕ × ℕ). named_at start place q.0 q.1)
-          (take i ps) p c.in_ok-had.had c.args.targets.now.items c.loop-pair.targets.items c.add_left.new.targets.items
-          c.loop-pair.invariant.named added
-          (λ fresh. c.in_ok-had.ensures.had ∙ c.loop-pair.invariant.noted p.0 p.1 place
-          ∙ ap (λ b. cond (b && leb place place) (after.descriptor p.0 p.1) (named_at start place p.0 p.1)) fresh));
+          noted-more (pair_eq p (pid, number)) same (has_number pid number (take i ns)) place at here (after.descriptor pid number) None
+          (value_at at None (marks_at pair_eq start (pid, number))) (marks_at pair_eq old (pid, number))
+          (marks_at pair_eq new (pid, number)) (c.loop-number.invariant.up_to (pid, number)) (put (pid, number))
+          (λ is kept. ap (last_value None) (sym (same-number (λ a b. marks_at pair_eq old (a, b)) p pid number (marks_at pair_eq old p) refl is))
+          ∙ same_named (last_value None (marks_at pair_eq old p)) here kept)
+          (c.loop-number.invariant.noted pid number at)
+          (same-number after.descriptor p pid number here c.descriptor-named.ensures)
+          ∙ ap (λ b. cond (b && leb place at) (after.descriptor pid number)
+          (value_at at None (marks_at pair_eq start (pid, number)))) (sym (any-more (λ (x : ℕ × ℕ). pair_eq x (pid, number)) ns i (0, 0) below));
+      named = subst (λ xs. AreAmong (flat_map (left_at start place c.args.tells) xs ++ c.args.targets.now.items) c.add_left.new.targets.items)
+          (sym (take_more ns i (0, 0) below))
+          (one-number-more (targets_left c.args.tells) (λ (q : ℕ × ℕ). value_at place None (marks_at pair_eq start q))
+          (take i ns) p c.in_ok-had.had c.args.targets.now.items c.loop-number.targets.items c.add_left.new.targets.items
+          c.loop-number.invariant.named added
+          (λ fresh. c.in_ok-had.ensures.had ∙ sym (settled place place None (marks_at pair_eq old p) up up_here)
+          ∙ c.loop-number.invariant.noted p.0 p.1 place
+          ∙ ap (λ b. cond (b && leb place place) (after.descriptor p.0 p.1) (value_at place None (marks_at pair_eq start p))) fresh));
     }

@@ -3,8 +3,6 @@ use Rattle.kq_model.specs.declared.why.Why.{Why}
 use Rattle.kq_model.specs.Objects.{counted}
 use Rattle.kq_model.specs.World as model
 use Rattle.kq_process.specs.World.{world_of}
-use Rattle.kq_history.specs.Slots.{AreSlotsOf}
-use Rattle.kq_history.specs.Spoken.{spoken_process}
 use Rattle.kq_history.specs.Tracked.{IsFollowedBy}
 use Rattle.kq_history.proofs.tracking.follow.Goals as goal
 
@@ -14,9 +12,7 @@ on_both (Err e) then p q = tt
 
 pub returns-in-Ok : goal.returns-in-Ok
 returns-in-Ok c =
-    let e = c.args.event.now in
     let effect = c.args.effect.now in
     subst (λ (v : Result (Unit {0}) Why). OnOk c.note.result ((before : model.World counted)
-    → AreSlotsOf (spoken_process e) before c.args.touched.now.before.items
-    → IsFollowedBy c.args.place e v effect.closed effect.hints before (world_of c.args.world.now) c.args.seen.now c.note.new.seen)) (sym c.in-Ok.is)
-    (on_both c.note.result (λ up noted before are. (up, noted before are)) c.note.ensures.up_to c.note.ensures.noted)
+    → IsFollowedBy c.args.place c.args.event.now v effect.closed effect.hints before (world_of c.args.world.now) c.args.seen.now c.note.new.seen)) (sym c.in-Ok.is)
+    (on_both c.note.result (λ up noted before. (up, noted before)) c.note.ensures.up_to c.note.ensures.noted)

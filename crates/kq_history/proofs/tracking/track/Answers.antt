@@ -14,4 +14,4 @@ returns-clause-tracked c =
     tracked-next t c.args.event.now c.args.place c.args.world.now c.apply_into.new.self c.args.seen.now
     c.follow.new.seen c.apply_into.new.effect at tracked
     c.in_ok-apply_into.ensures.last c.in_ok-apply_into.ensures.effect c.in_ok-apply_into.ensures.world
-    (followed (world_of c.args.world.now) c.in_ok-begin.ensures)) c.follow.ensures
+    (followed (world_of c.args.world.now))) c.follow.ensures

@@ -5,5 +5,4 @@ use Rattle.kq_history.proofs.hearing.Hearing.new.Goals as goal
 pub returns : goal.returns
 returns c =
     λ (version : ℕ).
-    first-said version _ c.new-log.ensures c.new-kqueues.ensures.places c.new-kqueues.ensures.concerned
-    c.new-kqueues.ensures.owners
+    first-said version _ c.new-log.ensures.items c.new-kqueues.ensures.places c.new-kqueues.ensures.concerned

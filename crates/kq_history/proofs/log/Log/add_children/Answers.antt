@@ -12,18 +12,18 @@ use Rattle.kq_history.proofs.log.Log.add_children.Goals as goal
 
 pub returns-then-not-is_of_process-clause-grows : goal.returns-then-not-is_of_process-clause-grows
 returns-then-not-is_of_process-clause-grows c =
-    let none = children-none c.args.source (sym c.is_of_process.ensures ∙ c.if-not-is_of_process.true) c.args.self.now.items in
+    let none = children-none c.args.source (sym c.is_of_process.ensures ∙ c.if-not-is_of_process.true) c.args.self.now in
     subst (λ (ss : List Source). Grows ss c.args.all.now c.args.all.now) (sym none) (grows-nothing c.args.all.now)
 
 pub add_told-requires : goal.add_told-requires
 add_told-requires c =
-    let items = c.args.self.now.items in
+    let items = c.args.self.now in
     let at = c.at.ensures in
     subst (λ (ns : List ℕ). All (λ n. n < length items) ns) (sym at) (standing-inside (comes_from c.args.source) items)
 
 pub returns-clause-grows : goal.returns-clause-grows
 returns-clause-grows c =
-    let items = c.args.self.now.items in
+    let items = c.args.self.now in
     let at = c.at.ensures in
     on_ok_weaker c.add_told.result
     (subst (λ (ss : List Source). Grows ss c.args.all.now c.add_told.new.all) (ap (children_at items) at ∙ children-told items c.args.source))

@@ -12,7 +12,7 @@ use Rattle.kq_history.proofs.log.Log.add_told.Goals as goal
 
 pub loop-number-preserved : goal.loop-number-preserved
 loop-number-preserved c =
-    let items = c.args.self.now.items in
+    let items = c.args.self.now in
     let ns = c.args.numbers.now in
     let i = c.loop-number.number-index in
     let n = get_or ns i 0 in

@@ -12,7 +12,7 @@ use Rattle.kq_history.proofs.log.Log.pick.Goals as goal
 
 pub items_at-requires : goal.items_at-requires
 items_at-requires c =
-    let items = c.args.self.now.items in
+    let items = c.args.self.now in
     let sources = c.args.sources.now in
     let sorted = c.sort.new.self.items in
     let moved : IsPermutation (all_standing items sources) sorted = search rules in
@@ -23,7 +23,7 @@ items_at-requires c =
 
 pub returns : goal.returns
 returns c =
-    let items = c.args.self.now.items in
+    let items = c.args.self.now in
     let sources = c.args.sources.now in
     let sorted = c.sort.new.self.items in
     let moved : IsPermutation (all_standing items sources) sorted = search rules in

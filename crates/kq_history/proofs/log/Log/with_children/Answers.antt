@@ -15,7 +15,7 @@ use Rattle.kq_history.proofs.log.Log.with_children.Goals as goal
 
 pub loop-next-preserved : goal.loop-next-preserved
 loop-next-preserved c =
-    let items = c.args.self.now.items in
+    let items = c.args.self.now in
     let old = c.loop-next.all.list.items in
     let new = c.add_children.new.all.list.items in
     let next = c.loop-next.next in

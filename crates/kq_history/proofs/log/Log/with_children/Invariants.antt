@@ -9,8 +9,8 @@ abbrev pub invariant-loop-next : goal.invariant-loop-next
 invariant-loop-next l = record {
   known : AreKnown l.all;
   more : (x : Source) → has_source l.named x ≡ true → has_source l.all.list.items x ≡ true;
-  least : (among : Source → Bool) → ((x : Source) → has_source l.named x ≡ true → among x ≡ true) → AreClosed l.self.items among
+  least : (among : Source → Bool) → ((x : Source) → has_source l.named x ≡ true → among x ≡ true) → AreClosed l.self among
       → (x : Source) → has_source l.all.list.items x ≡ true → among x ≡ true;
-  done : (parent child : ℕ) → IsForkIn l.self.items parent child
+  done : (parent child : ℕ) → IsForkIn l.self parent child
       → has_source (take l.next l.all.list.items) (of_process parent) ≡ true → has_source l.all.list.items (of_process child) ≡ true;
 }

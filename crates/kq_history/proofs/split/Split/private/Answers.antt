@@ -34,6 +34,6 @@ invariant_of-result c =
       own = subst (λ (x : Traced). IsPrivate x c.args.kqueue concerned.owner c.in_ok-items.items.items) same
           (is-private t c.self.inside.said c.self.invariant.said c.args.kqueue concerned c.of-concerned.ensures
           c.in_ok-items.ensures.0 c.in_ok-items.items.items
-          (subst (λ ss. AreReached (not (t.version == 1)) c.self.inside.said.log.items ss c.in_ok-items.ensures.0) c.as_slice.ensures c.in_ok-items.ensures.1)
+          (subst (λ ss. AreReached (not (t.version == 1)) c.self.inside.said.log ss c.in_ok-items.ensures.0) c.as_slice.ensures c.in_ok-items.ensures.1)
           c.in_ok-items.ensures.2);
     }

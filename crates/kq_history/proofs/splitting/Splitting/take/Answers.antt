@@ -1,8 +1,6 @@
 use Rattle.std.proofs.Common.{◌≡◌, ◌∙◌, ◌+◌, ◌≤◌, ◌++◌, ◌∷◌, [], List, length, take, sym, ap, subst, arith}
 use Rattle.std.proofs.lemmas.List.{take_all, take_more}
 use Rattle.kq_model.specs.declared.event.Event.{Event}
-use Rattle.kq_history.specs.declared.splitting.Splitting.{Splitting}
-use Rattle.kq_history.specs.Said.{AreAllSaid}
 use Rattle.kq_history.specs.Splitting.{IsSplitSoFar}
 use Rattle.kq_history.specs.Traced.{Traced}
 use Rattle.kq_history.proofs.SplittingNext.{none-follow, one-follows, place-of-next}
@@ -11,16 +9,7 @@ use Rattle.kq_history.proofs.splitting.Splitting.take.Goals as goal
 pub loop-taken-init : goal.loop-taken-init
 loop-taken-init c =
     λ (t : Traced) (at : length t.events ≡ c.args.before) (so_far : IsSplitSoFar t c.args.self.now).
-    let given = c.args.self.now in
-    let roomy : Splitting = record given { said = record { log = c.reserve.new.self; kqueues = given.said.kqueues } } in
-    subst (λ (xs : List Event). IsSplitSoFar (record { version = t.version; events = xs }) roomy) (sym (none-follow t c.args.events.now)) (record {
-      tracked = so_far.tracked;
-      said = record {
-        logged = subst (AreAllSaid t) (sym c.reserve.ensures) so_far.said.logged;
-        kqueues = so_far.said.kqueues;
-      };
-      plain_is = so_far.plain_is;
-    })
+    subst (λ (xs : List Event). IsSplitSoFar (record { version = t.version; events = xs }) c.args.self.now) (sym (none-follow t c.args.events.now)) so_far
 
 pub take_one-requires : goal.take_one-requires
 take_one-requires c =

@@ -5,13 +5,14 @@ use Rattle.kq_history.specs.Splitting.{IsSplitSoFar}
 use Rattle.kq_history.specs.Traced.{Traced}
 use Rattle.kq_history.proofs.SplitNext.{one-each, places-rise}
 use Rattle.kq_history.proofs.SplittingNext.{split-next}
+use Rattle.kq_history.proofs.TrackedNext.{up-later}
 use Rattle.kq_history.proofs.splitting.Splitting.take_one.Goals as goal
 
 pub track-requires-clause-places : goal.track-requires-clause-places
 track-requires-clause-places c = omega (arith, c.requires.1, c.requires.2.tracked.after.last)
 
-pub track-requires-clause-before : goal.track-requires-clause-before
-track-requires-clause-before c = (length c.requires.0.events, omega (arith, c.requires.1), c.requires.2.tracked.up_to)
+pub track-requires-clause-up_to : goal.track-requires-clause-up_to
+track-requires-clause-up_to c = up-later (length c.requires.0.events) c.args.place c.args.self.now.seen (omega (arith, c.requires.1)) c.requires.2.tracked.up_to
 
 pub hear-requires-clause-rising : goal.hear-requires-clause-rising
 hear-requires-clause-rising c = places-rise c.requires.0 c.args.self.now.said.kqueues c.requires.2.said.kqueues
@@ -32,5 +33,5 @@ returns c =
     on_ok_weaker c.put_plain.result
     (λ rows (t : Traced) (at : length t.events + 1 ≡ c.args.place) (so_far : IsSplitSoFar t c.args.self.now).
     split-next t c.args.event.now c.args.place c.args.self.now new c.track.new.effect c.of-before_it.result.clock c.of-before_it.result.kqueue
-    c.of-before_it.result.silent at so_far (c.in_ok-track.ensures.tracked t at so_far.tracked) c.in_ok-track.ensures.effect
-    c.of-before_it.ensures.clock c.of-before_it.ensures.kqueue c.of-before_it.ensures.silent c.in_ok-hear.ensures rows) c.put_plain.ensures
+    at so_far (c.in_ok-track.ensures.tracked t at so_far.tracked) c.in_ok-track.ensures.effect
+    c.of-before_it.ensures.clock c.of-before_it.ensures.kqueue c.in_ok-hear.ensures rows) c.put_plain.ensures
