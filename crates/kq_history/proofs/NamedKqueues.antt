@@ -55,7 +55,6 @@ module _ (ms : List Moment) (m : Moment) where
       references-more b.place b.owner ∙ ap (λ rs. references b.place b.owner ms ++ rs) none ∙ append-nil (references b.place b.owner ms) in
       record {
         owner_is = is.owner_is;
-        known = is.known;
         sources = λ x. is.sources x ∙ ap (λ rs. has_source (named_sources b.place b.owner rs) x) (sym same);
       }
 
@@ -68,9 +67,8 @@ module _ (ms : List Moment) (m : Moment) where
       ap (references_in b.place b.owner m.views) is ∙ ap (λ t. cond t (map (reference_of m.views b.owner) call.changes) []) same in
       record {
         owner_is = owner ∙ named.owner_is;
-        known = grows.known named.known;
         sources = λ x.
-            grows.sources named.known x
+            grows x
             ∙ ap₂ (λ p q. p || q) (named.sources x)
             (ap (λ o. has_source (call_sources m.views o call.changes) x) named.owner_is
             ∙ ap (λ ys. has_source ys x) (sym (called-sources m.views b.owner call.changes)))
@@ -141,7 +139,6 @@ uncalled place owner (m ∷ ms) below =
 pub new-named : (ms : List Moment) (b : Birth) (c : Concerned) → IsNew b.place b.owner c → All (CallsBelow b.place) ms → IsNamedBy ms b c
 new-named ms b c new below = record {
   owner_is = new.owner_is;
-  known = new.known;
   sources = λ x.
       ap (λ ys. has_source ys x) new.sources
       ∙ ap (λ rs. has_source (named_sources b.place b.owner rs) x) (sym (uncalled b.place b.owner ms below));

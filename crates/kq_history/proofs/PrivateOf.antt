@@ -31,7 +31,6 @@ use Rattle.kq_history.specs.Items.{bare_items, bare_what, has_source, is_from, s
 use Rattle.kq_history.specs.Kqueues.{IsAtPlace}
 use Rattle.kq_history.specs.Private.{IsPrivate, is_owned}
 use Rattle.kq_history.specs.Said.{IsNamedBy, IsSaid}
-use Rattle.kq_history.specs.Sources.{AreKnown}
 use Rattle.kq_history.specs.Traced.{Traced, births_of, moments_of}
 use Rattle.kq_history.proofs.Descending.{all-of, all-other, no-other}
 use Rattle.kq_history.proofs.NamedKqueues.{named-at}
@@ -45,12 +44,12 @@ or_true false = refl
 
 -- by what its changes name themselves
 named-own : (ms : List Moment) (b : Birth) (c : Concerned) → IsNamedBy ms b c → (w : model.What)
-    → has_source c.sources.list.items (source_of (bare_what w)) ≡ model.is_own b.place b.owner (named_by (references b.place b.owner ms)) w
+    → has_source c.sources.set.keys (source_of (bare_what w)) ≡ model.is_own b.place b.owner (named_by (references b.place b.owner ms)) w
 named-own ms b c is w = is.sources (source_of (bare_what w)) ∙ own-source eq_is b.place b.owner (references b.place b.owner ms) w
 
 -- where no process that descends from one of these is asked for
 pub concerned-named : (ms : List Moment) (b : Birth) (c : Concerned) → IsNamedBy ms b c
-    → IsConcerned (names_in [] (references b.place b.owner ms)) b c.owner c.sources.list.items
+    → IsConcerned (names_in [] (references b.place b.owner ms)) b c.owner c.sources.set.keys
 unfolding model.is_own descended
 concerned-named ms b c is = (is.owner_is, λ w. named-own ms b c is w ∙ same w)
   where
@@ -64,7 +63,7 @@ concerned-named ms b c is = (is.owner_is, λ w. named-own ms b c is w ∙ same w
 -- with the processes that descend from those that are named
 pub concerned-later : (ms : List Moment) (b : Birth) (c : Concerned) (all : List Source) → IsNamedBy ms b c
     → All (λ (m : Moment). eqb m.version 1 ≡ false) ms → AreBornFirst (forks_at ms)
-    → AreWithChildren (bare_items (model.all_items ms)) c.sources.list.items all
+    → AreWithChildren (bare_items (model.all_items ms)) c.sources.set.keys all
     → IsConcerned (names_in (forks_at ms) (references b.place b.owner ms)) b c.owner all
 unfolding model.is_own
 concerned-later ms b c all is later born with_children = (is.owner_is, own)
@@ -73,16 +72,16 @@ concerned-later ms b c all is later born with_children = (is.owner_is, own)
     rs = references b.place b.owner ms
 
     named : List Source
-    named = c.sources.list.items
+    named = c.sources.set.keys
 
-    named_is : (t : Target) → has_source c.sources.list.items (source.Of t) ≡ list_any (λ (r : Reference). is_target r.target t) (references b.place b.owner ms)
+    named_is : (t : Target) → has_source c.sources.set.keys (source.Of t) ≡ list_any (λ (r : Reference). is_target r.target t) (references b.place b.owner ms)
     named_is t = named-own ms b c is (model.Told (t, Readable))
 
     own : (w : model.What) → has_source all (source_of (bare_what w)) ≡ model.is_own b.place b.owner (names_in (forks_at ms) (references b.place b.owner ms)) w
-    own (model.Told p) = all-of ms (references b.place b.owner ms) c.sources.list.items all later born named_is with_children p.0
-    own (model.Closed p) = all-other ms (references b.place b.owner ms) c.sources.list.items all later born named_is with_children (source.Number p.pid p.number) refl ∙ named-own ms b c is (model.Closed p)
-    own (model.Clocked span) = all-other ms (references b.place b.owner ms) c.sources.list.items all later born named_is with_children source.Clock refl ∙ named-own ms b c is (model.Clocked span)
-    own (model.Called call) = all-other ms (references b.place b.owner ms) c.sources.list.items all later born named_is with_children (source.Kqueue call.kqueue) refl ∙ named-own ms b c is (model.Called call)
+    own (model.Told p) = all-of ms (references b.place b.owner ms) c.sources.set.keys all later born named_is with_children p.0
+    own (model.Closed p) = all-other ms (references b.place b.owner ms) c.sources.set.keys all later born named_is with_children (source.Number p.pid p.number) refl ∙ named-own ms b c is (model.Closed p)
+    own (model.Clocked span) = all-other ms (references b.place b.owner ms) c.sources.set.keys all later born named_is with_children source.Clock refl ∙ named-own ms b c is (model.Clocked span)
+    own (model.Called call) = all-other ms (references b.place b.owner ms) c.sources.set.keys all later born named_is with_children (source.Kqueue call.kqueue) refl ∙ named-own ms b c is (model.Called call)
 
 place-at : (bs : List Birth) (index : ℕ) (b : Birth) → index < length bs → (get_or bs index b).place ≡ get_or (map (λ (x : Birth). x.place) bs) index 0
 place-at [] index b within = absurd (omega (arith, within))
@@ -109,9 +108,6 @@ named-there t said is place c at =
       subst (IsNamedBy (moments_of t) (get_or bs index no_birth)) (sym at.3)
           (named-at (moments_of t) bs said.kqueues.concerned.items is.kqueues.concerned index no_birth c within),
     )
-
-pub known-there : (t : Traced) (said : Said) → IsSaid t said → (place : ℕ) (c : Concerned) → IsAtPlace place said.kqueues c → AreKnown c.sources
-known-there t said is place c at = (named-there t said is place c at).3.known
 
 found-there : (bs : List Birth) (index : ℕ) (b : Birth) (place owner : ℕ) → index < length bs → (get_or bs index b).place ≡ place → (get_or bs index b).owner ≡ owner
     → list_any (λ (x : Birth). (x.place == place) && (x.owner == owner)) bs ≡ true
@@ -165,21 +161,21 @@ no-forks (m ∷ ms) all =
 module _ (t : Traced) (said : Said) (is : IsSaid t said) (place : ℕ) (c : Concerned) (at : IsAtPlace place said.kqueues c) (sources : List Source) where
   -- in a later version than 1 the processes that descend from those that are named are reached
   reached-later : (b : Birth) → IsNamedBy (moments_of t) b c → (t.version == 1) ≡ false
-      → AreWithChildren said.log c.sources.list.items sources
+      → AreWithChildren said.log c.sources.set.keys sources
       → IsConcerned (names_in (forks_at (moments_of t)) (references b.place b.owner (moments_of t))) b c.owner sources
   reached-later b named later with_children =
       concerned-later (moments_of t) b c sources named
       (All-weaker (λ (m : Moment). m.version ≡ t.version) (λ (m : Moment). eqb m.version 1 ≡ false) (λ m of. ap (λ n. eqb n 1) of ∙ later) (moments_of t)
       (all-version t.version 1 (empty_world listed) (plans listed t.version t.events)))
       (born-first listed t.version t.events)
-      (subst (λ xs. AreWithChildren xs c.sources.list.items sources) is.logged with_children)
+      (subst (λ xs. AreWithChildren xs c.sources.set.keys sources) is.logged with_children)
 
   -- where no fork is asked for
-  reached-none : (b : Birth) → IsNamedBy (moments_of t) b c → (forks : List Fork) → forks ≡ [] → sources ≡ c.sources.list.items
+  reached-none : (b : Birth) → IsNamedBy (moments_of t) b c → (forks : List Fork) → forks ≡ [] → sources ≡ c.sources.set.keys
       → IsConcerned (names_in forks (references b.place b.owner (moments_of t))) b c.owner sources
   reached-none b named forks none same =
       subst (IsConcerned (names_in forks (references b.place b.owner (moments_of t))) b c.owner) (sym same)
-      (subst (λ (fs : List Fork). IsConcerned (names_in fs (references b.place b.owner (moments_of t))) b c.owner c.sources.list.items) (sym none)
+      (subst (λ (fs : List Fork). IsConcerned (names_in fs (references b.place b.owner (moments_of t))) b c.owner c.sources.set.keys) (sym none)
       (concerned-named (moments_of t) b c named))
 
   -- version 1 has no forks
@@ -189,16 +185,16 @@ module _ (t : Traced) (said : Said) (is : IsSaid t said) (place : ℕ) (c : Conc
       (All-weaker (λ (m : Moment). m.version ≡ t.version) (λ (m : Moment). m.version ≡ 1) (λ m of. of ∙ eqb-true t.version 1 one) (moments_of t)
       (all-version t.version 1 (empty_world listed) (plans listed t.version t.events)))
 
-  reached-all : AreReached (not (t.version == 1)) said.log c.sources.list.items sources
+  reached-all : AreReached (not (t.version == 1)) said.log c.sources.set.keys sources
       → (b : Birth) → IsNamedBy (moments_of t) b c
       → IsConcerned (names_in (forks_at (moments_of t)) (references b.place b.owner (moments_of t))) b c.owner sources
   reached-all reached b named =
-      by_test (λ v. (t.version == 1) ≡ v → AreReached (not v) said.log c.sources.list.items sources
+      by_test (λ v. (t.version == 1) ≡ v → AreReached (not v) said.log c.sources.set.keys sources
       → IsConcerned (names_in (forks_at (moments_of t)) (references b.place b.owner (moments_of t))) b c.owner sources) (t.version == 1)
       (λ _ one same. reached-none b named (forks_at (moments_of t)) (none-at-first one) same)
       (λ _ later with_children. reached-later b named later with_children) refl reached
 
-  pub is-private : (items : List Item) → AreReached (not (t.version == 1)) said.log c.sources.list.items sources
+  pub is-private : (items : List Item) → AreReached (not (t.version == 1)) said.log c.sources.set.keys sources
       → items ≡ filter (is_from sources) said.log → IsPrivate t place c.owner items
   is-private items reached picked = record {
     owned = owned-there t said is place c at;

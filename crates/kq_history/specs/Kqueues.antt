@@ -7,7 +7,7 @@ use Rattle.kq_model.specs.Views.{Views}
 use Rattle.kq_history.specs.declared.item.Source.TheVariants.{Kqueue}
 use Rattle.kq_history.specs.declared.kqueues.Concerned.{Concerned}
 use Rattle.kq_history.specs.declared.kqueues.Kqueues.{Kqueues}
-use Rattle.kq_history.specs.Sources.{AreKnown, Grows, call_sources}
+use Rattle.kq_history.specs.Sources.{Grows, call_sources}
 
 -- the place stands there and nowhere else
 pub record IsAlone (place : ℕ) (places : List ℕ) (index : ℕ) : Type 0 where
@@ -28,8 +28,7 @@ IsAtPlace place k c =
 -- a new kqueue is concerned by its calls alone
 pub record IsNew (place owner : ℕ) (c : Concerned) : Type 0 where
   pub owner_is : c.owner ≡ owner
-  pub known : AreKnown c.sources
-  pub sources : c.sources.list.items ≡ Kqueue place ∷ []
+  pub sources : c.sources.set.keys ≡ Kqueue place ∷ []
 
 -- the kqueue of this place is concerned by what these changes name too; the others are as they were
 pub record IsNamedAt (place : ℕ) (views : Views) (changes : List Change) (old new : Kqueues) : Type 0 where

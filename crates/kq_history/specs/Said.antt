@@ -20,7 +20,7 @@ use Rattle.kq_history.specs.declared.hearing.Hearing.{Hearing}
 use Rattle.kq_history.specs.declared.said.Said.{Said}
 use Rattle.kq_history.specs.Items.{bare_items, has_source}
 use Rattle.kq_history.specs.Kqueues.{IsNamedAt, IsNew}
-use Rattle.kq_history.specs.Sources.{AreKnown, named_sources}
+use Rattle.kq_history.specs.Sources.{named_sources}
 use Rattle.kq_history.specs.Traced.{Traced, births_of, moments_of, places_of}
 
 -- ---- one record
@@ -53,8 +53,7 @@ AreHeard place None None views old new = new ≡ old
 -- a kqueue's owner, and the sources of its calls and of what its changes name
 pub record IsNamedBy (ms : List Moment) (b : Birth) (c : Concerned) : Type 0 where
   pub owner_is : c.owner ≡ b.owner
-  pub known : AreKnown c.sources
-  pub sources : (x : Source) → has_source c.sources.list.items x
+  pub sources : (x : Source) → has_source c.sources.set.keys x
       ≡ has_source (named_sources b.place b.owner (references b.place b.owner ms)) x
 
 -- each kqueue, side by side with its birth

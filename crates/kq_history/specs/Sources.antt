@@ -1,9 +1,6 @@
 -- Sources, each once; and those of what the changes of a kqueue name.
-use Rattle.std.specs.Prelude.{◌≡◌, ◌||◌, ℕ, Bool, false, Box, List, [], ◌∷◌, ◌++◌, drop}
-use Rattle.std.specs.Prelude.{Option, Some, None}
-use Rattle.std.specs.Prelude.{if◌then◌else◌}
-use Rattle.std.specs.HashSet.{contains, HashSet}
-use Rattle.std.specs.List.{IsDistinct, flat_map}
+use Rattle.std.specs.Prelude.{◌≡◌, ◌||◌, ℕ, Bool, List, [], ◌∷◌, ◌++◌, Option, Some, None, if◌then◌else◌}
+use Rattle.std.specs.List.{flat_map}
 use Rattle.kq_model.specs.declared.change.Change.{Change}
 use Rattle.kq_model.specs.declared.object.Target.{Target}
 use Rattle.kq_model.specs.Knote.{watches_number, is_timer}
@@ -12,27 +9,12 @@ use Rattle.kq_model.specs.Views.{Views}
 use Rattle.kq_history.specs.declared.item.Source.{Source}
 use Rattle.kq_history.specs.declared.item.Source.TheVariants.{Number, Of, Clock, Kqueue}
 use Rattle.kq_history.specs.declared.sources.Sources.{Sources}
-use Rattle.kq_history.specs.Items.{has_source, source_eq}
-
--- so many are looked through one by one
-abbrev pub few_sources : ℕ
-few_sources = 8
-
--- in a set, if there is one
-abbrev pub is_known : {S A : Type 0} → Option (Box (HashSet Source S) A) → Source → Bool
-is_known None x = false
-is_known (Some set) x = contains source_eq set.value x
-
--- a list without doubles, and the set of those behind the first few
-pub record AreKnown (s : Sources) : Type 0 where
-  pub distinct : IsDistinct source_eq s.list.items
-  pub same : (x : Source) → is_known s.known x ≡ has_source (drop few_sources s.list.items) x
+use Rattle.kq_history.specs.Items.{has_source}
 
 -- these came to those that there were
-pub record Grows (extra : List Source) (old new : Sources) : Type 0 where
-  pub known : AreKnown old → AreKnown new
-  pub sources : AreKnown old → (x : Source)
-      → has_source new.list.items x ≡ (has_source old.list.items x || has_source extra x)
+abbrev pub Grows : List Source → Sources → Sources → Type 0
+Grows extra old new =
+    (x : Source) → has_source new.set.keys x ≡ (has_source old.set.keys x || has_source extra x)
 
 -- the one list begins as the other is
 abbrev pub Begins : List Source → List Source → Type 0

@@ -4,7 +4,7 @@ ghost use Rattle.kq_history.specs.Children.{child_told, children_at, children_of
 ghost use Rattle.kq_history.specs.Children.{AreWithChildren};
 ghost use Rattle.kq_history.specs.Items.{is_from, source_eq};
 ghost use Rattle.kq_history.specs.Log.{all_standing, comes_from, item_at, standing};
-ghost use Rattle.kq_history.specs.Sources.{AreKnown, Begins, Grows};
+ghost use Rattle.kq_history.specs.Sources.{Begins, Grows};
 ghost use Rattle.kq_history.specs.declared.item.Source.{Source};
 
 use crate::item::{Item, Source, What};
@@ -103,8 +103,7 @@ impl Log {
     /// The sources with those of the processes that descend from theirs, by what the items say of
     /// forks. It costs the items of these processes, which are among those that are picked.
     pub fn with_children(&self, named: &[Source]) -> Result<Sources, Memory>
-        ensures known { IfOk result AreKnown }
-        ensures sources { IfOk result (λ all. AreWithChildren self.now named.now all.list.items) }
+        ensures { IfOk result (λ all. AreWithChildren self.now named.now all.set.keys) }
     {
         let mut all = Sources::of(self.allocator(), named)?;
         for next in 0..usize::MAX {
@@ -133,7 +132,7 @@ impl Log {
     /// The children of which the items of a source tell.
     fn add_children(&self, all: &mut Sources, source: Source) -> Result<(), Memory>
         ensures grows { OnOk result (Grows (children_of self.now source) all.old all.new) }
-        ensures begins { OnOk result (Begins all.old.list.items all.new.list.items) }
+        ensures begins { OnOk result (Begins all.old.set.keys all.new.set.keys) }
     {
         if !is_of_process(source) {
             return Ok(());
@@ -145,7 +144,7 @@ impl Log {
     fn add_told(&self, all: &mut Sources, numbers: &[usize]) -> Result<(), Memory>
         requires { All (λ n. n < length self.now) numbers.now }
         ensures grows { OnOk result (Grows (children_at self.now numbers.now) all.old all.new) }
-        ensures begins { OnOk result (Begins all.old.list.items all.new.list.items) }
+        ensures begins { OnOk result (Begins all.old.set.keys all.new.set.keys) }
     {
         for number in numbers {
             let item = self.get(*number);

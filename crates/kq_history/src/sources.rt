@@ -1,62 +1,46 @@
-ghost use Rattle.std.specs.Prelude.{◌≡◌, ◌++◌, ◌∷◌, [], cond, false, true, slice_get, IfOk, OnOk};
+ghost use Rattle.std.specs.Prelude.{◌≡◌, ◌∷◌, [], slice_get, IfOk, OnOk};
+ghost use Rattle.std.specs.List.{IsDistinct};
 ghost use Rattle.kq_history.specs.Items.{has_source, source_eq};
-ghost use Rattle.kq_history.specs.Sources.{is_known};
 ghost use Rattle.kq_history.specs.declared.item.Source.{Source as declared_source};
 ghost use Rattle.kq_model.specs.Knote.{is_timer, watches_number};
 ghost use Rattle.kq_model.specs.References.{named_target, unless_file};
 
 use crate::item::Source;
+use indexmap::IndexSet;
 use kq_model::{Change, Filter, Memory, Target, Views, target_of};
-use smallvec::SmallVec;
 use std::alloc::Global;
-use std::collections::HashSet;
 
-/// Most kqueues have no more, and need no memory for them: one for their calls, one for what they watch, and one for
-/// the number by which it is named.
-const SOURCES_OF_MOST: usize = 3;
-
-/// So many are looked through; only those behind them need a set.
-const FEW_SOURCES: usize = 8;
-
-/// Sources, each once (`AreKnown`), but after Memory. Most kqueues are concerned by a few alone, and
-/// need no set.
+/// Sources, each once, in the order in which they came.
 #[derive(Drop)]
 pub struct Sources {
-    pub(crate) list: SmallVec<Source, SOURCES_OF_MOST>,
-    /// Those behind the first few, if there are any.
-    pub(crate) known: Option<Box<HashSet<Source>>>,
+    pub(crate) set: IndexSet<Source>,
 }
 
 impl Sources {
-    ghost use Rattle.kq_history.specs.Sources.{AreKnown, Begins, Grows, call_sources, change_sources};
+    ghost use Rattle.kq_history.specs.Sources.{Begins, Grows, call_sources, change_sources};
     ghost use Rattle.kq_history.specs.Sources.{clock_sources, number_sources, target_sources};
 
     /// No source.
     pub fn new(alloc: Global) -> Self
-        ensures list { result.list.items ≡ [] }
-        ensures known { AreKnown result }
+        ensures { result.set.keys ≡ [] }
     {
         Sources {
-            list: SmallVec::new(alloc),
-            known: None,
+            set: IndexSet::new(alloc),
         }
     }
 
     /// One source alone.
     pub fn one(alloc: Global, source: Source) -> Result<Self, Memory>
-        ensures list { IfOk result (λ s. s.list.items ≡ source ∷ []) }
-        ensures known { IfOk result AreKnown }
+        ensures { IfOk result (λ s. s.set.keys ≡ source ∷ []) }
     {
-        let mut sources = Sources::new(alloc);
-        sources.push(source)?;
-        Ok(sources)
+        let mut set = IndexSet::new(alloc);
+        set.insert(source)?;
+        Ok(Sources { set })
     }
 
     /// Those of a list, each once.
     pub fn of(alloc: Global, list: &[Source]) -> Result<Self, Memory>
-        ensures known { IfOk result AreKnown }
-        ensures sources { IfOk result (λ s. (x : declared_source)
-            → has_source s.list.items x ≡ has_source list.now x) }
+        ensures { IfOk result (λ s. (x : declared_source) → has_source s.set.keys x ≡ has_source list.now x) }
     {
         let mut sources = Sources::new(alloc);
         sources.add_all(list)?;
@@ -75,48 +59,24 @@ impl Sources {
 
     /// The source that stands there, if there is one.
     pub fn get(&self, index: usize) -> Option<Source>
-        ensures { result ≡ slice_get self.now.list.items index }
+        ensures { result ≡ slice_get self.now.set.keys index }
     {
-        self.list.as_slice().get(index).copied()
+        self.set.get_index(index).copied()
     }
 
     pub fn as_slice(&self) -> &[Source]
-        ensures { result.now ≡ self.now.list.items }
+        ensures list { result.now ≡ self.now.set.keys }
+        ensures distinct { IsDistinct source_eq result.now }
     {
-        self.list.as_slice()
+        self.set.as_slice()
     }
 
     /// One source more, where it is not there.
     pub fn add(&mut self, source: Source) -> Result<(), Memory>
         ensures grows { OnOk result (Grows (source ∷ []) self.old self.new) }
-        ensures begins { OnOk result (Begins self.old.list.items self.new.list.items) }
+        ensures begins { OnOk result (Begins self.old.set.keys self.new.set.keys) }
     {
-        if self.has(&source) {
-            return Ok(());
-        }
-        self.push(source)
-    }
-
-    /// Whether the source is there.
-    fn has(&self, source: &Source) -> bool
-        ensures { AreKnown self.now → result ≡ has_source self.now.list.items source.now }
-    {
-        let few = self.list.len().min(FEW_SOURCES);
-        let (first, _) = self.list.as_slice().split_at(few);
-        first.contains(source) || is_known(&self.known, source)
-    }
-
-    /// One source more, which is not there.
-    fn push(&mut self, source: Source) -> Result<(), Memory>
-        requires { AreKnown self.old → has_source self.old.list.items source ≡ false }
-        ensures list { OnOk result (self.new.list.items ≡ self.old.list.items ++ source ∷ []) }
-        ensures grows { OnOk result (Grows (source ∷ []) self.old self.new) }
-    {
-        self.list.push(source)?;
-        if self.list.len() > FEW_SOURCES {
-            let alloc = *self.list.allocator();
-            put_known(alloc, &mut self.known, source)?;
-        }
+        self.set.insert(source)?;
         Ok(())
     }
 
@@ -135,7 +95,7 @@ impl Sources {
     /// The target that a change names, where it names one.
     pub(crate) fn add_target(&mut self, target: Option<Target>) -> Result<(), Memory>
         ensures grows { OnOk result (Grows (target_sources target) self.old self.new) }
-        ensures begins { OnOk result (Begins self.old.list.items self.new.list.items) }
+        ensures begins { OnOk result (Begins self.old.set.keys self.new.set.keys) }
     {
         match target {
             None => Ok(()),
@@ -176,38 +136,6 @@ impl Sources {
         }
         Ok(())
     }
-}
-
-/// Whether a source is among those behind the first few.
-fn is_known(known: &Option<Box<HashSet<Source>>>, source: &Source) -> bool
-    ensures { result ≡ is_known known.now source.now }
-{
-    match known {
-        None => false,
-        Some(set) => set.contains(source),
-    }
-}
-
-/// One more behind the first few. After Memory nothing is known.
-fn put_known(
-    alloc: Global,
-    known: &mut Option<Box<HashSet<Source>>>,
-    source: Source,
-) -> Result<(), Memory>
-    ensures { OnOk result ((other : declared_source)
-        → is_known known.new other ≡ cond (source_eq source other) true (is_known known.old other)) }
-{
-    match known {
-        Some(set) => {
-            set.insert(source)?;
-        }
-        None => {
-            let mut set = HashSet::new(alloc);
-            set.insert(source)?;
-            *known = Some(Box::new(alloc, set)?);
-        }
-    }
-    Ok(())
 }
 
 /// Whether a filter watches what a number names.

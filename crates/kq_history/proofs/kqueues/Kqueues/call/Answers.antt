@@ -1,5 +1,5 @@
 -- A call without changes names nothing.
-use Rattle.std.proofs.Common.{◌≡◌, [], refl, sym, subst, rules}
+use Rattle.std.proofs.Common.{◌≡◌, [], get_or, refl, sym, subst, rules}
 use Rattle.std.proofs.lemmas.List.{nil_from_length}
 use Rattle.kq_history.specs.Kqueues.{IsNamedAt}
 use Rattle.kq_history.proofs.Known.{grows-nothing}
@@ -12,6 +12,6 @@ returns-then-is_empty-clause-named g c =
     subst (λ changes. IsNamedAt c.args.place (g.V.Views.sees c.args.views.now) changes k k) (sym none) (record {
       length_is = refl;
       owners = λ index d. refl;
-      named = λ index d within here. grows-nothing _;
+      named = λ index d within here. grows-nothing (get_or k.concerned.items index d).sources;
       others = λ index d away. refl;
     })

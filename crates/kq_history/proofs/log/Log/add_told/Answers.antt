@@ -24,6 +24,6 @@ loop-number-preserved c =
       grows = subst (λ (ss : List Source). Grows ss c.args.all.now c.add_target.new.self) (sym all)
           (grows-then (children_at items (take i ns)) (at n) c.args.all.now c.loop-number.all c.add_target.new.self c.loop-number.invariant.grows
           (subst (λ t. Grows (target_sources t) c.loop-number.all c.add_target.new.self) here c.in_ok-add_target.ensures.grows));
-      begins = begins-then c.args.all.now.list.items c.loop-number.all.list.items c.add_target.new.self.list.items
+      begins = begins-then c.args.all.now.set.keys c.loop-number.all.set.keys c.add_target.new.self.set.keys
           c.loop-number.invariant.begins c.in_ok-add_target.ensures.begins;
     }

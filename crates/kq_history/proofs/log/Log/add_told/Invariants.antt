@@ -6,5 +6,5 @@ use Rattle.kq_history.proofs.log.Log.add_told.Given as goal
 abbrev pub invariant-loop-number : goal.invariant-loop-number
 invariant-loop-number l = record {
   grows : Grows (children_at l.self (take l.number-index l.numbers)) l.initial.all l.all;
-  begins : Begins l.initial.all.list.items l.all.list.items;
+  begins : Begins l.initial.all.set.keys l.all.set.keys;
 }

@@ -16,15 +16,15 @@ use Rattle.kq_history.proofs.log.Log.with_children.Goals as goal
 pub loop-next-preserved : goal.loop-next-preserved
 loop-next-preserved c =
     let items = c.args.self.now in
-    let old = c.loop-next.all.list.items in
-    let new = c.add_children.new.all.list.items in
+    let old = c.loop-next.all.set.keys in
+    let new = c.add_children.new.all.set.keys in
     let next = c.loop-next.next in
     let s = c.in-Some.source in
     let kids = children_of items s in
     let inv = c.loop-next.invariant in
     let grows = c.in_ok-add_children.ensures.grows in
     let begins = c.in_ok-add_children.ensures.begins in
-    let has = grows.sources inv.known in
+    let has = grows in
     let at = sym c.in-Some.ensures in
     let inside = slice_get_within old next s at in
     let there = get_or_from_slice_get old next s Clock at in
@@ -34,7 +34,6 @@ loop-next-preserved c =
     ap (take (next + 1)) begins.1 ∙ take-append-le (next + 1) old begins.0 (omega (arith, inside))
     ∙ take_more old next Clock inside ∙ ap (λ (x : Source). take next old ++ x ∷ []) there in
     record {
-      known = grows.known inv.known;
       more = λ x is. kept x (inv.more x is);
       least = λ among named closed x is.
           by_test (λ b. has_source old x ≡ b → b || has_source kids x ≡ true → among x ≡ true) (has_source old x)
@@ -52,9 +51,9 @@ loop-next-preserved c =
           refl both;
     }
 
-pub returns-in_default-clause-sources : goal.returns-in_default-clause-sources
-returns-in_default-clause-sources c =
-    let all = c.loop-next.all.list.items in
+pub returns-in_default : goal.returns-in_default
+returns-in_default c =
+    let all = c.loop-next.all.set.keys in
     let inv = c.loop-next.invariant in
     let whole : take c.loop-next.next all ≡ all = take_all c.loop-next.next all (past all c.loop-next.next (sym c.in_default.ensures)) in
     record {

@@ -1,11 +1,9 @@
 use Rattle.std.proofs.Common.{◌≡◌, ◌∙◌, ◌==◌, not, List, ℕ, sym, subst, rules}
-use Rattle.std.specs.List.{Contains, IsDistinct}
-use Rattle.kq_history.specs.declared.item.Source.{Source}
-use Rattle.kq_history.specs.Items.{source_eq}
+use Rattle.std.specs.List.{Contains}
 use Rattle.kq_history.specs.Children.{AreReached}
 use Rattle.kq_history.specs.Private.{IsPrivate}
 use Rattle.kq_history.specs.Traced.{Traced, places_of}
-use Rattle.kq_history.proofs.PrivateOf.{is-private, known-there}
+use Rattle.kq_history.proofs.PrivateOf.{is-private}
 use Rattle.kq_history.proofs.SplitNext.{one-each, places-rise}
 use Rattle.kq_history.proofs.split.Split.private.Goals as goal
 
@@ -20,11 +18,6 @@ of-concerned-requires-clause-born c =
     let same : c.self.inside.said.kqueues.places.items ≡ places_of c.args.self.now = c.self.invariant.said.kqueues.births ∙ search rules in
     subst (λ (ps : List ℕ). Contains ps c.args.kqueue) (sym same) c.requires
 
-pub pick_reached-requires : goal.pick_reached-requires
-pick_reached-requires c =
-    subst (λ (ss : List Source). IsDistinct source_eq ss) (sym c.as_slice.ensures)
-    (known-there _ c.self.inside.said c.self.invariant.said c.args.kqueue c.of-concerned.result.now c.of-concerned.ensures).distinct
-
 pub invariant_of-result : goal.invariant_of-result
 invariant_of-result c =
     let t : Traced = record { version = c.self.inside.version; events = c.self.inside.events.now } in
@@ -34,6 +27,6 @@ invariant_of-result c =
       own = subst (λ (x : Traced). IsPrivate x c.args.kqueue concerned.owner c.in_ok-items.items.items) same
           (is-private t c.self.inside.said c.self.invariant.said c.args.kqueue concerned c.of-concerned.ensures
           c.in_ok-items.ensures.0 c.in_ok-items.items.items
-          (subst (λ ss. AreReached (not (t.version == 1)) c.self.inside.said.log ss c.in_ok-items.ensures.0) c.as_slice.ensures c.in_ok-items.ensures.1)
+          (subst (λ ss. AreReached (not (t.version == 1)) c.self.inside.said.log ss c.in_ok-items.ensures.0) c.as_slice.ensures.list c.in_ok-items.ensures.1)
           c.in_ok-items.ensures.2);
     }
