@@ -1,6 +1,6 @@
 -- The targets of what numbers named before a record are among those that were added one number after the other.
 use Rattle.std.proofs.Common.{◌≡◌, ◌∙◌, ◌==◌, ◌||◌, ◌++◌, ◌∷◌, [], ℕ, ◌&&◌, Bool, true, false, eq-eqb, List, Option, refl, sym, ap, ap₂, subst}
-use Rattle.std.specs.List.{flat_map, list_any}
+use Rattle.std.specs.List.{flat_map}
 use Rattle.std.proofs.lemmas.Bool.{and_parts, eqb-true, false≢true}
 use Rattle.std.proofs.lemmas.List.{append-nil}
 use Rattle.std.proofs.lemmas.List.Folds.{list_any-append}
@@ -10,11 +10,9 @@ use Rattle.kq_model.specs.declared.object.Target.{Target}
 use Rattle.kq_model.specs.Targets.{target_eq}
 use Rattle.kq_model.specs.Views.{Views}
 use Rattle.kq_model.proofs.KnoteLaws.{by_test}
-use Rattle.kq_model.proofs.SameTarget.{same_target}
 use Rattle.kq_history.specs.Noted.{IsNextWorld}
-use Rattle.kq_history.specs.Keys.{pair_eq, target_key}
+use Rattle.kq_history.specs.Keys.{pair_eq}
 use Rattle.kq_history.specs.Touched.{has_number, has_target, AreAmong}
-use Rattle.kq_history.proofs.NotedKeys.{as_target}
 
 -- ---- tests of two parts
 
@@ -39,34 +37,6 @@ in-first xs ys t is = list_any-append (λ x. target_eq x t) xs ys ∙ or_left (h
 
 pub in-second : (xs ys : List Target) (t : Target) → has_target t ys ≡ true → has_target t (xs ++ ys) ≡ true
 in-second xs ys t is = list_any-append (λ x. target_eq x t) xs ys ∙ or_right (has_target t xs) (has_target t ys) is
-
--- ---- one target
-
-found : (ts : List Target) (x : Target) → list_any (λ y. target_key y x) ts ≡ true → has_target x ts ≡ true
-found [] x is = absurd (false≢true is)
-found (y ∷ ts) x is =
-    or_cases (target_key y x) (list_any (λ z. target_key z x) ts) is
-    (λ here. or_left (target_eq y x) (has_target x ts) (sym (as_target y x) ∙ here))
-    (λ later. or_right (target_eq y x) (has_target x ts) (found ts x later))
-
--- that one was found
-pub found-there : (ts : List Target) (x : Target) → list_any (λ y. target_key y x) ts ≡ true → AreAmong (x ∷ ts) ts
-found-there ts x is = λ t either.
-    or_cases (target_eq x t) (has_target t ts) either
-    (λ here. subst (λ y. has_target y ts ≡ true) (same_target x t here) (found ts x is))
-    (λ there. there)
-
-pub pushed-there : (old new : List Target) (x : Target) → new ≡ old ++ x ∷ [] → AreAmong (x ∷ old) new
-pushed-there old new x pushed = λ t is.
-    subst (λ ts. has_target t ts ≡ true) (sym pushed)
-    (or_cases (target_eq x t) (has_target t old) is
-    (λ here. in-second old (x ∷ []) t (or_left (target_eq x t) false here))
-    (λ there. in-first old (x ∷ []) t there))
-
--- behind the same others
-pub among-behind : (xs ys zs : List Target) → AreAmong ys zs → AreAmong (xs ++ ys) (xs ++ zs)
-among-behind xs ys zs among = λ t is.
-    in-either xs ys t is (λ in_xs. in-first xs zs t in_xs) (λ in_ys. in-second xs zs t (among t in_ys))
 
 -- ---- number by number
 

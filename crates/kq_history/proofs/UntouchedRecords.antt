@@ -100,9 +100,6 @@ module _ (place : ℕ) (e : Event) (w : World counted) (p : Plan) (closed : List
 
   -- ---- numbers
 
-  is_it : ℕ → ℕ → Descriptor → Bool
-  is_it pid number d = eqb d.pid pid && eqb d.number number
-
   said-touched : (pid number : ℕ) → has_number pid number (opened_numbers e) ≡ true → has_number pid number numbers ≡ true
   said-touched pid number there =
       in_right (λ (x : ℕ × ℕ). (x.0 == pid) && (x.1 == number)) closed (opened_numbers e ++ open_numbers (spoken_process e) after)

@@ -1,5 +1,5 @@
 -- The world is that of the trace with the record that was applied.
-use Rattle.std.proofs.Common.{◌≡◌, ◌+◌, ℕ, length, [], ◌∷◌, ◌++◌, refl, sym, ap, subst, ◌∙◌}
+use Rattle.std.proofs.Common.{◌≡◌, ◌+◌, length, [], ◌∷◌, ◌++◌, sym, ap, subst, ◌∙◌}
 use Rattle.std.proofs.lemmas.List.{length-append}
 use Rattle.kq_model.specs.declared.event.Event.{Event}
 use Rattle.kq_model.specs.CountedWorld.{IsCountedWorld}
@@ -46,9 +46,3 @@ module _ (t : Traced) (e : Event) (old : World) (after : IsWorldAfter t old) whe
       last = last ∙ sym (length_is t e);
       listed = subst (λ (w : model.World counted). AreListed w.objects) (sym same) (next-listed t e counted_now listed_now p is);
     }
-
-pub world-next : (t : Traced) (e : Event) (place : ℕ) (old new : World) → length t.events + 1 ≡ place → IsWorldAfter t old
-    → last_of new ≡ place → IsNext place (plan place e) old new → IsWorldAfter (longer t e) new
-world-next t e place old new at after =
-    subst (λ p. last_of new ≡ p → IsNext p (plan p e) old new → IsWorldAfter (longer t e) new) at
-    (λ last is. world-by t e old after new last (plan (end t e) e (now t e)) refl (planned-next t e old after new is))

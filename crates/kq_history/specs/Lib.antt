@@ -2,7 +2,6 @@ pub mod Timeline
 pub mod Timelines
 pub mod Items
 pub mod Shelves
-pub mod Hashed
 pub mod Log
 pub mod Sources
 pub mod Kqueues

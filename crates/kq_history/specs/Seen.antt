@@ -21,7 +21,8 @@ seen_by s place = record {
 }
 
 -- of what a number names by its marks at a place, what may have ended
-abbrev pub left_at : {S : Type 0} → HashMap (ℕ × ℕ) (List (Mark (Option Named))) S → ℕ → Bool → ℕ × ℕ → List Target
+abbrev pub left_at : {S : Type 0} → HashMap (ℕ × ℕ) (List (Mark (Option Named))) S → ℕ → Bool
+    → ℕ × ℕ → List Target
 left_at table place tells p = targets_left tells (value_at place None (marks_at pair_eq table p))
 
 -- at every place what was seen is what these worlds show, whose clock is within its range

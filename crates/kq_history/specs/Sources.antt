@@ -1,5 +1,6 @@
 -- Sources, each once; and those of what the changes of a kqueue name.
-use Rattle.std.specs.Prelude.{◌≡◌, ◌||◌, ℕ, Bool, List, [], ◌∷◌, ◌++◌, Option, Some, None, if◌then◌else◌}
+use Rattle.std.specs.Prelude.{◌≡◌, ◌||◌, ℕ, Bool, List, [], ◌∷◌, ◌++◌, Option, Some, None}
+use Rattle.std.specs.Prelude.{if◌then◌else◌}
 use Rattle.std.specs.List.{flat_map}
 use Rattle.kq_model.specs.declared.change.Change.{Change}
 use Rattle.kq_model.specs.declared.object.Target.{Target}

@@ -16,9 +16,6 @@ use kq_model::{Event, Hint, Memory, Named, Target};
 use kq_process::{Effect, World};
 use std::alloc::Global;
 
-/// Where there are more targets, none is looked for among them.
-const MOST_LOOKED_THROUGH: usize = 8;
-
 /// What a record touched. One serves all records of a pass, so that none allocates for itself.
 #[derive(Drop)]
 pub struct Touched {
@@ -192,14 +189,11 @@ fn add_named(targets: &mut Vec<Target>, named: Option<Named>) -> Result<(), Memo
     }
 }
 
-/// Adds a target, unless it is there: noting one twice costs more than looking through a few.
+/// Adds a target.
 fn add(targets: &mut Vec<Target>, target: Target) -> Result<(), Memory>
     ensures { OnOk result (AreAmong (target ∷ targets.old.items) targets.new.items) }
 {
-    if targets.len() <= MOST_LOOKED_THROUGH && targets.as_slice().contains(&target) {
-        return Ok(());
-    }
-    Ok(targets.push(target)?)
+    push(targets, target)
 }
 
 fn push(targets: &mut Vec<Target>, target: Target) -> Result<(), Memory>
