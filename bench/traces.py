@@ -154,7 +154,7 @@ def signals(kevents):
 def timers(count, period, longer, step, fflags=NOTE_NSECONDS):
     """The clock goes on by `step` ns a turn; so many timers have periods from `period` ns on, each `longer` ns longer
     than the last. With AT_A_MOMENT, in version 2, these are moments. A call that asks for nothing stands behind each
-    step, since a replay makes one step of those with no call between them, and none of those behind the last call."""
+    step."""
     changes = [change(it, ["ADD"], fflags, "TIMER", period + it * longer) for it in range(count)]
     yield from (*OPENING, *in_calls(changes))
     for number in itertools.count(1):
