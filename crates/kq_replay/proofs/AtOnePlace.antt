@@ -15,7 +15,6 @@ use Rattle.kq_model.specs.References.{Names}
 use Rattle.kq_model.specs.System.{row_of}
 use Rattle.kq_model.specs.Tallied.{Called, Kqueue}
 use Rattle.kq_model.specs.Targets.{Posted}
-use Rattle.kq_model.specs.Views.{Views}
 use Rattle.kq_model.specs.World.{Call}
 use Rattle.kq_model.proofs.PrivateParts as parts
 use Rattle.kq_history.specs.declared.item.Item.{Item}
@@ -25,10 +24,10 @@ use Rattle.kq_replay.specs.Alone.{LoneKqueue, after_item, after_items, arrived, 
 use Rattle.kq_replay.specs.Recorded.{IsCallOf}
 use Rattle.kq_replay.proofs.Closes.{close-first}
 
-pub no_names : Names
+no_names : Names
 no_names = record { number = λ n. false; target = λ t. false; timer = false }
 
-pub close-none : (owner : ℕ) (kq : Kqueue) → closed owner [] kq ≡ kq
+close-none : (owner : ℕ) (kq : Kqueue) → closed owner [] kq ≡ kq
 close-none owner kq = parts.closed-none tallying no_names owner kq
 
 pub hear-none : (t : Traced) (place : ℕ) (kq : Kqueue) → heard_in t place [] kq ≡ kq
@@ -58,7 +57,7 @@ module _ (t : Traced) (owner : ℕ) where
   unfolding arrived
   stays place told kq rows = cond-true (eqb place place) _ _ (eq-eqb place place refl)
 
-  pub moves : (low place : ℕ) (told : List Posted) (kq : Kqueue) (rows : List Row) → eqb place low ≡ false
+  moves : (low place : ℕ) (told : List Posted) (kq : Kqueue) (rows : List Row) → eqb place low ≡ false
       → arrived place (state low told kq rows) ≡ state place [] (heard_in t low told kq) rows
   unfolding arrived
   moves low place told kq rows other = cond-false (eqb place low) _ _ other

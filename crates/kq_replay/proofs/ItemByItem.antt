@@ -4,7 +4,6 @@ use Rattle.std.proofs.lemmas.Bool.{ne_eqb}
 use Rattle.std.proofs.lemmas.List.{map-append, append_assoc, append-nil}
 use Rattle.std.specs.List.{flat_map}
 use Rattle.kq_model.specs.declared.row.Row.{Row}
-use Rattle.kq_model.specs.Hints.{notified}
 use Rattle.kq_model.specs.Items.{items_of}
 use Rattle.kq_model.specs.Moment.{kqueue_step}
 use Rattle.kq_model.specs.PrivateList.{Concern}

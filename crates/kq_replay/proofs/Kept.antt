@@ -3,12 +3,11 @@ use Rattle.std.proofs.Common.{◌≡◌, ℕ, cond, eqb, [], Option, Some, refl,
 use Rattle.std.proofs.lemmas.Bool.{eqb-true}
 use Rattle.kq_model.specs.declared.event.Event.{Event}
 use Rattle.kq_model.specs.declared.event.Event.TheVariants as event
-use Rattle.kq_model.specs.Hints.{notified}
 use Rattle.kq_model.proofs.KnoteLaws.{by_test}
 use Rattle.kq_history.specs.declared.item.Item.{Item}
 use Rattle.kq_history.specs.declared.item.What.{What}
 use Rattle.kq_history.specs.declared.item.What.TheVariants as what
-use Rattle.kq_history.specs.Traced.{event_at, seen_at}
+use Rattle.kq_history.specs.Traced.{event_at}
 use Rattle.kq_replay.specs.Alone.{LoneKqueue, after_item, arrived, called, gone_on, heard, heard_in}
 use Rattle.kq_replay.specs.Recorded.{IsRecorded, IsSaidBy}
 use Rattle.kq_replay.proofs.AtOnePlace.{hear-none}

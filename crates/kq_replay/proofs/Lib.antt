@@ -11,7 +11,3 @@ pub mod Private
 pub mod Rejoined
 pub mod Collected
 pub mod Kept
-pub mod BetweenCalls
-pub mod OneStep
-pub mod Onward
-pub mod Joined

@@ -6,7 +6,6 @@ use Rattle.kq_model.specs.declared.reply.Reply.TheVariants.{Done}
 use Rattle.kq_model.specs.declared.row.Row.{Row}
 use Rattle.kq_model.specs.Clock.{Span}
 use Rattle.kq_model.specs.Close.{Pair, closed}
-use Rattle.kq_model.specs.Hints.{notified}
 use Rattle.kq_model.specs.Items as model
 use Rattle.kq_model.specs.Items.{clock_whats, call_whats, items_of, whats}
 use Rattle.kq_model.specs.Moment.{Moment, after_call, called_at, happened, kqueue_step}

@@ -57,7 +57,7 @@ span-on (pos moment) now s is = (ap (λ x. event.Clock (pos (to_in x))) is, sym 
     from_in (Some x) = x.from
 span-on (negsuc n) now s is = absurd (cc)
 
-pub clock-record : (e : Event) (now : ℕ) (s : Span) → clock_of e now ≡ Some s → (e ≡ event.Clock (pos s.to)) × (s.from ≡ now)
+clock-record : (e : Event) (now : ℕ) (s : Span) → clock_of e now ≡ Some s → (e ≡ event.Clock (pos s.to)) × (s.from ≡ now)
 unfolding clock_of
 clock-record (event.Clock ns) now s is = span-on ns now s is
 clock-record _ now s is = absurd (cc)

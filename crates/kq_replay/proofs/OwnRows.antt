@@ -1,28 +1,21 @@
--- A kqueue that goes on over its private list, or over what of it can make a difference, gives exactly its rows of the
--- fold of the whole system.
+-- A kqueue that goes on over its private list gives exactly its rows of the fold of the whole system.
 use Rattle.std.proofs.Common.{◌≡◌, ℕ, List, [], Some, sym, ap, ◌∙◌}
-use Rattle.std.proofs.lemmas.List.Elements.{All-contains, All-weaker}
+use Rattle.std.proofs.lemmas.List.Elements.{All-contains}
 use Rattle.std.specs.List.{Contains, flat_map}
 use Rattle.kq_model.specs.declared.row.Row.{Row}
 use Rattle.kq_model.specs.Births.{Birth}
-use Rattle.kq_model.specs.Followers.{names_met}
 use Rattle.kq_model.specs.Hearing.{tallying}
 use Rattle.kq_model.specs.Items.{items_of}
 use Rattle.kq_model.specs.Kqueue.{empty_kqueue}
-use Rattle.kq_model.specs.Moment.{Moment}
 use Rattle.kq_model.specs.Objects.{listed}
 use Rattle.kq_model.specs.OwnedRows.{rows_of}
 use Rattle.kq_model.specs.PrivateList.{Concern, private_by}
-use Rattle.kq_model.specs.Projection.{folded, plans, replayed}
+use Rattle.kq_model.specs.Projection.{folded, replayed}
 use Rattle.kq_model.specs.References.{Names, forks_at, names_in, references}
 use Rattle.kq_model.specs.Replayed.{rows_alone}
 use Rattle.kq_model.specs.Tallied.{Kqueue}
-use Rattle.kq_model.specs.World.{empty_world}
-use Rattle.kq_model.proofs.BornFirst.{born-first}
-use Rattle.kq_model.proofs.FollowsNobody.{met-private}
-use Rattle.kq_model.proofs.HistoryViews.{IsAt, moments-at}
 use Rattle.kq_model.proofs.Projection.{projected}
-use Rattle.kq_history.specs.Concerned.{items_met, private_items}
+use Rattle.kq_history.specs.Concerned.{private_items}
 use Rattle.kq_history.specs.Items.{bare_items}
 use Rattle.kq_history.specs.Traced.{Traced, births_of, moments_of, seen_at}
 use Rattle.kq_replay.specs.Alone.{after_items, unborn}
@@ -43,18 +36,6 @@ module _ (t : Traced) where
       item-by-item t place owner (private_by place owner ns (moments_of t)) 0 [] (empty_kqueue {h = tallying}) [] (all-own t place owner ns)
       ∙ ap (λ (k : Kqueue). rows_alone {h = tallying} t.version place owner (seen_at t) k (private_by place owner ns (moments_of t)))
       (hear-none t 0 (empty_kqueue {h = tallying}))
-
-  -- what can make no difference makes none
-  pub met-rows : (place owner : ℕ) → (after_items (items_met place owner (moments_of t)) (unborn t owner)).rows
-      ≡ (after_items (private_items place owner (moments_of t)) (unborn t owner)).rows
-  met-rows place owner =
-      alone-replayed place owner (names_met place owner (moments_of t))
-      ∙ met-private tallying place owner t.version (seen_at t) (moments_of t)
-      (All-weaker (IsAt t.version 1 (empty_world listed) (plans listed t.version t.events))
-      (λ (m : Moment). (m.version ≡ t.version) × (m.views ≡ seen_at t m.place)) (λ m is. (is.1, is.2)) (moments_of t)
-      (moments-at t.version 1 (empty_world listed) (plans listed t.version t.events)))
-      (born-first listed t.version t.events)
-      ∙ sym (alone-replayed place owner (names_in (forks_at (moments_of t)) (references place owner (moments_of t))))
 
   pub own-rows : (b : Birth) → Contains (births_of t) b
       → (after_items (private_items b.place b.owner (moments_of t)) (unborn t b.owner)).rows ≡ (rows_in_fold t b.place).rows

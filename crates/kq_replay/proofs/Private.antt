@@ -1,10 +1,8 @@
--- A private list as the code has it, whole or from the first call to the last one with its steps of the clock joined:
--- its items are recorded, and what goes on over them gives the kqueue's rows.
-use Rattle.std.proofs.Common.{◌≡◌, ℕ, List, Some, refl, sym, ap, subst, ◌∙◌}
+-- A private list as the code has it: its items are recorded, and what goes on over them gives the kqueue's rows.
+use Rattle.std.proofs.Common.{◌≡◌, ℕ, List, Some, sym, ap, subst, ◌∙◌}
 use Rattle.std.specs.List.{All}
 use Rattle.kq_model.specs.declared.row.Row.{Row}
 use Rattle.kq_model.specs.declared.rows.Rows.{Rows}
-use Rattle.kq_model.specs.Followers.{names_met}
 use Rattle.kq_model.specs.Hearing.{listed}
 use Rattle.kq_model.specs.Objects as objects
 use Rattle.kq_model.specs.OwnedRows.{Rise}
@@ -13,18 +11,14 @@ use Rattle.kq_model.specs.References.{forks_at, names_in, references}
 use Rattle.kq_model.specs.System.{empty_system}
 use Rattle.kq_model.proofs.FoldRows.{fold-rises, part-rises}
 use Rattle.kq_history.specs.declared.item.Item.{Item}
-use Rattle.kq_history.specs.BetweenCalls.{between_calls}
-use Rattle.kq_history.specs.Concerned.{items_met, private_items}
-use Rattle.kq_history.specs.Private.{IsAnswering, IsPrivate}
+use Rattle.kq_history.specs.Concerned.{private_items}
+use Rattle.kq_history.specs.Private.{IsPrivate}
 use Rattle.kq_history.specs.Traced.{Traced, moments_of}
 use Rattle.kq_history.proofs.PrivateOf.{owner-born}
 use Rattle.kq_replay.specs.Alone.{after_items, unborn}
 use Rattle.kq_replay.specs.Recorded.{IsRecorded}
 use Rattle.kq_replay.specs.Replayed.{IsReplayed, rows_in_fold}
-use Rattle.kq_replay.proofs.BetweenCalls.{each-between, shown-alike}
-use Rattle.kq_replay.proofs.Joined.{joined-recorded, joined-rows}
-use Rattle.kq_replay.proofs.Onward.{Onward, between-onward, own-onward}
-use Rattle.kq_replay.proofs.OwnRows.{met-rows, own-rows}
+use Rattle.kq_replay.proofs.OwnRows.{own-rows}
 use Rattle.kq_replay.proofs.Recorded.{items-recorded}
 
 -- the rows of any one kqueue in the fold stand by rising place
@@ -55,26 +49,3 @@ module _ (t : Traced) (kqueue owner : ℕ) (items : List Item) (own : IsPrivate 
         same = ap (λ rs. let one : Rows = record { kqueue = kqueue; rows = rs } in one) same;
         rise = subst Rise (sym same) (fold-part-rises t kqueue);
       }
-
--- of that what can make a difference, from its first call to its last one, with steps of the clock in a row as one
-module _ (t : Traced) (kqueue owner : ℕ) (items : List Item) (own : IsAnswering t kqueue owner items) where
-  abbrev whole : List Item
-  whole = items_met kqueue owner (moments_of t)
-
-  onward : (start : ℕ) × Onward start (between_calls whole)
-  onward = between-onward 0 whole (own-onward t kqueue owner (names_met kqueue owner (moments_of t)))
-
-  pub answering-recorded : All (IsRecorded t) items
-  answering-recorded =
-      subst (All (IsRecorded t)) (sym own.items_are)
-      (joined-recorded t onward.0 (between_calls whole) onward.1 (each-between (IsRecorded t) whole (items-recorded t kqueue owner (names_met kqueue owner (moments_of t)))))
-
-  pub answering-replayed : (rows : List Row) → rows ≡ (after_items items (unborn t owner)).rows
-      → IsReplayed t kqueue (record { kqueue = kqueue; rows = rows })
-  answering-replayed rows are =
-      private-replayed t kqueue owner (private_items kqueue owner (moments_of t)) (record { owned = own.owned; items_are = refl }) rows
-      (are
-      ∙ ap (λ is. (after_items is (unborn t owner)).rows) own.items_are
-      ∙ joined-rows t owner onward.0 (between_calls whole) onward.1
-      ∙ shown-alike t owner whole
-      ∙ met-rows t kqueue owner)

@@ -19,7 +19,7 @@ use Rattle.kq_history.specs.Traced.{Traced}
 use Rattle.kq_history.proofs.Sayings.{says}
 
 -- the clock never goes back
-pub clock-onward : (place to : ℕ) (w : World counted) (p : Plan) → plan place (event.Clock (pos to)) w ≡ Possible p → w.now ≤ to
+clock-onward : (place to : ℕ) (w : World counted) (p : Plan) → plan place (event.Clock (pos to)) w ≡ Possible p → w.now ≤ to
 unfolding plan plan_clock plan_clock_at
 clock-onward place to w p possible =
     by_test (λ b. (if b then Impossible ClockBack else Possible (record idle { clock = Some (record { from = w.now; to = to }) })) ≡ Possible p

@@ -8,16 +8,10 @@ ghost use Rattle.kq_history.specs.Traced.{event_at};
 ghost use Rattle.kq_replay.specs.Alone.{after_item, after_items, arrived, called, gone_on, heard, unborn};
 ghost use Rattle.kq_replay.specs.Recorded.{IsCallOf, IsClockOf, IsRecorded};
 
-use kq_history::{Item, ItemList, Looking, Split, What};
+use kq_history::{Item, Split, What};
 use kq_kevent::Kq;
 use kq_model::{Event, Hint, Memory, Reply, Row, Series, Target};
 use std::marker::Model;
-
-/// A kqueue with fewer items searches for what it looks at.
-const FEW_ITEMS: usize = 16;
-
-/// So many items are looked at ahead.
-const AHEAD: usize = 64;
 
 /// The last moment of the clock, in ns.
 const LAST_MOMENT: u64 = i64::MAX as u64;
@@ -32,7 +26,6 @@ pub struct Alone<'s, 'a> {
     /// The hints that came there, which are heard together.
     told: Vec<(Target, Hint)>,
     rows: Vec<Row>,
-    looking: Looking<'s, 'a>,
 }
 
 impl<'s, 'a> Model for Alone<'s, 'a> {
@@ -50,57 +43,22 @@ impl<'s, 'a> Model for Alone<'s, 'a> {
       rows = a.rows.items;
     } };
 
-    ghost invariant = { λ a. (a.kq.version ≡ a.split.now.version) × (a.looking.trace ≡ a.split.now) };
+    ghost invariant = { λ a. a.kq.version ≡ a.split.now.version };
 }
 
 impl<'s, 'a> Alone<'s, 'a> {
-    /// A kqueue of this process, before the first record, which goes over these items later. Then a look at one of
-    /// these targets begins where the last one ended. Memory: a growth was refused.
-    pub fn new<L: ItemList>(
-        split: &'s Split<'a>,
-        owner: u32,
-        items: &L,
-        targets: &[Target],
-    ) -> Result<Self, Memory>
-        ensures { IfOk result (λ a. a ≡ unborn split.now owner) }
+    /// A kqueue of this process, before the first record.
+    pub fn new(split: &'s Split<'a>, owner: u32) -> Self
+        ensures { result ≡ unborn split.now owner }
     {
         let alloc = split.allocator();
-        let version = split.version();
-        let looking = Looking::new(
-            split,
-            with_slots(items.count(), targets),
-            first_place(items),
-        )?;
-        Ok(Alone {
+        Alone {
             split,
             place: 0,
-            kq: Kq::in_version(alloc, owner, version),
+            kq: Kq::in_version(alloc, owner, split.version()),
             told: Vec::new(alloc),
             rows: Vec::new(alloc),
-            looking,
-        })
-    }
-
-    /// The kqueue after these items more.
-    pub fn go_over<L: ItemList>(&mut self, items: &L) -> Result<(), Memory>
-        requires { All (IsRecorded self.old.trace) (L.list items.now) }
-        ensures { OnOk result (self.new ≡ after_items (L.list items.now) self.old) }
-    {
-        for number in 0..items.count() {
-            self.look_ahead(items, number)?;
-            self.go_on(items.item(number))?;
         }
-        Ok(())
-    }
-
-    /// From time to time makes room for the rows of the items that come next.
-    fn look_ahead<L: ItemList>(&mut self, items: &L, number: usize) -> Result<(), Memory>
-        ensures { OnOk result (self.new ≡ self.old) }
-    {
-        if number % AHEAD != 0 {
-            return Ok(());
-        }
-        Ok(self.rows.reserve(calls_ahead(self.split, items, number))?)
     }
 
     /// Its rows so far.
@@ -149,9 +107,9 @@ impl<'s, 'a> Alone<'s, 'a> {
         if self.told.is_empty() {
             return Ok(());
         }
-        self.looking.go_to(self.place);
         self.kq.reserve_to_follow(self.told.as_slice())?;
-        self.kq.notify(self.told.as_slice(), &self.looking);
+        let views = self.split.at(self.place);
+        self.kq.notify(self.told.as_slice(), &views);
         self.told.clear();
         Ok(())
     }
@@ -219,62 +177,22 @@ impl<'s, 'a> Alone<'s, 'a> {
         let Event::Kevent { changes, room, .. } = event else {
             unreachable!();
         };
-        self.looking.go_to(self.place);
-        let reply = self.kq.call(changes.as_slice(), *room, &self.looking)?;
+        let views = self.split.at(self.place);
+        let reply = self.kq.call(changes.as_slice(), *room, &views)?;
         put_row(&mut self.rows, self.place, reply)
     }
 }
 
-/// The rows that a kqueue of this process gives alone, from these items. A look at one of these targets begins where
-/// the last one ended. Memory: a growth was refused.
-pub fn rows_alone<L: ItemList>(
-    split: &Split,
-    owner: u32,
-    items: &L,
-    targets: &[Target],
-) -> Result<Series<Row>, Memory>
-    requires { All (IsRecorded split.now) (L.list items.now) }
-    ensures { IfOk result (λ rows. rows ≡ (after_items (L.list items.now) (unborn split.now owner)).rows) }
+/// The rows that a kqueue of this process gives alone, from these items. Memory: a growth was refused.
+pub fn rows_alone(split: &Split, owner: u32, items: &[Item]) -> Result<Series<Row>, Memory>
+    requires { All (IsRecorded split.now) items.now }
+    ensures { IfOk result (λ rows. rows ≡ (after_items items.now (unborn split.now owner)).rows) }
 {
-    let mut alone = Alone::new(split, owner, items, targets)?;
-    alone.go_over(items)?;
+    let mut alone = Alone::new(split, owner);
+    for item in items {
+        alone.go_on(*item)?;
+    }
     Ok(alone.into_rows())
-}
-
-/// Of these targets those that get slots: none, where there are so few items that searches cost less.
-fn with_slots(count: usize, targets: &[Target]) -> &[Target] {
-    if count < FEW_ITEMS {
-        return &[];
-    }
-    targets
-}
-
-/// The place of the first item, or 0 where there is none.
-fn first_place<L: ItemList>(items: &L) -> u64 {
-    if items.count() == 0 {
-        return 0;
-    }
-    items.item(0).place
-}
-
-/// How many of the items that come next, from a number on, are calls. Their records are looked at one right after the
-/// other, so that they come from memory together, and each is at hand at its call.
-fn calls_ahead<L: ItemList>(split: &Split, items: &L, number: usize) -> usize {
-    let count = items.count();
-    let mut calls = 0usize;
-    for next in number..count.min(number.saturating_add(AHEAD)) {
-        if let Some(place) = items.call(next)
-            && is_call(split, place)
-        {
-            calls = calls.saturating_add(1);
-        }
-    }
-    calls
-}
-
-/// Whether the record of a place is a call. It looks at the record.
-fn is_call(split: &Split, place: u64) -> bool {
-    matches!(split.event(place), Some(Event::Kevent { .. }))
 }
 
 /// Adds the row of the reply to the record at a place, if it has one.

@@ -26,6 +26,6 @@ impl<'s, 'a> Jobs for Kqueues<'s, 'a> {
 
     fn run(&self, number: u32) -> Result<Rows, Memory> {
         let kqueue = self.split.kqueues()[number as usize];
-        self.split.answering(kqueue)?.replay()
+        self.split.private(kqueue)?.replay()
     }
 }

@@ -3,7 +3,6 @@
 #![tactic(auto)]
 
 mod alone;
-mod answering;
 mod kqueues;
 mod replay;
 mod running;

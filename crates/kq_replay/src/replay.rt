@@ -23,7 +23,7 @@ impl<'s, 'a> Replay for Private<'s, 'a> {
     /// The rows that the kqueue gives alone: from its private list and the world at its places, and from nothing else.
     /// The cost is that of the list and of what the kqueue does.
     fn replay(&self) -> Result<Rows, Memory> {
-        let rows = rows_alone(self.split(), self.owner(), self, &[])?;
+        let rows = rows_alone(self.split(), self.owner(), self.items())?;
         Ok(Rows {
             kqueue: self.kqueue(),
             rows,

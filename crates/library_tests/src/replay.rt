@@ -92,19 +92,14 @@ fn third(rt: &impl Abort, split: &Split) -> u64
     kqueues[2]
 }
 
-fn gives_the_third(items: &impl Replay) -> Result<bool, Memory> {
-    let rows = items.replay()?;
+/// Whether the private list of the third kqueue gives its rows.
+fn is_given(rt: &impl Abort, split: &Split) -> Result<bool, Memory> {
+    let kqueue = third(rt, split);
+    let rows = split.private(kqueue)?.replay()?;
     Ok(are_told(&rows, EXPECTED[2]))
 }
 
-/// Whether the private list of the third kqueue gives its rows, and whether what of it can show in them does.
-fn is_given(rt: &impl Abort, split: &Split) -> Result<(bool, bool), Memory> {
-    let third = third(rt, split);
-    let by_all = gives_the_third(&split.private(third)?)?;
-    Ok((by_all, gives_the_third(&split.answering(third)?)?))
-}
-
-fn is_given_in(rt: &impl Abort, alloc: Global, trace: &Trace) -> Result<(bool, bool), Memory> {
+fn is_given_in(rt: &impl Abort, alloc: Global, trace: &Trace) -> Result<bool, Memory> {
     let split = Split::of(alloc, trace)?;
     is_given(rt, &split)
 }
@@ -112,7 +107,7 @@ fn is_given_in(rt: &impl Abort, alloc: Global, trace: &Trace) -> Result<(bool, b
 #[test]
 fn one_kqueue_gives_its_rows(rt: HostRuntime) -> Result<(), Fail> {
     let trace = dup_over(rt.alloc())?;
-    assert_eq!(rt; is_given_in(&rt, rt.alloc(), &trace)?, (true, true));
+    assert!(rt; is_given_in(&rt, rt.alloc(), &trace)?);
     Ok(())
 }
 

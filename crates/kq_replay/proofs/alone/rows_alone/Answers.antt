@@ -1,17 +1,34 @@
-use Rattle.std.proofs.Common.{sym, ap, subst, ◌∙◌}
-use Rattle.std.specs.List.{All}
-use Rattle.kq_history.specs.Traced.{Traced}
+use Rattle.std.proofs.Common.{◌+◌, get_or, drop, sym, ap, ◌∙◌, arith}
+use Rattle.std.proofs.lemmas.List.{at_drop_more, at_drop_all}
+use Rattle.kq_history.specs.declared.item.Item.{Item}
+use Rattle.kq_history.specs.declared.item.What.TheVariants.{Closed}
 use Rattle.kq_replay.specs.Alone.{LoneKqueue, after_items}
-use Rattle.kq_replay.specs.Recorded.{IsRecorded}
+use Rattle.kq_replay.proofs.Kept.{item-trace}
 use Rattle.kq_replay.proofs.alone.rows_alone.Goals as goal
 
-pub go_over-requires : goal.go_over-requires
-go_over-requires g c =
-    let items = g.L.ItemList.list c.args.items.now in
-    subst (λ (t : Traced). All (IsRecorded t) items) (ap (λ (a : LoneKqueue). a.trace) (sym c.in_ok-alone.ensures)) c.requires
+-- what a read past the end of the items would give
+abbrev no_item : Item
+no_item = record { place = 0; what = Closed 0 0 }
+
+pub loop-item-preserved : goal.loop-item-preserved
+unfolding after_items
+loop-item-preserved c =
+    let i = c.loop-item.item-index in
+    let items = c.args.items.now in
+    let before = c.loop-item.alone in
+    record {
+      left = ap (after_items (drop (i + 1) items)) c.in_ok-go_on.ensures
+          ∙ sym (at_drop_more (λ is. after_items is before) items i no_item (omega arith))
+          ∙ c.loop-item.invariant.left;
+      trace = ap (λ (a : LoneKqueue). a.trace) c.in_ok-go_on.ensures
+          ∙ item-trace (get_or items i no_item) before
+          ∙ c.loop-item.invariant.trace;
+    }
 
 pub returns : goal.returns
-returns g c =
+unfolding after_items
+returns c =
     c.into_rows.ensures
     ∙ ap (λ (a : LoneKqueue). a.rows)
-    (c.in_ok-go_over.ensures ∙ ap (after_items (g.L.ItemList.list c.args.items.now)) c.in_ok-alone.ensures)
+    (sym (at_drop_all (λ is. after_items is c.loop-item.alone) c.args.items.now c.loop-item.item-index (omega arith))
+    ∙ c.loop-item.invariant.left)

@@ -1,5 +1,6 @@
-use Rattle.std.proofs.Common.{◌≡◌, ◌∙◌, ℕ, sym, ap, ap₂, subst}
+use Rattle.std.proofs.Common.{◌≡◌, ◌∙◌, ℕ, List, sym, ap, ap₂, subst}
 use Rattle.std.specs.List.{All}
+use Rattle.kq_history.specs.declared.item.Item.{Item}
 use Rattle.kq_history.specs.Traced.{Traced}
 use Rattle.kq_replay.specs.Alone.{LoneKqueue, after_items, unborn}
 use Rattle.kq_replay.specs.Recorded.{IsRecorded}
@@ -10,8 +11,9 @@ use Rattle.kq_replay.proofs.replay.PrivateReplay.replay.Goals as goal
 pub rows_alone-requires : goal.rows_alone-requires
 rows_alone-requires c =
     let p = c.args.self.now in
-    subst (λ (t : Traced). All (IsRecorded t) p.items.items) (sym c.split.ensures)
-    (private-recorded p.split.now p.kqueue p.owner p.items.items p.own)
+    subst (λ (t : Traced). All (IsRecorded t) c.items.result.now) (sym c.split.ensures)
+    (subst (λ (items : List Item). All (IsRecorded p.split.now) items) (sym c.items.ensures)
+    (private-recorded p.split.now p.kqueue p.owner p.items.items p.own))
 
 pub returns : goal.returns
 returns c =
@@ -20,4 +22,4 @@ returns c =
     ap₂ (λ (t : Traced) (owner : ℕ). unborn t owner) c.split.ensures c.owner.ensures in
     subst (λ (place : ℕ). IsReplayed p.split.now p.kqueue (record { kqueue = place; rows = c.in_ok-rows.rows })) (sym c.kqueue.ensures)
     (private-replayed p.split.now p.kqueue p.owner p.items.items p.own c.in_ok-rows.rows
-    (c.in_ok-rows.ensures ∙ ap (λ (a : LoneKqueue). a.rows) (ap (after_items p.items.items) start)))
+    (c.in_ok-rows.ensures ∙ ap (λ (a : LoneKqueue). a.rows) (ap₂ after_items c.items.ensures start)))
