@@ -1,4 +1,5 @@
 pub mod Bounds
 pub mod ByPlace
+pub mod Chunks
 pub mod EventsText
 pub mod Written

@@ -5,4 +5,4 @@ mod merging;
 mod report;
 
 pub use merging::merge;
-pub use report::{ReportText, calls_in, events_in, put_counts, put_reply, report_text};
+pub use report::{ReportText, TextChunks, calls_in, events_in, put_counts, put_reply, report_text};

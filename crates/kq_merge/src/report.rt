@@ -3,11 +3,13 @@ ghost use Rattle.std.specs.Prelude.{◌≡◌, IfOk};
 ghost use Rattle.kq_model.specs.Report.{report};
 
 mod bound;
+mod chunks;
 mod event;
 mod line;
 mod lines;
 mod text;
 
+pub use chunks::TextChunks;
 use kq_model::{Memory, Row};
 pub use line::{put_counts, put_reply};
 use std::alloc::Global;

@@ -10,7 +10,7 @@ ghost use Rattle.kq_model.specs.Report.{report_of};
 ghost use Rattle.kq_run.specs.Folding.{Answers, GoesOn, IsFolded};
 
 use crate::row_sink::RowSink;
-use kq_merge::ReportText;
+use kq_merge::{ReportText, TextChunks};
 use kq_model::{Event, Memory, Row};
 use kq_system::System;
 use std::alloc::Global;
@@ -105,16 +105,16 @@ impl Fold {
     }
 
     /// The report of the records so far.
-    pub fn report(self) -> Result<Vec<u8>, Memory>
+    pub fn report(self) -> Result<TextChunks, Memory>
         ensures { IfOk result (λ text. (version : ℕ) (events : List Event) → IsFolded version self events
-            → text.items ≡ report_of version events) }
+            → text ≡ report_of version events) }
     {
         let Fold {
             system,
             text,
             waiting,
         } = self;
-        with_rows(text, waiting)?.end(system.applied())
+        with_rows(text, waiting)?.end_in_chunks(system.applied())
     }
 }
 

@@ -8,6 +8,7 @@ ghost use Rattle.kq_run.specs.Replay.{IsReportFrom, IsSourceFault};
 
 use crate::fault::Fault;
 use crate::fold::Fold;
+use kq_merge::TextChunks;
 use kq_model::{Event, Memory};
 use kq_trace::{Sink, Source, read_trace_into};
 use std::alloc::Global;
@@ -36,10 +37,10 @@ impl Folder {
     }
 
     /// The report of the records that it took.
-    fn report(self) -> Result<Vec<u8>, Memory>
+    fn report(self) -> Result<TextChunks, Memory>
         requires { (version : ℕ) × (events : List Event) × HasFolded version self events }
         ensures { IfOk result (λ text. (version : ℕ) (events : List Event) → HasFolded version self events
-            → text.items ≡ report_of version events) }
+            → text ≡ report_of version events) }
     {
         let Some(fold) = self.fold else {
             unreachable!();
@@ -80,8 +81,8 @@ pub fn fold_from<R: AllocGlobal + Threads + Sync, I: Source + Send>(
     rt: &R,
     source: &mut I,
     workers: u32,
-) -> Result<Vec<u8>, Fault>
-    ensures report { IfOk result (λ text. IsReportFrom (I.ahead source.old) text.items) }
+) -> Result<TextChunks, Fault>
+    ensures report { IfOk result (λ text. IsReportFrom (I.ahead source.old) text) }
     ensures fault { IfErr result (IsSourceFault I.may_fail (I.ahead source.old) workers) }
 {
     let mut folder = Folder::new(rt.alloc(), workers);

@@ -2,6 +2,7 @@ ghost use Rattle.std.specs.Prelude.{◌≡◌, ◌++◌, List, ℕ, OnOk, OnErr,
 ghost use Rattle.std.specs.Io.KnownBytes.{Appends};
 
 use crate::fault::Fault;
+use kq_merge::TextChunks;
 use std::io::Write;
 
 /// Writes all of `bytes`.
@@ -15,4 +16,17 @@ pub fn write_out<W: Write>(bytes: &[u8], writer: &mut W) -> Result<(), Fault>
     ensures fault { IfErr result (λ f. f ≡ Fault.Write) }
 {
     kq_text::write_out(bytes, writer).map_err(|_| Fault::Write)
+}
+
+/// Writes a text chunk by chunk. What is written after a fault is as for [`write_out`].
+pub fn write_chunks<W: Write>(text: &TextChunks, writer: &mut W) -> Result<(), Fault>
+    ensures whole { OnOk result (Appends (W.contents writer.old) (W.contents writer.new) text.now) }
+    ensures part { OnErr result ((done : List ℕ) × (rest : List ℕ) × (text.now ≡ done ++ rest)
+        × Appends (W.contents writer.old) (W.contents writer.new) done) }
+    ensures fault { IfErr result (λ f. f ≡ Fault.Write) }
+{
+    for chunk in text.as_slice() {
+        write_out(chunk.as_slice(), writer)?;
+    }
+    Ok(())
 }

@@ -5,7 +5,7 @@ ghost use Rattle.kq_run.specs.Written.{Leaves, Writes};
 
 use crate::fault::Fault;
 use crate::folding::fold_from;
-use crate::output::write_out;
+use crate::output::write_chunks;
 use crate::projecting::rows_of;
 use crate::workers::is_worker_count;
 use kq_gate::{Gate, Starts};
@@ -35,7 +35,8 @@ pub fn replay<R: AllocGlobal + Threads + Sync>(
     if !is_worker_count(workers) {
         return Err(Fault::Usage);
     }
-    fold_from(rt, &mut Lent::new(bytes), workers)
+    let text = fold_from(rt, &mut Lent::new(bytes), workers)?;
+    Ok(text.joined()?)
 }
 
 /// The same, where each kqueue is replayed alone: the gate is asked before each of them, with the number of the worker
@@ -80,5 +81,5 @@ pub fn replay_input<R: AllocGlobal + Threads + Sync, I: Read + Send, O: Write>(
         (O.contents out.old) (O.contents out.new)) }
 {
     let text = fold_from(rt, &mut Input::new(input, limit), workers)?;
-    write_out(text.as_slice(), out)
+    write_chunks(&text, out)
 }

@@ -1,35 +1,39 @@
 //! Lines that are written one behind the other over bytes that are there.
-ghost use Rattle.std.specs.Prelude.{◌≡◌, ◌≤◌, ◌+◌, ◌++◌, [], ℕ, List, IfOk, OnOk, length};
+ghost use Rattle.std.specs.Prelude.{◌≡◌, ◌<◌, ◌≤◌, ◌+◌, ◌^◌, [], IfOk, OnOk, length};
 ghost use Rattle.kq_model.specs.Report.{reply_line};
 ghost use Rattle.kq_text.specs.Adds.{Adds};
 ghost use Rattle.kq_merge.specs.Bounds.{line_bound};
 
 use super::bound::line_bound;
+use super::chunks::TextChunks;
 use super::line::write_reply_at;
 use kq_model::{Memory, Reply};
 use std::alloc::Global;
 use std::marker::Model;
+use std::mem::replace;
 
-/// So many bytes more stand there at once for the next lines.
-const BLANK: [u8; 4_096] = [b' '; 4_096];
+/// A chunk has so many bytes at least: few enough to stay in a processor's cache while lines are written over them.
+const CHUNK_BYTES: usize = 65_536;
 
 /// The lines of a report so far. Contracts see their text.
 #[derive(Drop)]
 pub struct Lines {
-    /// The text, and behind it bytes over which the next lines are written.
+    /// The text before the last chunk.
+    full: TextChunks,
+    /// The last chunk: text, and behind it bytes over which the next lines are written.
     bytes: Vec<u8>,
-    /// Where the text ends.
+    /// Where its text ends.
     end: usize,
 }
 
 impl Model for Lines {
-    ghost use Rattle.std.specs.Prelude.{◌≤◌, List, ℕ, length, take};
+    ghost use Rattle.std.specs.Prelude.{◌≤◌, ◌<◌, ◌+◌, ◌^◌, ◌++◌, List, ℕ, length, take};
 
     ghost Value = { List ℕ };
 
-    ghost view = { λ l. take l.end l.bytes.items };
+    ghost view = { λ l. l.full ++ take l.end l.bytes.items };
 
-    ghost invariant = { λ l. l.end ≤ length l.bytes.items };
+    ghost invariant = { λ l. (l.end ≤ length l.bytes.items) × (length l.full + length l.bytes.items < 2 ^ 64) };
 }
 
 impl Lines {
@@ -38,6 +42,7 @@ impl Lines {
         ensures { result ≡ [] }
     {
         Lines {
+            full: TextChunks::new(alloc),
             bytes: Vec::new(alloc),
             end: 0,
         }
@@ -45,40 +50,46 @@ impl Lines {
 
     /// Adds the line of the reply to the record at a place; of a record that was only done, nothing.
     pub fn put(&mut self, at: u64, reply: &Reply) -> Result<(), Memory>
-        ensures { OnOk result (Adds self.old (reply_line at reply.now) self.new) }
+        ensures added { OnOk result (Adds self.old (reply_line at reply.now) self.new) }
+        ensures fits { OnOk result (length self.new < 2 ^ 64) }
     {
-        let room = room_for(self.end, reply)?;
-        make_room(&mut self.bytes, room)?;
+        let bytes = usize::try_from(line_bound(reply)).map_err(|_| Memory)?;
+        if self.bytes.len() - self.end < bytes {
+            let alloc = *self.bytes.allocator();
+            self.bytes.truncate(self.end);
+            self.end = 0;
+            self.full.push(replace(&mut self.bytes, Vec::new(alloc)))?;
+            self.bytes = chunk_behind(alloc, &self.full, bytes)?;
+        }
         self.end = write_reply_at(self.bytes.as_mut_slice(), self.end, at, reply);
         Ok(())
     }
 
     /// The text.
-    pub fn into_text(mut self) -> Vec<u8>
-        ensures { result.items ≡ self }
+    pub fn into_text(mut self) -> Result<TextChunks, Memory>
+        ensures { IfOk result (λ text. text ≡ self) }
     {
         self.bytes.truncate(self.end);
-        let Lines { bytes, .. } = self;
-        bytes
+        let Lines {
+            mut full,
+            bytes,
+            ..
+        } = self;
+        full.push(bytes)?;
+        Ok(full)
     }
 }
 
-/// Where a line of this reply ends at most that begins there.
-fn room_for(start: usize, reply: &Reply) -> Result<usize, Memory>
-    ensures { IfOk result (λ room. room ≡ start + line_bound reply.now) }
+/// A chunk of so many bytes at least, behind a text. Memory is also the answer where both would be longer than memory
+/// can be.
+#[inline(never)]
+fn chunk_behind(alloc: Global, text: &TextChunks, least: usize) -> Result<Vec<u8>, Memory>
+    ensures room { IfOk result (λ chunk. least ≤ length chunk.items) }
+    ensures fits { IfOk result (λ chunk. length text.now + length chunk.items < 2 ^ 64) }
 {
-    let bytes = usize::try_from(line_bound(reply)).map_err(|_| Memory)?;
-    start.checked_add(bytes).ok_or(Memory)
-}
-
-/// Makes the bytes so many at least, by more of them behind those that are there.
-fn make_room(bytes: &mut Vec<u8>, room: usize) -> Result<(), Memory>
-    ensures kept { (more : List ℕ) × (bytes.new.items ≡ bytes.old.items ++ more) }
-    ensures room { OnOk result (room ≤ length bytes.new.items) }
-{
-    let missing = room.saturating_sub(bytes.len());
-    for _ in 0..missing.div_ceil(BLANK.len()) {
-        bytes.extend_from_slice(&BLANK)?;
-    }
-    Ok(())
+    let bytes = least.max(CHUNK_BYTES);
+    let Some(_) = text.len().checked_add(bytes) else {
+        return Err(Memory);
+    };
+    Ok(vec![in alloc; b' '; bytes]?)
 }

@@ -2,6 +2,7 @@ ghost use Rattle.std.specs.Prelude.{◌≡◌, ◌≤◌, ◌++◌, IfOk};
 ghost use Rattle.kq_model.specs.Report.{calls_in, events_in, last_line};
 ghost use Rattle.kq_merge.specs.Written.{nothing_written, with_reply};
 
+use super::chunks::TextChunks;
 use super::line::put_counts;
 use super::lines::Lines;
 use kq_model::{Memory, Reply};
@@ -55,13 +56,22 @@ impl ReportText {
     pub fn end(self, records: u64) -> Result<Vec<u8>, Memory>
         ensures { IfOk result (λ text. text.items ≡ self.lines ++ last_line self.calls self.events records) }
     {
+        self.end_in_chunks(records)?.joined()
+    }
+
+    /// The same, as it stands in memory.
+    pub fn end_in_chunks(self, records: u64) -> Result<TextChunks, Memory>
+        ensures { IfOk result (λ text. text ≡ self.lines ++ last_line self.calls self.events records) }
+    {
         let ReportText {
             lines,
             calls,
             events,
         } = self;
-        let mut text = lines.into_text();
-        put_counts(&mut text, calls, events, records)?;
+        let mut text = lines.into_text()?;
+        let mut last = Vec::new(text.allocator());
+        put_counts(&mut last, calls, events, records)?;
+        text.push(last)?;
         Ok(text)
     }
 }
