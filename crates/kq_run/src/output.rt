@@ -18,15 +18,15 @@ pub fn write_out<W: Write>(bytes: &[u8], writer: &mut W) -> Result<(), Fault>
     kq_text::write_out(bytes, writer).map_err(|_| Fault::Write)
 }
 
-/// Writes a text chunk by chunk. What is written after a fault is as for [`write_out`].
+/// Writes a text chunk by chunk.
+///
+/// A write that fails, an interrupted one too, or takes nothing is [`Fault::Write`]; a prefix of the text was written
+/// then.
 pub fn write_chunks<W: Write>(text: &TextChunks, writer: &mut W) -> Result<(), Fault>
     ensures whole { OnOk result (Appends (W.contents writer.old) (W.contents writer.new) text.now) }
     ensures part { OnErr result ((done : List ℕ) × (rest : List ℕ) × (text.now ≡ done ++ rest)
         × Appends (W.contents writer.old) (W.contents writer.new) done) }
     ensures fault { IfErr result (λ f. f ≡ Fault.Write) }
 {
-    for chunk in text.as_slice() {
-        write_out(chunk.as_slice(), writer)?;
-    }
-    Ok(())
+    text.write_out(writer).map_err(|_| Fault::Write)
 }

@@ -1,9 +1,13 @@
 //! The text of a report in chunks, so that none of it is moved as it grows.
 ghost use Rattle.std.specs.Prelude.{◌≡◌, ◌++◌, [], IfOk, OnErr, OnOk, length};
+ghost use Rattle.std.specs.Io.KnownBytes.{Appends};
+ghost use Rattle.kq_text.specs.Output.{AppendsPart};
 ghost use Rattle.kq_merge.specs.Chunks.{text_in};
 
 use kq_model::Memory;
+use kq_text::{WriteFailed, write_out};
 use std::alloc::Global;
+use std::io::Write;
 use std::marker::Model;
 
 /// A text in chunks, one behind the other. Contracts see the whole.
@@ -65,6 +69,17 @@ impl TextChunks {
         ensures { text_in result.now ≡ self.now }
     {
         self.chunks.as_slice()
+    }
+
+    /// Writes the whole text, chunk by chunk. Where a write fails, a prefix of it was written.
+    pub fn write_out<W: Write>(&self, out: &mut W) -> Result<(), WriteFailed>
+        ensures whole { OnOk result (Appends (W.contents out.old) (W.contents out.new) self.now) }
+        ensures part { OnErr result (AppendsPart (W.contents out.old) (W.contents out.new) self.now) }
+    {
+        for chunk in self.as_slice() {
+            write_out(chunk.as_slice(), out)?;
+        }
+        Ok(())
     }
 
     /// The whole text in one piece. Memory: there is no room for it beside the chunks.

@@ -8,8 +8,8 @@ use Rattle.kq_run.proofs.fold.Fold.report.Goals as goal
 pub returns : goal.returns
 returns c =
     let all = c.in_ok-with_rows.field-0 in
-    IfOk-weaker c.end.result _ _
+    IfOk-weaker c.end_in_chunks.result _ _
     (λ text is (version : ℕ) (events : List Event) folded.
-    reported version c.applied.result c.args.self events all text.items folded c.applied.ensures
+    reported version c.applied.result c.args.self events all text folded c.applied.ensures
     c.in_ok-with_rows.ensures is)
-    c.end.ensures
+    c.end_in_chunks.ensures
