@@ -13,7 +13,7 @@ use std::marker::Model;
 use std::mem::replace;
 
 /// A chunk has so many bytes at least: few enough to stay in a processor's cache while lines are written over them.
-const CHUNK_BYTES: usize = 262_144;
+const CHUNK_BYTES: usize = 122_880;
 
 /// The lines of a report so far. Contracts see their text.
 #[derive(Drop)]
