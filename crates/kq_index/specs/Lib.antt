@@ -1,2 +1,0 @@
-pub mod Grouped
-pub mod Standing
