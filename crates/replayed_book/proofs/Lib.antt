@@ -1,1 +1,1 @@
-mod Replayed
+mod Faults

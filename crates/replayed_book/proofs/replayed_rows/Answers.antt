@@ -5,20 +5,18 @@ use Rattle.kq_model.specs.System.{rows}
 use Rattle.kq_model.proofs.Results.{error_passed}
 use Rattle.kq_history.specs.Traced.{Traced, places_of, plain_rows_of}
 use Rattle.kq_merge.specs.ByPlace.{IsOnlyOrder, NeverFall, rows_in}
+use Rattle.kq_merge.proofs.Places.{each_never_falls, never_fall}
 use Rattle.kq_replay.specs.declared.RunFault.{RunFault}
-use Rattle.replayed_book.proofs.Replayed.{kqueues_never_fall, memory_is_no_count, plain_never_falls, rows_again}
-use Rattle.replayed_book.proofs.Replayed.{workers_are_told}
+use Rattle.replayed_book.proofs.Faults.{memory_is_no_count, workers_are_told}
 use Rattle.replayed_book.proofs.replayed_rows.Goals as goal
 
 pub merge-requires-clause-kqueues : goal.merge-requires-clause-kqueues
-merge-requires-clause-kqueues g c =
-    kqueues_never_fall c.in_ok-split.split c.in_ok-kqueues.kqueues.items c.in_ok-kqueues.ensures.ok
+merge-requires-clause-kqueues g c = each_never_falls c.in_ok-kqueues.kqueues.items c.in_ok-kqueues.ensures.ok.rise
 
 pub merge-requires-clause-plain : goal.merge-requires-clause-plain
 merge-requires-clause-plain g c =
     let are : c.plain_rows.result.now ≡ plain_rows_of c.in_ok-split.split = search rules in
-    subst NeverFall (sym are)
-    (plain_never_falls c.in_ok-split.split c.in_ok-kqueues.kqueues.items c.in_ok-kqueues.ensures.ok)
+    subst NeverFall (sym are) (never_fall (plain_rows_of c.in_ok-split.split) c.in_ok-kqueues.ensures.ok.plain)
 
 pub returns-clause-rows : goal.returns-clause-rows
 returns-clause-rows g c =
@@ -29,7 +27,7 @@ returns-clause-rows g c =
     let only = subst (λ (plain : List Row). IsOnlyOrder (rows_in kqueues plain) merged) are
     c.in_ok-merged.ensures.only in
     let trace = c.in_ok-trace.ensures in
-    rows_again split kqueues merged c.in_ok-kqueues.ensures.ok only
+    only (rows split.version split.events) c.in_ok-kqueues.ensures.ok.whole c.in_ok-kqueues.ensures.ok.ordered
     ∙ (ap (λ (t : Traced). rows t.version t.events) c.in_ok-split.ensures ∙ ap₂ rows trace.0 trace.1)
 
 pub returns-in_err-merged-clause-fault : goal.returns-in_err-merged-clause-fault
