@@ -1,20 +1,13 @@
 -- The rows of a trace whose kqueues were replayed alone, and the faults of its report.
 use Rattle.std.proofs.Common.{◌≡◌, ℕ, ◌≤◌, ◌<◌, ◌⊎◌, List, length, Option, Some, Result, Ok, Err, IfOk, MatchResult, refl, subst, arith, ⊎_elim}
 use Rattle.std.proofs.lemmas.List.{length-map}
-use Rattle.std.proofs.lemmas.List.Elements.{All-weaker}
-use Rattle.std.specs.List.{All}
 use Rattle.kq_model.specs.declared.event.Event.{Event}
 use Rattle.kq_model.specs.declared.row.Row.{Row}
-use Rattle.kq_model.specs.declared.rows.Rows.{Rows}
 use Rattle.kq_model.specs.Births.{Birth}
-use Rattle.kq_model.specs.OwnedRows.{Rise}
 use Rattle.kq_model.specs.Reading.{Good, reading}
 use Rattle.kq_model.specs.Report.{report, report_of}
 use Rattle.kq_model.specs.System.{rows}
-use Rattle.kq_history.specs.Traced.{Traced, births_of, places_of, plain_rows_of}
-use Rattle.kq_merge.specs.ByPlace.{IsOnlyOrder, NeverFall, rows_in}
-use Rattle.kq_merge.proofs.Places.{never_fall}
-use Rattle.kq_replay.specs.Replayed.{AreReplayed}
+use Rattle.kq_history.specs.Traced.{Traced, births_of, places_of}
 use Rattle.kq_trace.specs.declared.fault.TraceError.{TraceError}
 use Rattle.kq_trace.specs.declared.fault.TraceError.TheVariants as error
 use Rattle.kq_trace.specs.Blocks.{IsInputFault as IsTraceInputFault}
@@ -38,22 +31,7 @@ given P (Err e) q x same at is = absurd same
 
 -- ---- the rows
 
--- those of kqueues that were replayed alone, and the plain ones, stand by place, as a merge wants them
-pub kqueues_never_fall : (t : Traced) (kqueues : List Rows) → AreReplayed t kqueues
-    → All (λ (one : Rows). NeverFall one.rows) kqueues
-kqueues_never_fall t kqueues are =
-    All-weaker (λ (one : Rows). Rise one.rows) (λ (one : Rows). NeverFall one.rows)
-    (λ one rises. never_fall one.rows rises) kqueues are.rise
-
-pub plain_never_falls : (t : Traced) (kqueues : List Rows) → AreReplayed t kqueues → NeverFall (plain_rows_of t)
-plain_never_falls t kqueues are = never_fall (plain_rows_of t) are.plain
-
--- what it gives are the rows of the trace
-pub rows_again : (t : Traced) (kqueues : List Rows) (merged : List Row) → AreReplayed t kqueues
-    → IsOnlyOrder (rows_in kqueues (plain_rows_of t)) merged → merged ≡ rows t.version t.events
-rows_again t kqueues merged are only = only (rows t.version t.events) are.whole are.ordered
-
--- and their report is that of the trace
+-- the report of those of a trace is that of the trace
 pub report_is : (version records : ℕ) (events : List Event) (found : List Row) (text : List ℕ) → records ≡ length events
     → found ≡ rows version events → text ≡ report found records → text ≡ report_of version events
 unfolding report_of

@@ -5,19 +5,18 @@ use Rattle.kq_model.specs.System.{rows}
 use Rattle.kq_model.proofs.Results.{error_passed}
 use Rattle.kq_history.specs.Traced.{Traced, plain_rows_of}
 use Rattle.kq_merge.specs.ByPlace.{IsOnlyOrder, NeverFall, rows_in}
+use Rattle.kq_merge.proofs.Places.{each_never_falls, never_fall}
 use Rattle.kq_run.specs.Replay.{IsReplayFault}
 use Rattle.kq_run.specs.declared.fault.Fault.TheVariants.{Memory}
-use Rattle.kq_run.proofs.ReplayedTraces.{kqueues_never_fall, plain_never_falls, rows_again}
 use Rattle.kq_run.proofs.projecting.rows_of.Goals as goal
 
 pub merge-requires-clause-kqueues : goal.merge-requires-clause-kqueues
-merge-requires-clause-kqueues g c =
-    kqueues_never_fall c.in_ok-split.split c.in-Ok.kqueues.items c.in-Ok.ensures.ok
+merge-requires-clause-kqueues g c = each_never_falls c.in-Ok.kqueues.items c.in-Ok.ensures.ok.rise
 
 pub merge-requires-clause-plain : goal.merge-requires-clause-plain
 merge-requires-clause-plain g c =
     let are : c.plain_rows.result.now ≡ plain_rows_of c.in_ok-split.split = search rules in
-    subst NeverFall (sym are) (plain_never_falls c.in_ok-split.split c.in-Ok.kqueues.items c.in-Ok.ensures.ok)
+    subst NeverFall (sym are) (never_fall (plain_rows_of c.in_ok-split.split) c.in-Ok.ensures.ok.plain)
 
 pub returns-clause-rows : goal.returns-clause-rows
 returns-clause-rows g c =
@@ -26,7 +25,8 @@ returns-clause-rows g c =
     let merged = c.in_ok-merge.field-0.items in
     let are : c.plain_rows.result.now ≡ plain_rows_of split = search rules in
     let only = subst (λ (plain : List Row). IsOnlyOrder (rows_in kqueues plain) merged) are c.in_ok-merge.ensures.only in
-    rows_again split kqueues merged c.in-Ok.ensures.ok only ∙ ap (λ (t : Traced). rows t.version t.events) c.in_ok-split.ensures
+    only (rows split.version split.events) c.in-Ok.ensures.ok.whole c.in-Ok.ensures.ok.ordered
+    ∙ ap (λ (t : Traced). rows t.version t.events) c.in_ok-split.ensures
 
 pub returns-in_err-merge-clause-fault : goal.returns-in_err-merge-clause-fault
 returns-in_err-merge-clause-fault g c =
