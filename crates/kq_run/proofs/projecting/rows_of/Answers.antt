@@ -1,22 +1,13 @@
--- Each kqueue's rows and the plain ones stand by place, and in one order only they are the rows of the trace.
-use Rattle.std.proofs.Common.{◌≡◌, ◌∙◌, List, ap, rules, sym, subst}
+-- In one order only each kqueue's rows and the plain ones are the rows of the trace.
+use Rattle.std.proofs.Common.{◌≡◌, ◌∙◌, List, ap, rules, subst}
 use Rattle.kq_model.specs.declared.row.Row.{Row}
 use Rattle.kq_model.specs.System.{rows}
 use Rattle.kq_model.proofs.Results.{error_passed}
 use Rattle.kq_history.specs.Traced.{Traced, plain_rows_of}
-use Rattle.kq_merge.specs.ByPlace.{IsOnlyOrder, NeverFall, rows_in}
-use Rattle.kq_merge.proofs.Places.{each_never_falls, never_fall}
+use Rattle.kq_merge.specs.ByPlace.{IsOnlyOrder, rows_in}
 use Rattle.kq_run.specs.Replay.{IsReplayFault}
 use Rattle.kq_run.specs.declared.fault.Fault.TheVariants.{Memory}
 use Rattle.kq_run.proofs.projecting.rows_of.Goals as goal
-
-pub merge-requires-clause-kqueues : goal.merge-requires-clause-kqueues
-merge-requires-clause-kqueues g c = each_never_falls c.in-Ok.kqueues.items c.in-Ok.ensures.ok.rise
-
-pub merge-requires-clause-plain : goal.merge-requires-clause-plain
-merge-requires-clause-plain g c =
-    let are : c.plain_rows.result.now ≡ plain_rows_of c.in_ok-split.split = search rules in
-    subst NeverFall (sym are) (never_fall (plain_rows_of c.in_ok-split.split) c.in-Ok.ensures.ok.plain)
 
 pub returns-clause-rows : goal.returns-clause-rows
 returns-clause-rows g c =
