@@ -10,7 +10,6 @@ pub mod TakenLaws
 pub mod AnswerLaws
 pub mod ArrangeLaws
 pub mod BeginLaws
-pub mod KeepLaws
 pub mod CloseLaws
 pub mod TellLaws
 pub mod SettledLaws

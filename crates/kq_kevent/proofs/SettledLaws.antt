@@ -1,5 +1,5 @@
 -- An active knote that plain hints tell nothing new stays as it is, and the kqueue with it.
-use Rattle.std.proofs.Common.{◌≡◌, Bool, true, false, cond, ◌&&◌, ◌||◌, List, [], ◌∷◌, Some, refl, sym, ap, ap₂, ◌∙◌, subst}
+use Rattle.std.proofs.Common.{ℕ, ◌≡◌, Bool, true, false, cond, ◌&&◌, ◌||◌, List, [], ◌∷◌, Some, refl, sym, ap, ap₂, ◌∙◌, subst}
 use Rattle.std.proofs.lemmas.Bool.{true≢false}
 use Rattle.std.specs.Int.Bits.{or_zero_r}
 use Rattle.kq_model.specs.declared.filter.Filter.{Filter}
@@ -50,32 +50,34 @@ exit-plain Procdesc hint plain = refl
 exit-plain Sendfile hint plain = refl
 exit-plain Empty hint plain = refl
 
-abbrev others_again : Tally → Bool → Tally
-others_again t b = record t { others = b }
+-- a tally with these notes
+abbrev with_notes : Tally → ℕ → Tally
+with_notes t notes = record t { notes = notes }
 
-heard-plain : (hint : Hint) (t : Tally) → is_plain hint ≡ true → t.others ≡ true → tallying.heard (Told hint) t ≡ t
+-- nothing is kept of it
+heard-plain : (hint : Hint) (t : Tally) → is_plain hint ≡ true → tallying.heard (Told hint) t ≡ t
 unfolding is_plain notes_of
-heard-plain Readable t plain is = ap (λ n. record { count = t.count; notes = n; others = true }) (or_zero_r t.notes) ∙ ap (others_again t) (sym is)
-heard-plain Writable t plain is = ap (λ n. record { count = t.count; notes = n; others = true }) (or_zero_r t.notes) ∙ ap (others_again t) (sym is)
-heard-plain (Note bits) t plain is = absurd (true≢false (sym plain))
-heard-plain Delivered t plain is = absurd (true≢false (sym plain))
-heard-plain (Child pid) t plain is = absurd (true≢false (sym plain))
+heard-plain Readable t plain = ap (with_notes t) (or_zero_r t.notes)
+heard-plain Writable t plain = ap (with_notes t) (or_zero_r t.notes)
+heard-plain (Note bits) t plain = absurd (true≢false (sym plain))
+heard-plain Delivered t plain = absurd (true≢false (sym plain))
+heard-plain (Child pid) t plain = absurd (true≢false (sym plain))
 
-added-plain : (hint : Hint) (k : Knote) → is_plain hint ≡ true → k.seen.others ≡ true → added (kept k.fflags hint) k ≡ k
+added-plain : (hint : Hint) (k : Knote) → is_plain hint ≡ true → added (kept k.fflags hint) k ≡ k
 unfolding is_plain added kept
-added-plain Readable k plain is = ap (λ (t : Tally). record k { seen = t }) (heard-plain Readable k.seen plain is)
-added-plain Writable k plain is = ap (λ (t : Tally). record k { seen = t }) (heard-plain Writable k.seen plain is)
-added-plain (Note bits) k plain is = absurd (true≢false (sym plain))
-added-plain Delivered k plain is = absurd (true≢false (sym plain))
-added-plain (Child pid) k plain is = absurd (true≢false (sym plain))
+added-plain Readable k plain = ap (λ (t : Tally). record k { seen = t }) (heard-plain Readable k.seen plain)
+added-plain Writable k plain = ap (λ (t : Tally). record k { seen = t }) (heard-plain Writable k.seen plain)
+added-plain (Note bits) k plain = absurd (true≢false (sym plain))
+added-plain Delivered k plain = absurd (true≢false (sym plain))
+added-plain (Child pid) k plain = absurd (true≢false (sym plain))
 
--- one that the knote heard before leaves it as it is
-pub after-plain : (hint : Hint) (k : Knote) → is_plain hint ≡ true → k.seen.others ≡ true → (after_hint hint k ≡ k) × (is_done hint k ≡ false)
+-- it leaves the knote as it is
+pub after-plain : (hint : Hint) (k : Knote) → is_plain hint ≡ true → (after_hint hint k ≡ k) × (is_done hint k ≡ false)
 unfolding after_hint is_done
-after-plain hint k plain is =
+after-plain hint k plain =
     let exits = exit-plain k.key.filter hint plain in
     let heard : cond (takes k.key.filter hint) (added (kept k.fflags hint) k) k ≡ k =
-    by_test (λ b. cond b (added (kept k.fflags hint) k) k ≡ k) (takes k.key.filter hint) (λ _. added-plain hint k plain is) (λ _. refl) in (
+    by_test (λ b. cond b (added (kept k.fflags hint) k) k ≡ k) (takes k.key.filter hint) (λ _. added-plain hint k plain) (λ _. refl) in (
       ap₂ (λ (n : Knote) b. record n { oneshot = k.oneshot || b }) heard exits ∙ ap (λ b. record k { oneshot = b }) (or_false k.oneshot),
       ap (λ b. b && has_nothing (after_hint hint k)) exits,
     )

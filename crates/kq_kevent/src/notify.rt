@@ -1,4 +1,4 @@
-ghost use Rattle.std.specs.Prelude.{◌≡◌, ◌≤◌, ◌&&◌, [], Some, false, true};
+ghost use Rattle.std.specs.Prelude.{◌≡◌, ◌≤◌, [], Some, false, true};
 ghost use Rattle.kq_model.specs.ChangedKnote.{activated};
 ghost use Rattle.kq_model.specs.Following.{followed};
 ghost use Rattle.kq_model.specs.Hearing.{listed};
@@ -88,18 +88,11 @@ fn is_plain(hint: Hint) -> bool
     matches!(hint, Hint::Readable | Hint::Writable)
 }
 
-/// Whether a hint is such a one, and the knote heard one before.
-fn is_old(knote: &Knote, hint: Hint) -> bool
-    ensures { result ≡ is_plain hint && knote.now.seen.others }
-{
-    is_plain(hint) && knote.tally.others
-}
-
 /// Whether a hint is known to leave a knote as it is.
 fn leaves(knote: &Knote, target: Target, hint: Hint) -> bool
     ensures { result ≡ true → Leaves knote.now (target, hint) }
 {
-    if is_old(knote, hint) {
+    if is_plain(hint) {
         return true;
     }
     !is_for(knote, target, hint)

@@ -44,7 +44,7 @@ same_expirations a b start period once key =
 -- ---- expirations
 
 abbrev with_heard : Knote → ℕ → ℕ → Knote
-with_heard k count notes = record k { seen = record { count = count; notes = notes; others = k.seen.others }; active = true }
+with_heard k count notes = record k { seen = record { count = count; notes = notes; told = k.seen.told }; active = true }
 
 one_more : (k : Knote) (n : ℕ) → expired {h = tallying} (with_heard k (min (k.seen.count + n) most_counted) k.seen.notes) ≡ with_heard k (min (k.seen.count + suc n) most_counted) k.seen.notes
 unfolding notes_of
@@ -74,7 +74,7 @@ rung-none (suc n) k none = absurd (omega (arith, none))
 
 -- what the code writes
 pub rings : (before now after : Knote) (tally : Tally) (times n : ℕ) → before ≡ now
-    → tally ≡ record { count = min (before.seen.count + times) most_counted; notes = before.seen.notes; others = before.seen.others }
+    → tally ≡ record { count = min (before.seen.count + times) most_counted; notes = before.seen.notes; told = before.seen.told }
     → after ≡ record before { seen = tally; active = true } → times ≡ n → 0 < times → after ≡ rung_times (timers {h = tallying}) n now
 rings before now after tally times n is counted became many some =
     became ∙ ap (λ (t : Tally). record before { seen = t; active = true }) counted
@@ -83,9 +83,9 @@ rings before now after tally times n is counted became many some =
 
 -- one that had come already where the timer was set
 pub expired-once : (t : Tally) (count : ℕ) → count ≡ min (t.count + 1) most_counted
-    → record { count = count; notes = t.notes; others = t.others } ≡ tallying.heard Expired t
+    → record { count = count; notes = t.notes; told = t.told } ≡ tallying.heard Expired t
 unfolding notes_of
 expired-once t count is = ap₂ with_both is (sym (or_zero_r t.notes))
   where
     with_both : ℕ → ℕ → Tally
-    with_both n notes = record { count = n; notes = notes; others = t.others }
+    with_both n notes = record { count = n; notes = notes; told = t.told }

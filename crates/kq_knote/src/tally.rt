@@ -1,5 +1,5 @@
 ghost use Rattle.std.specs.Prelude.{◌≡◌, ◌+◌, min, true, if◌then◌else◌};
-ghost use Rattle.kq_model.specs.Hearing.{Expired, Told, is_counted, most_counted, notes_of, tallying};
+ghost use Rattle.kq_model.specs.Hearing.{Expired, Told, is_counted, is_telling, most_counted, notes_of, tallying};
 
 use kq_model::Hint;
 use std::marker::Model;
@@ -8,15 +8,16 @@ use std::marker::Model;
 const MOST_COUNTED: u64 = i64::MAX as u64;
 
 /// What a knote has heard since it was last reset. kqueue(2) gives events that trigger a filter more than once as one
-/// kevent. Only deliveries of a signal and expirations are counted.
+/// kevent. Only deliveries of a signal and expirations are counted. Nothing is kept of what READ and WRITE hear: what
+/// they return is what a look sees.
 #[derive(Debug, Drop, Clone, Copy)]
 pub struct Tally {
     /// How much of what is counted it heard, at most 2^63 - 1.
     pub count: u64,
     /// The union of the notes that it heard.
     pub notes: u32,
-    /// It heard something that is not counted.
-    pub others: bool,
+    /// It heard a note or of a child.
+    pub told: bool,
 }
 
 impl Model for Tally {
@@ -24,9 +25,9 @@ impl Model for Tally {
 
     ghost Value = { hearing.Tally };
 
-    ghost view = { λ t. record { count = t.count; notes = t.notes; others = t.others } };
+    ghost view = { λ t. record { count = t.count; notes = t.notes; told = t.told } };
 
-    ghost inverse = { λ t. record { count = t.count; notes = t.notes; others = t.others } };
+    ghost inverse = { λ t. record { count = t.count; notes = t.notes; told = t.told } };
 }
 
 impl Tally {
@@ -37,7 +38,7 @@ impl Tally {
         Tally {
             count: 0,
             notes: 0,
-            others: false,
+            told: false,
         }
     }
 
@@ -49,8 +50,9 @@ impl Tally {
         self.notes |= notes_of(hint);
         if is_counted(hint) {
             self.count = self.count.saturating_add(1).min(MOST_COUNTED);
-        } else {
-            self.others = true;
+        }
+        if is_telling(hint) {
+            self.told = true;
         }
     }
 
@@ -59,7 +61,7 @@ impl Tally {
         ensures { self.new ≡ record {
           count = min (self.old.count + times) most_counted;
           notes = self.old.notes;
-          others = self.old.others;
+          told = self.old.told;
         } }
     {
         self.count = self.count.saturating_add(times).min(MOST_COUNTED);
@@ -79,11 +81,11 @@ impl Tally {
         }
     }
 
-    /// Whether nothing was heard.
+    /// Whether nothing was heard that tells anything.
     pub fn is_empty(&self) -> bool
         ensures { result ≡ tallying.is_empty self.now }
     {
-        self.count == 0 && !self.others
+        self.count == 0 && !self.told
     }
 }
 
@@ -92,6 +94,13 @@ fn is_counted(hint: Hint) -> bool
     ensures { result ≡ is_counted (Told hint) }
 {
     matches!(hint, Hint::Delivered)
+}
+
+/// Whether it matters of a hint that it was heard.
+fn is_telling(hint: Hint) -> bool
+    ensures { result ≡ is_telling (Told hint) }
+{
+    matches!(hint, Hint::Note(_) | Hint::Child(_))
 }
 
 /// The notes of a hint, as bits of fflags.

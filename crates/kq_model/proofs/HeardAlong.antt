@@ -9,7 +9,7 @@ use Rattle.kq_model.specs.declared.key.Key.{Key}
 use Rattle.kq_model.specs.declared.object.Hint.{Hint}
 use Rattle.kq_model.specs.declared.object.View.{View}
 use Rattle.kq_model.specs.ChangedKnote.{activated}
-use Rattle.kq_model.specs.Hearing.{Hearing, Occurrence, Told, Tally, tallying, is_counted, most_counted}
+use Rattle.kq_model.specs.Hearing.{Hearing, Occurrence, Told, Tally, tallying, is_counted, is_telling, most_counted}
 use Rattle.kq_model.specs.Hints.{takes, kept, is_exit, is_done, added, heard_by, hears_exit, after_hint, hints_for, unless_silent, noticed}
 use Rattle.kq_model.specs.Knote.{Knote, has_nothing}
 use Rattle.kq_model.specs.Look.{Seen, look, look_by, look_user, mark_of, notice_or}
@@ -40,6 +40,9 @@ or_true false = refl
 and_true : (b : Bool) → b && true ≡ b
 and_true true = refl
 and_true false = refl
+
+and_both : {a b : Bool} → a ≡ true → b ≡ true → a && b ≡ true
+and_both {a} {b} here there = ap (λ c. c && b) here ∙ there
 
 and_false : (b : Bool) → b && false ≡ false
 and_false true = refl
@@ -204,11 +207,13 @@ module _ {S : Type 0} {h : Hearing S} where
   same_silent done e true x is = ap (λ b. cond (b && true) None x) (is refl)
   same_silent done e false x is = ap (λ b. cond b None x) (and_false done ∙ sym (and_false e))
 
-  module _ (hears : (x : Occurrence) (s : S) → h.is_empty (h.heard x s) ≡ false) where
+  module _ (hears : (x : Occurrence) (s : S) → h.is_empty (h.heard x s) ≡ true → h.is_empty s ≡ true) where
     added-empty : (o : Option Hint) (k : Knote h) → has_nothing (added o k) ≡ true → has_nothing k ≡ true
     unfolding added
     added-empty None k e = e
-    added-empty (Some hint) k e = absurd (true≢false (sym (and_parts (is_none k.notice) _ e).1 ∙ hears (Told hint) k.seen))
+    added-empty (Some hint) k e =
+        let parts = and_parts (is_none k.notice) _ e in
+        and_both parts.0 (hears (Told hint) k.seen parts.1)
 
     after-empty : (hint : Hint) (k : Knote h) → has_nothing (after_hint hint k) ≡ true → has_nothing k ≡ true
     unfolding after_hint
@@ -249,9 +254,14 @@ module _ {S : Type 0} {h : Hearing S} where
     noticed-told views posted k hint hints is =
         noticed-along views hint hints k (subst (AreTaken k.key.filter) is (taken-filter k.key.filter _))
 
--- a tally that heard something is not empty
-pub tally-hears : (x : Occurrence) (t : Tally) → tallying.is_empty (tallying.heard x t) ≡ false
+-- a tally that is empty was so before
+pub tally-hears : (x : Occurrence) (t : Tally) → tallying.is_empty (tallying.heard x t) ≡ true → tallying.is_empty t ≡ true
 tally-hears x t =
-    by_test (λ b. (cond b (min (t.count + 1) most_counted) t.count == 0) && not (not b || t.others) ≡ false) (is_counted x)
-    (λ _. ap (λ b. b && not t.others) (ne_eqb (min (t.count + 1) most_counted) 0 (λ e. omega (arith, e))))
-    (λ _. and_false (t.count == 0))
+    by_test (λ b. (cond b (min (t.count + 1) most_counted) t.count == 0) && not (is_telling x || t.told) ≡ true → tallying.is_empty t ≡ true)
+    (is_counted x)
+    (λ _ e. absurd (true≢false (sym (and_parts _ _ e).0 ∙ ne_eqb (min (t.count + 1) most_counted) 0 (λ z. omega (arith, z)))))
+    (λ _ e. let parts = and_parts (t.count == 0) _ e in and_both parts.0 (not_either (is_telling x) t.told parts.1))
+  where
+    not_either : (a b : Bool) → not (a || b) ≡ true → not b ≡ true
+    not_either true b e = absurd (true≢false (sym e))
+    not_either false b e = e

@@ -33,7 +33,7 @@ use Rattle.kq_model.specs.Report.{kevent_data, events_data, row_data, reply_line
 unfoldable pub system_opened : ⊤
 unfolding serde_json_on_literals digits
     filter_among filter_named names_of
-    hearing.notes_of hearing.is_none_of watches_number is_timer find_knote
+    hearing.notes_of watches_number is_timer find_knote
     side_seen amount_seen read_seen write_seen status_of process_seen notes_seen count_seen mark_of look_user look_by notice_or look is_simulated number_in named_in object_of file_of target_of target_eq is_target
     invalid_if is_readable is_writable is_file is_live_process process_in process_refusal own_refusal
     knote.always_clears knote.start_in knote.period_in knote.has_come knote.controlled knote.fresh knote.started knote.begun knote.replaced knote.restarted knote.changed knote.switched knote.activated knote.attended knote.made knote.modified

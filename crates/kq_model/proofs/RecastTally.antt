@@ -6,12 +6,13 @@ use Rattle.std.proofs.lemmas.List.Folds.{list_any-append}
 use Rattle.std.proofs.lemmas.List.Sums.{fold-append}
 use Rattle.std.proofs.lemmas.Bool.{and_right, or_right, ne_eqb}
 use Rattle.std.specs.Int.RustNames.{bit_or}
-use Rattle.kq_model.specs.Hearing.{Occurrence, Tally, listed, tallying, notes_of, is_counted, counted_in, has_other, union, is_none_of, most_counted}
+use Rattle.std.specs.List.{list_any}
+use Rattle.kq_model.specs.Hearing.{Occurrence, Tally, listed, tallying, notes_of, is_counted, is_telling, counted_in, has_telling, is_silence, union, most_counted}
 use Rattle.kq_model.specs.Recast.{IsHearingMap, tally_of}
 use Rattle.kq_model.proofs.KnoteLaws.{by_test}
 
 abbrev tally : ℕ → ℕ → Bool → Tally
-tally count notes others = record { count = count; notes = notes; others = others }
+tally count notes told = record { count = count; notes = notes; told = told }
 
 -- as many, and one more where that is counted
 abbrev count_with : Bool → ℕ → ℕ
@@ -33,11 +34,11 @@ counted-once n = omega arith
 union-more : (xs : List Occurrence) (x : Occurrence) → union (xs ++ x ∷ []) ≡ bit_or (union xs) (notes_of x)
 union-more xs x = fold-append (λ bits y. bit_or bits (notes_of y)) 0 xs (x ∷ [])
 
-others-more : (xs : List Occurrence) (x : Occurrence) → has_other (xs ++ x ∷ []) ≡ not (is_counted x) || has_other xs
-others-more xs x =
-    list_any-append (λ y. not (is_counted y)) xs (x ∷ [])
-    ∙ by_test (λ b. has_other xs || (not b || false) ≡ not b || has_other xs) (is_counted x)
-    (λ _. or_false (has_other xs)) (λ _. or_right (has_other xs) true refl)
+told-more : (xs : List Occurrence) (x : Occurrence) → has_telling (xs ++ x ∷ []) ≡ is_telling x || has_telling xs
+told-more xs x =
+    list_any-append is_telling xs (x ∷ [])
+    ∙ by_test (λ b. has_telling xs || (b || false) ≡ b || has_telling xs) (is_telling x)
+    (λ _. or_right (has_telling xs) true refl) (λ _. or_false (has_telling xs))
   where
     or_false : (b : Bool) → b || false ≡ b
     or_false true = refl
@@ -47,18 +48,21 @@ heard-more : (x : Occurrence) (xs : List Occurrence) → tally_of (listed.heard 
 heard-more x xs =
     let more = xs ++ x ∷ [] in
     let count = count_with (is_counted x) (min (counted_in xs) most_counted) in
-    ap (λ n. tally n (union more) (has_other more)) (count-more xs x)
-    ∙ ap (λ n. tally count n (has_other more)) (union-more xs x)
-    ∙ ap (tally count (bit_or (union xs) (notes_of x))) (others-more xs x)
+    ap (λ n. tally n (union more) (has_telling more)) (count-more xs x)
+    ∙ ap (λ n. tally count n (has_telling more)) (union-more xs x)
+    ∙ ap (tally count (bit_or (union xs) (notes_of x))) (told-more xs x)
 
-counts_none : (xs : List Occurrence) → eqb (min (counted_in xs) most_counted) 0 && not (has_other xs) ≡ is_none_of xs
-unfolding is_none_of
+counts_none : (xs : List Occurrence) → eqb (min (counted_in xs) most_counted) 0 && not (has_telling xs) ≡ is_silence xs
 counts_none [] = refl
 counts_none (x ∷ xs) =
     let of = filter is_counted xs in
-    by_test (λ b. eqb (min (length (cond b (x ∷ of) of)) most_counted) 0 && not (not b || has_other xs) ≡ false) (is_counted x)
-    (λ _. ap (λ b. b && not (has_other xs)) (ne_eqb (min (suc (length of)) most_counted) 0 (λ e. omega arith)))
-    (λ _. and_right (eqb (min (length of) most_counted) 0) false refl)
+    by_test (λ b. eqb (min (length (cond b (x ∷ of) of)) most_counted) 0 && not (is_telling x || has_telling xs)
+        ≡ not ((b || is_telling x) || list_any (λ y. is_counted y || is_telling y) xs)) (is_counted x)
+    (λ _. ap (λ b. b && not (is_telling x || has_telling xs)) (ne_eqb (min (suc (length of)) most_counted) 0 (λ e. omega arith)))
+    (λ _. by_test (λ b. eqb (min (length of) most_counted) 0 && not (b || has_telling xs)
+        ≡ not (b || list_any (λ y. is_counted y || is_telling y) xs)) (is_telling x)
+        (λ _. and_right (eqb (min (length of) most_counted) 0) false refl)
+        (λ _. counts_none xs))
 
 pub tally_of-map : IsHearingMap listed tallying tally_of
 tally_of-map = record {

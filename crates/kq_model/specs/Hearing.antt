@@ -23,8 +23,7 @@ notes_of (Told Delivered) = 0
 notes_of (Told (Child pid)) = 0
 notes_of Expired = 0
 
--- What is counted: SIGNAL gives the number of deliveries, and TIMER that of expirations (kqueue(2)). Of the others it
--- matters only that one was heard.
+-- what is counted: SIGNAL gives the number of deliveries, and TIMER that of expirations (kqueue(2))
 abbrev pub is_counted : Occurrence → Bool
 is_counted (Told Delivered) = true
 is_counted (Told Readable) = false
@@ -32,6 +31,16 @@ is_counted (Told Writable) = false
 is_counted (Told (Note bits)) = false
 is_counted (Told (Child pid)) = false
 is_counted Expired = true
+
+-- Of what is not counted, it matters that it was heard. But Readable and Writable tell nothing: what READ and WRITE
+-- return is what a look sees.
+abbrev pub is_telling : Occurrence → Bool
+is_telling (Told Delivered) = false
+is_telling (Told Readable) = false
+is_telling (Told Writable) = false
+is_telling (Told (Note bits)) = true
+is_telling (Told (Child pid)) = true
+is_telling Expired = false
 
 -- how often something is counted at most: 2^63 - 1, the greatest data of a kevent
 abbrev pub most_counted : ℕ
@@ -47,6 +56,7 @@ pub record Hearing (S : Type 0) : Type 0 where
   pub count : S → ℕ
   -- the union of their notes
   pub notes : S → ℕ
+  -- nothing was heard but what tells nothing
   pub is_empty : S → Bool
 
 -- ---- as a list, the latest last
@@ -54,17 +64,17 @@ pub record Hearing (S : Type 0) : Type 0 where
 abbrev pub union : List Occurrence → ℕ
 union xs = fold (λ bits x. bit_or bits (notes_of x)) 0 xs
 
-unfoldable pub is_none_of : List Occurrence → Bool
-is_none_of [] = true
-is_none_of (x ∷ xs) = false
-
 -- how many of them are counted
 abbrev pub counted_in : List Occurrence → ℕ
 counted_in xs = length (filter is_counted xs)
 
--- one of them is not counted
-abbrev pub has_other : List Occurrence → Bool
-has_other xs = list_any (λ x. not (is_counted x)) xs
+-- one of them tells something and is not counted
+abbrev pub has_telling : List Occurrence → Bool
+has_telling xs = list_any is_telling xs
+
+-- none of them tells anything
+abbrev pub is_silence : List Occurrence → Bool
+is_silence xs = not (list_any (λ x. is_counted x || is_telling x) xs)
 
 abbrev pub listed : Hearing (List Occurrence)
 listed = record {
@@ -72,7 +82,7 @@ listed = record {
   heard = λ x xs. xs ++ x ∷ [];
   count = λ xs. min (counted_in xs) most_counted;
   notes = union;
-  is_empty = is_none_of;
+  is_empty = is_silence;
 }
 
 -- ---- as a tally
@@ -80,18 +90,18 @@ listed = record {
 pub record Tally : Type 0 where
   pub count : ℕ
   pub notes : ℕ
-  -- something was heard that is not counted
-  pub others : Bool
+  -- something was heard that tells something and is not counted
+  pub told : Bool
 
 abbrev pub tallying : Hearing Tally
 tallying = record {
-  empty = record { count = 0; notes = 0; others = false };
+  empty = record { count = 0; notes = 0; told = false };
   heard = λ x t. record {
     count = if is_counted x then min (t.count + 1) most_counted else t.count;
     notes = bit_or t.notes (notes_of x);
-    others = not (is_counted x) || t.others;
+    told = is_telling x || t.told;
   };
   count = λ t. min t.count most_counted;
   notes = λ t. t.notes;
-  is_empty = λ t. t.count == 0 && not t.others;
+  is_empty = λ t. t.count == 0 && not t.told;
 }

@@ -3,7 +3,7 @@
 use Rattle.std.specs.Prelude.{◌≡◌, List, map, min}
 use Rattle.kq_model.specs.declared.reply.Reply.{Reply}
 use Rattle.kq_model.specs.Call.{Called}
-use Rattle.kq_model.specs.Hearing.{Hearing, Occurrence, Tally, listed, tallying, counted_in, has_other, union}
+use Rattle.kq_model.specs.Hearing.{Hearing, Occurrence, Tally, listed, tallying, counted_in, has_telling, union}
 use Rattle.kq_model.specs.Hearing.{most_counted}
 use Rattle.kq_model.specs.Knote.{Knote}
 use Rattle.kq_model.specs.Kqueue.{Kqueue}
@@ -53,7 +53,7 @@ module _ {S T : Type 0} {h : Hearing S} (g : Hearing T) (f : S → T) where
 -- ---- from lists to tallies
 
 abbrev pub tally_of : List Occurrence → Tally
-tally_of xs = record { count = min (counted_in xs) most_counted; notes = union xs; others = has_other xs }
+tally_of xs = record { count = min (counted_in xs) most_counted; notes = union xs; told = has_telling xs }
 
 abbrev pub tallied_knote : Knote listed → Knote tallying
 tallied_knote k = recast tallying tally_of k

@@ -7,7 +7,7 @@ use Rattle.kq_knote.proofs.tally.Tally.expired_if.Goals as goal
 pub returns : goal.returns
 returns c =
     let own = c.self.inside in
-    let tally : Tally = record { count = own.count; notes = own.notes; others = own.others } in
+    let tally : Tally = record { count = own.count; notes = own.notes; told = own.told } in
     let counted : c.min.result ≡ min (tally.count + 1) most_counted = omega (arith, c.min.ensures, c.saturating_add.ensures) in
     expired-once tally c.min.result counted ∙ ap (tallying.heard Expired) c.self.view_is
     ∙ ap (λ (b : Bool). cond b (tallying.heard Expired c.args.self) c.args.self) (sym c.if-not-come.false)
