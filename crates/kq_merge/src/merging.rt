@@ -9,6 +9,7 @@ use kq_model::{Memory, Row, Rows};
 use std::alloc::Global;
 
 /// All rows of these kqueues and the plain rows, each once, by place. Rows of kqueues move; the plain ones are copied.
+/// Memory: a growth was refused.
 pub fn merge(alloc: Global, kqueues: Vec<Rows>, plain: &[Row]) -> Result<Vec<Row>, Memory>
     ensures same { IfOk result (λ rows. IsPermutation (rows_in kqueues.items plain.now) rows.items) }
     ensures by_place { IfOk result (λ rows. NeverFall rows.items) }

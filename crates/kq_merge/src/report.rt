@@ -16,7 +16,7 @@ use std::alloc::Global;
 pub use text::{ReportText, calls_in, events_in};
 
 /// The report of these rows, out of so many records: a line for each row, and a last line that
-/// counts calls, events and records.
+/// counts calls, events and records. Memory: a growth was refused, or the text would be longer than memory can be.
 pub fn report_text(alloc: Global, rows: &[Row], records: u64) -> Result<Vec<u8>, Memory>
     ensures { IfOk result (λ text. text.items ≡ report rows.now records) }
 {

@@ -57,12 +57,12 @@ counts_none [] = refl
 counts_none (x ∷ xs) =
     let of = filter is_counted xs in
     by_test (λ b. eqb (min (length (cond b (x ∷ of) of)) most_counted) 0 && not (is_telling x || has_telling xs)
-        ≡ not ((b || is_telling x) || list_any (λ y. is_counted y || is_telling y) xs)) (is_counted x)
+    ≡ not ((b || is_telling x) || list_any (λ y. is_counted y || is_telling y) xs)) (is_counted x)
     (λ _. ap (λ b. b && not (is_telling x || has_telling xs)) (ne_eqb (min (suc (length of)) most_counted) 0 (λ e. omega arith)))
     (λ _. by_test (λ b. eqb (min (length of) most_counted) 0 && not (b || has_telling xs)
-        ≡ not (b || list_any (λ y. is_counted y || is_telling y) xs)) (is_telling x)
-        (λ _. and_right (eqb (min (length of) most_counted) 0) false refl)
-        (λ _. counts_none xs))
+    ≡ not (b || list_any (λ y. is_counted y || is_telling y) xs)) (is_telling x)
+    (λ _. and_right (eqb (min (length of) most_counted) 0) false refl)
+    (λ _. counts_none xs))
 
 pub tally_of-map : IsHearingMap listed tallying tally_of
 tally_of-map = record {

@@ -41,7 +41,7 @@ impl ReportText {
     }
 
     /// The text with the row of the reply to the record at a place; a record that was only done has
-    /// no row.
+    /// no row. Memory: a growth was refused.
     pub fn with_row(mut self, at: u64, reply: &Reply) -> Result<Self, Memory>
         ensures { IfOk result (λ text. text ≡ with_reply at reply.now self) }
     {
@@ -52,14 +52,15 @@ impl ReportText {
     }
 
     /// The whole text, with the last line, which counts the calls and events of the rows, and the
-    /// records of which they are the rows.
+    /// records of which they are the rows. Memory: a growth was refused, or the text would be longer
+    /// than memory can be.
     pub fn end(self, records: u64) -> Result<Vec<u8>, Memory>
         ensures { IfOk result (λ text. text.items ≡ self.lines ++ last_line self.calls self.events records) }
     {
         self.end_in_chunks(records)?.joined()
     }
 
-    /// The same, as it stands in memory.
+    /// The same, as it stands in memory, and Memory as there.
     pub fn end_in_chunks(self, records: u64) -> Result<TextChunks, Memory>
         ensures { IfOk result (λ text. text ≡ self.lines ++ last_line self.calls self.events records) }
     {
