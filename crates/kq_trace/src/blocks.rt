@@ -11,8 +11,9 @@ use kq_model::Memory;
 use memchr::memchr;
 use std::alloc::Global;
 
-/// So many bytes are enough for a block that one thread decodes: they and their records stay in its cache.
-const LONE_BLOCK_BYTES: usize = 131_072;
+/// So many bytes are enough for a block that one thread decodes: they, their records and what these touch stay in its
+/// cache.
+const LONE_BLOCK_BYTES: usize = 8_192;
 
 /// A block has so many bytes at least, but for the last one, where it is worth threads.
 const LEAST_BLOCK_BYTES: usize = 262_144;

@@ -11,7 +11,7 @@ use kq_model::Memory;
 use std::alloc::Global;
 
 /// How many a read asks for.
-const BYTES: usize = 65_536;
+const BYTES: usize = 8_192;
 
 /// Room for the bytes of one read.
 #[derive(Drop)]

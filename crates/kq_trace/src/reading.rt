@@ -192,7 +192,10 @@ fn round<R: AllocGlobal + Threads + Sync, S: Source + Send, K: Sink>(
             → K.took version sink.exit.now (so_far ++ flat_map (λ piece. piece.items) pieces.entry.items)) }
     { sink.accept(rt, before, replace(&mut pieces, Vec::new(alloc))) };
     if threads < 2 {
-        return (read(), decode(), take());
+        // Each takes what was made last, so that it still stands in the cache.
+        let taken = take();
+        let part = decode();
+        return (read(), part, taken);
     }
     join_three_mut(rt, &mut read, &mut decode, &mut take)
 }
