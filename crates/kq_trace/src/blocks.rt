@@ -18,8 +18,8 @@ const LONE_BLOCK_BYTES: usize = 8_192;
 /// A block has so many bytes at least, but for the last one, where it is worth threads.
 const LEAST_BLOCK_BYTES: usize = 262_144;
 
-/// However many bytes came, so many are enough for a block.
-const ENOUGH_BLOCK_BYTES: usize = 4_194_304;
+/// However many bytes came, so many are enough for a block: more would only stand in memory for longer.
+const ENOUGH_BLOCK_BYTES: usize = 1_048_576;
 
 /// A block has this part of the bytes that came before it, so that not much is left to be told of behind the last one.
 const BLOCK_PART: usize = 8;
