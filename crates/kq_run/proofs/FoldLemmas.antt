@@ -85,17 +85,17 @@ module _ {K : Type 0} (took : K → List Row → Type 0) where
 
 -- ---- a fold
 
-pub begun : (version : ℕ) (f : Fold) → system_of f.system ≡ empty_system version → f.system.applied ≡ 0 → f.text ≡ nothing_written
+pub begun : (version : ℕ) (f : Fold) → system_of f.system.value ≡ empty_system version → f.system.value.applied ≡ 0 → f.text ≡ nothing_written
     → f.waiting.items ≡ [] → IsFolded version f []
 begun version f empty none text waits = record {
   applied = none;
   rows = [];
   text = text ∙ nothing_is;
-  ahead = λ later. ap (λ rs. rs ++ rows_after 1 (system_of f.system) later) waits ∙ rows-begin version later (system_of f.system) empty;
+  ahead = λ later. ap (λ rs. rs ++ rows_after 1 (system_of f.system.value) later) waits ∙ rows-begin version later (system_of f.system.value) empty;
 }
 
 -- whatever was written of the rows, none is missing
-goes_on : (old new : Fold) (events : List Event) (rows : List Row) → AreRowsOf old.system new.system events rows
+goes_on : (old new : Fold) (events : List Event) (rows : List Row) → AreRowsOf old.system.value new.system.value events rows
     → ((before : List Row) → old.text ≡ written before
     → (all : List Row) × (new.text ≡ written all) × (all ++ new.waiting.items ≡ (before ++ old.waiting.items) ++ rows))
     → GoesOn old new events
@@ -104,18 +104,18 @@ goes_on old new events rows are lines = record {
   folded = λ version before is.
       let (all, text, same) = lines is.rows is.text in
       let so_far : List Row = is.rows ++ old.waiting.items in
-      let counts : new.system.applied ≡ length (before ++ events) =
+      let counts : new.system.value.applied ≡ length (before ++ events) =
       are.applied ∙ ap (λ n. n + length events) is.applied ∙ sym (length-append before events) in
       record {
         applied = counts;
         rows = all;
         text = text;
         ahead = λ later.
-            ap (λ rs. rs ++ rows_after (length (before ++ events) + 1) (system_of new.system) later) same
-            ∙ append_assoc so_far rows (rows_after (length (before ++ events) + 1) (system_of new.system) later)
-            ∙ ap (λ n. so_far ++ (rows ++ rows_after (n + 1) (system_of new.system) later)) (sym counts)
+            ap (λ rs. rs ++ rows_after (length (before ++ events) + 1) (system_of new.system.value) later) same
+            ∙ append_assoc so_far rows (rows_after (length (before ++ events) + 1) (system_of new.system.value) later)
+            ∙ ap (λ n. so_far ++ (rows ++ rows_after (n + 1) (system_of new.system.value) later)) (sym counts)
             ∙ ap (λ rs. so_far ++ rs) (are.ahead later)
-            ∙ ap (λ n. so_far ++ rows_after (n + 1) (system_of old.system) (events ++ later)) is.applied
+            ∙ ap (λ n. so_far ++ rows_after (n + 1) (system_of old.system.value) (events ++ later)) is.applied
             ∙ is.ahead (events ++ later)
             ∙ ap (model.rows version) (sym (append_assoc before events later));
       };
@@ -124,7 +124,7 @@ goes_on old new events rows are lines = record {
 -- the lines of the rows are written at once
 pub goes_on_alone : (old new : Fold) (events : List Event) (text : Written)
     → ((before : List Row) → old.text ≡ written before → text ≡ written (before ++ old.waiting.items))
-    → Answers (λ (w : Written) (rows : List Row). w ≡ written rows) old.system text new.system new.text events → new.waiting.items ≡ []
+    → Answers (λ (w : Written) (rows : List Row). w ≡ written rows) old.system.value text new.system.value new.text events → new.waiting.items ≡ []
     → GoesOn old new events
 goes_on_alone old new events text lines (rows, are, takes) none =
     goes_on old new events rows are
@@ -135,7 +135,7 @@ goes_on_alone old new events text lines (rows, are, takes) none =
 -- the rows wait
 pub goes_on_beside : (old new : Fold) (events : List Event) (kept : Vec Row Global)
     → ((before : List Row) → old.text ≡ written before → new.text ≡ written (before ++ old.waiting.items))
-    → Answers (λ (v : Vec Row Global) (rows : List Row). v.items ≡ rows) old.system kept new.system new.waiting events → kept.items ≡ []
+    → Answers (λ (v : Vec Row Global) (rows : List Row). v.items ≡ rows) old.system.value kept new.system.value new.waiting events → kept.items ≡ []
     → GoesOn old new events
 goes_on_beside old new events kept lines (rows, are, takes) none =
     goes_on old new events rows are
@@ -144,12 +144,12 @@ goes_on_beside old new events kept lines (rows, are, takes) none =
     (written_now, lines before is, ap (λ rs. written_now ++ rs) (takes [] none)))
 
 pub reported : (version records : ℕ) (f : Fold) (events : List Event) (all : Written) (text : List ℕ) → IsFolded version f events
-    → records ≡ f.system.applied → ((before : List Row) → f.text ≡ written before → all ≡ written (before ++ f.waiting.items))
+    → records ≡ f.system.value.applied → ((before : List Row) → f.text ≡ written before → all ≡ written (before ++ f.waiting.items))
     → text ≡ all.lines ++ last_line all.calls all.events records → text ≡ report_of version events
 unfolding report_of
 reported version records f events all text is counts lines end =
     let rows : List Row = is.rows ++ f.waiting.items in
     let whole : rows ≡ model.rows version events =
-    sym (none_left (length events + 1) (system_of f.system) rows) ∙ is.ahead [] ∙ ap (model.rows version) (append-nil events) in
+    sym (none_left (length events + 1) (system_of f.system.value) rows) ∙ is.ahead [] ∙ ap (model.rows version) (append-nil events) in
     report-is rows records all text (lines is.rows is.text) end
     ∙ ap (λ n. report rows n) (counts ∙ is.applied) ∙ ap (λ rs. report rs (length events)) whole

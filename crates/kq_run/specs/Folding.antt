@@ -23,18 +23,18 @@ Answers took old before new after events = (rows : List Row) × AreRowsOf old ne
 
 -- over these events of a trace of this version
 pub record IsFolded (version : ℕ) (f : Fold) (events : List Event) : Type 0 where
-  pub applied : f.system.applied ≡ length events
+  pub applied : f.system.value.applied ≡ length events
   -- of these rows the lines are written
   pub rows : List Row
   pub text : f.text ≡ written rows
   -- with the rows that wait and those of what comes behind they are the rows of one fold
   pub ahead : (later : List Event)
-      → (rows ++ f.waiting.items) ++ rows_after (length events + 1) (system_of f.system) later
+      → (rows ++ f.waiting.items) ++ rows_after (length events + 1) (system_of f.system.value) later
       ≡ model.rows version (events ++ later)
 
 -- over these events more, whatever the trace was before
 pub record GoesOn (old new : Fold) (events : List Event) : Type 0 where
-  pub applied : new.system.applied ≡ old.system.applied + length events
+  pub applied : new.system.value.applied ≡ old.system.value.applied + length events
   pub folded : (version : ℕ) (before : List Event) → IsFolded version old before
       → IsFolded version new (before ++ events)
 

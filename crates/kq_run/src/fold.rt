@@ -16,10 +16,10 @@ use kq_system::System;
 use std::alloc::Global;
 use std::thread::{Threads, join};
 
-/// The whole system after the records so far, and the report of what it answered.
+/// The whole system after the records so far, and the report of what it answered. It can be moved at little cost.
 #[derive(Drop)]
 pub struct Fold {
-    pub system: System,
+    pub system: Box<System>,
     pub text: ReportText,
     /// The last rows, whose lines are not yet written.
     pub waiting: Vec<Row>,
@@ -31,8 +31,10 @@ impl Fold {
         requires { IsVersion version }
         ensures { IfOk result (λ fold. IsFolded version fold []) }
     {
+        let system = System::new(alloc, version)?;
+        let system = Box::new(alloc, system)?;
         Ok(Fold {
-            system: System::new(alloc, version)?,
+            system,
             text: ReportText::new(alloc),
             waiting: Vec::new(alloc),
         })
@@ -45,7 +47,7 @@ impl Fold {
         beside: bool,
         pieces: &[Vec<Event>],
     ) -> Result<Self, Memory>
-        requires { self.system.applied + length (flat_map (λ piece. piece.items) pieces.now) < 2 ^ 31 }
+        requires { self.system.value.applied + length (flat_map (λ piece. piece.items) pieces.now) < 2 ^ 31 }
         ensures { IfOk result (λ fold. GoesOn self fold (flat_map (λ piece. piece.items) pieces.now)) }
     {
         if beside {
@@ -57,7 +59,7 @@ impl Fold {
 
     /// The same, the line of each row written at once.
     fn after_alone(self, alloc: Global, pieces: &[Vec<Event>]) -> Result<Self, Memory>
-        requires { self.system.applied + length (flat_map (λ piece. piece.items) pieces.now) < 2 ^ 31 }
+        requires { self.system.value.applied + length (flat_map (λ piece. piece.items) pieces.now) < 2 ^ 31 }
         ensures { IfOk result (λ fold. GoesOn self fold (flat_map (λ piece. piece.items) pieces.now)) }
     {
         let Fold {
@@ -66,7 +68,7 @@ impl Fold {
             waiting,
         } = self;
         let text = with_rows(text, waiting)?;
-        let (system, text) = answered(system, text, pieces)?;
+        let (system, text) = answered_in_box(system, text, pieces)?;
         Ok(Fold {
             system,
             text,
@@ -81,7 +83,7 @@ impl Fold {
         rt: &R,
         pieces: &[Vec<Event>],
     ) -> Result<Self, Memory>
-        requires { self.system.applied + length (flat_map (λ piece. piece.items) pieces.now) < 2 ^ 31 }
+        requires { self.system.value.applied + length (flat_map (λ piece. piece.items) pieces.now) < 2 ^ 31 }
         ensures { IfOk result (λ fold. GoesOn self fold (flat_map (λ piece. piece.items) pieces.now)) }
     {
         let Fold {
@@ -93,7 +95,7 @@ impl Fold {
         let (written, folded) = join(
             rt,
             move || with_rows(text, waiting),
-            move || answered(system, rows, pieces),
+            move || answered_in_box(system, rows, pieces),
         );
         let text = written?;
         let (system, waiting) = folded?;
@@ -130,33 +132,47 @@ fn with_rows(mut text: ReportText, rows: Vec<Row>) -> Result<ReportText, Memory>
 }
 
 /// The system after these pieces of records more, and what took the rows.
-fn answered<K: RowSink + Drop>(
-    mut system: System,
-    mut rows: K,
+fn answered_in_box<K: RowSink + Drop>(
+    mut system: Box<System>,
+    rows: K,
     pieces: &[Vec<Event>],
-) -> Result<(System, K), Memory>
-    requires { system.applied + length (flat_map (λ piece. piece.items) pieces.now) < 2 ^ 31 }
+) -> Result<(Box<System>, K), Memory>
+    requires { system.value.applied + length (flat_map (λ piece. piece.items) pieces.now) < 2 ^ 31 }
     ensures { IfOk result (λ after.
-        Answers K.took system rows after.0 after.1 (flat_map (λ piece. piece.items) pieces.now)) }
+        Answers K.took system.value rows after.0.value after.1 (flat_map (λ piece. piece.items) pieces.now)) }
 {
-    for piece in pieces {
-        (system, rows) = answered_piece(system, rows, piece.as_slice())?;
-    }
+    let rows = answered(&mut system, rows, pieces)?;
     Ok((system, rows))
 }
 
-/// The system after these records more, and what took the rows.
+/// Takes the system past these pieces of records: what took the rows.
+fn answered<K: RowSink + Drop>(
+    system: &mut System,
+    mut rows: K,
+    pieces: &[Vec<Event>],
+) -> Result<K, Memory>
+    requires { system.old.applied + length (flat_map (λ piece. piece.items) pieces.now) < 2 ^ 31 }
+    ensures { IfOk result (λ after.
+        Answers K.took system.old rows system.new after (flat_map (λ piece. piece.items) pieces.now)) }
+{
+    for piece in pieces {
+        rows = answered_piece(system, rows, piece.as_slice())?;
+    }
+    Ok(rows)
+}
+
+/// The same for a piece.
 fn answered_piece<K: RowSink + Drop>(
-    mut system: System,
+    system: &mut System,
     mut rows: K,
     events: &[Event],
-) -> Result<(System, K), Memory>
-    requires { system.applied + length events.now < 2 ^ 31 }
-    ensures { IfOk result (λ after. Answers K.took system rows after.0 after.1 events.now) }
+) -> Result<K, Memory>
+    requires { system.old.applied + length events.now < 2 ^ 31 }
+    ensures { IfOk result (λ after. Answers K.took system.old rows system.new after events.now) }
 {
     for event in events {
         let reply = system.apply(event)?;
         rows = rows.with_reply(system.applied(), reply)?;
     }
-    Ok((system, rows))
+    Ok(rows)
 }

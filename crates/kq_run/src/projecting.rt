@@ -28,7 +28,22 @@ pub fn rows_of<R: AllocGlobal + Threads + Wait + Sync, G: Gate + Sync, S: Starts
     ensures fault { IfErr result (IsReplayFault trace.now.version trace.now.events workers) }
 {
     let split = Split::of(rt.alloc(), trace)?;
-    let kqueues = match replay_all_with(rt, &split, workers, gate, starts) {
+    rows_of_split(rt, &split, workers, gate, starts)
+}
+
+/// The same of a trace that was split.
+fn rows_of_split<R: AllocGlobal + Threads + Wait + Sync, G: Gate + Sync, S: Starts>(
+    rt: &R,
+    split: &Split,
+    workers: u32,
+    gate: &G,
+    starts: &S,
+) -> Result<Vec<Row>, Fault>
+    requires { IsWorkerCount workers }
+    ensures rows { IfOk result (λ rs. rs.items ≡ rows split.now.version split.now.events) }
+    ensures fault { IfErr result (IsReplayFault split.now.version split.now.events workers) }
+{
+    let kqueues = match replay_all_with(rt, split, workers, gate, starts) {
         Ok(kqueues) => kqueues,
         Err(RunFault::Workers) => return Err(Fault::Usage),
         Err(RunFault::Memory) => return Err(Fault::Memory),

@@ -10,7 +10,7 @@ use Rattle.kq_run.proofs.FoldLemmas.{answers_more, answers_none}
 use Rattle.kq_run.proofs.fold.answered.Goals as goal
 
 pub loop-piece-init : goal.loop-piece-init
-loop-piece-init g c = answers_none g.K.RowSink.took c.args.system c.args.rows
+loop-piece-init g c = answers_none g.K.RowSink.took c.args.system.now c.args.rows
 
 pub answered_piece-requires : goal.answered_piece-requires
 answered_piece-requires g c =
@@ -27,18 +27,18 @@ loop-piece-preserved g c =
     let ps = c.args.pieces.now in
     let i = c.loop-piece.piece-index in
     let piece = c.piece-item.result in
-    let old = c.args.system in
+    let old = c.args.system.now in
     let mid = c.loop-piece.system in
-    let new = c.in_ok-system.field-0-0 in
-    let rows = c.in_ok-system.field-0-1 in
+    let new = c.answered_piece.new.system in
+    let rows = c.in_ok-rows.rows in
     let one : take (i + 1) ps ≡ take i ps ++ piece ∷ [] = take_more ps i piece c.loop-piece-test.true ∙ ap (λ p. take i ps ++ p ∷ []) (sym c.piece-item.is) in
     let all : events_in (take (i + 1) ps) ≡ events_in (take i ps) ++ piece.items =
     ap events_in one ∙ flat_map-append (λ (p : Vec Event Global). p.items) (take i ps) (piece ∷ []) ∙ ap (λ es. events_in (take i ps) ++ es) (append-nil piece.items) in
     subst (λ es. Answers took old c.args.rows new rows es) (sym all)
     (answers_more took old mid new c.args.rows c.loop-piece.rows rows (events_in (take i ps)) piece.items c.loop-piece.invariant
-    (subst (λ es. Answers took mid c.loop-piece.rows new rows es) c.as_slice.ensures.value c.in_ok-system.ensures))
+    (subst (λ es. Answers took mid c.loop-piece.rows new rows es) c.as_slice.ensures.value c.in_ok-rows.ensures))
 
 pub returns : goal.returns
 returns g c =
-    subst (λ ps. Answers g.K.RowSink.took c.args.system c.args.rows c.loop-piece.system c.loop-piece.rows (events_in ps))
+    subst (λ ps. Answers g.K.RowSink.took c.args.system.now c.args.rows c.loop-piece.system c.loop-piece.rows (events_in ps))
     (take_all c.loop-piece.piece-index c.args.pieces.now c.loop-piece-test.false) c.loop-piece.invariant

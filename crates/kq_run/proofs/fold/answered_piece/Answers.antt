@@ -6,7 +6,7 @@ use Rattle.kq_run.proofs.FoldLemmas.{answers_more, answers_none, answers_one}
 use Rattle.kq_run.proofs.fold.answered_piece.Goals as goal
 
 pub loop-event-init : goal.loop-event-init
-loop-event-init g c = answers_none g.K.RowSink.took c.args.system c.args.rows
+loop-event-init g c = answers_none g.K.RowSink.took c.args.system.now c.args.rows
 
 pub apply-requires : goal.apply-requires
 apply-requires g c =
@@ -20,7 +20,7 @@ loop-event-preserved g c =
     let es = c.args.events.now in
     let i = c.loop-event.event-index in
     let e = c.event-item.result in
-    let old = c.args.system in
+    let old = c.args.system.now in
     let mid = c.loop-event.system in
     let new = c.apply.new.self in
     let rows = c.in_ok-rows.rows in
@@ -31,5 +31,5 @@ loop-event-preserved g c =
 pub returns : goal.returns
 returns g c =
     let es = c.args.events.now in
-    subst (λ all. Answers g.K.RowSink.took c.args.system c.args.rows c.loop-event.system c.loop-event.rows all)
+    subst (λ all. Answers g.K.RowSink.took c.args.system.now c.args.rows c.loop-event.system c.loop-event.rows all)
     (take_all c.loop-event.event-index es c.loop-event-test.false) c.loop-event.invariant

@@ -18,6 +18,6 @@ returns g c =
     let new : Fold = record { system = system; text = text; waiting = waiting } in
     let lines : (before : List Row) → c.args.self.text ≡ written before → text ≡ written (before ++ c.args.self.waiting.items) =
     search (rules, of_calls) in
-    let answers : Answers (λ (v : Vec Row Global) (rows : List Row). v.items ≡ rows) c.args.self.system c.new-rows.result system waiting events =
+    let answers : Answers (λ (v : Vec Row Global) (rows : List Row). v.items ≡ rows) c.args.self.system.value c.new-rows.result system.value waiting events =
     search (rules, of_calls) in
     goes_on_beside c.args.self new events c.new-rows.result lines answers (search rules)

@@ -5,5 +5,5 @@ use Rattle.kq_run.proofs.fold.Fold.new.Goals as goal
 
 pub returns : goal.returns
 returns c =
-    begun c.args.version (record { system = c.in_ok-new.field-0; text = c.new-2.result; waiting = c.new-3.result })
-    c.in_ok-new.ensures.system c.in_ok-new.ensures.applied c.new-2.ensures (search rules)
+    begun c.args.version (record { system = c.in_ok-system-2.system; text = c.new-3.result; waiting = c.new-4.result })
+    (search rules) (search rules) c.new-3.ensures (search rules)
