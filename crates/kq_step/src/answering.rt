@@ -3,11 +3,14 @@ ghost use Rattle.std.specs.Io.KnownBytes.{prepend_known};
 ghost use Rattle.kq_model.specs.Limits.{IsVersion};
 ghost use Rattle.kq_step.specs.Answering.{IsHeaderFault, IsOpened, LeavesBy, WroteAll};
 ghost use Rattle.kq_step.specs.SoFar.{FromSoFar, SoFar};
+ghost use Rattle.kq_step.specs.Stepping.{before_records};
+ghost use Rattle.kq_step.specs.Stood.{IsAt};
 
 use crate::fault::Fault;
 use crate::output::write_out;
 use crate::stepping::Stepping;
 use kq_input::{Lines, LinesError};
+use kq_model::Memory;
 use kq_trace::version_on;
 use std::alloc::Global;
 use std::io::{Read, Write};
@@ -39,10 +42,19 @@ fn answer_behind<I: Read, O: Write>(
     ensures fault { IfErr result (LeavesBy (I.remaining input.old) (O.contents out.old) (O.contents out.new)) }
 {
     let version = header(alloc, lines, input)?;
-    let Ok(mut stepping) = Stepping::new(alloc, version) else {
+    let Ok(mut stepping) = stepping_from(alloc, version) else {
         return Err(Fault::Memory);
     };
     answer_lines(&mut stepping, lines, input, out)
+}
+
+/// Before the first record of a trace of this version, on the heap, so that it can be moved at little cost.
+fn stepping_from(alloc: Global, version: u32) -> Result<Box<Stepping>, Memory>
+    requires { IsVersion version }
+    ensures { IfOk result (λ stepping. IsAt (before_records version) stepping.value) }
+{
+    let stepping = Stepping::new(alloc, version)?;
+    Ok(Box::new(alloc, stepping)?)
 }
 
 /// Reads the version that the header names. An input without a line has an empty one.

@@ -55,7 +55,8 @@ pub fn call_of(event: &Event) -> Option<(Call, &[Change])> {
     }
 }
 
-/// Carries out the records before a place, and notes what these kevents go through.
+/// Carries out the records before a place, and notes what these kevents go through. The story can be moved at little
+/// cost.
 pub fn story_before<'r>(
     alloc: Global,
     trace: &Trace,
@@ -63,18 +64,19 @@ pub fn story_before<'r>(
     ignored: &'r [Ignored],
     at: u64,
     history: History,
-) -> Result<Story<'r>, Memory>
+) -> Result<Box<Story<'r>>, Memory>
     requires small { at < 2 ^ 31 }
     requires positive { 0 < at }
-    ensures { IfOk result (λ story. story.system.applied < at) }
+    ensures { IfOk result (λ story. story.value.system.applied < at) }
 {
-    let mut story = Story {
+    let story = Story {
         alloc,
         system: System::new(alloc, trace.version)?,
         history,
         ignored,
         rest: answers,
     };
+    let mut story = Box::new(alloc, story)?;
     story.go_on_before(trace, at)?;
     Ok(story)
 }

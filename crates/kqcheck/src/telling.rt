@@ -35,12 +35,12 @@ pub fn refusal_of(
         return Ok(out);
     };
     let nobody = History::new(alloc, 0, 0, &[])?;
-    let story = story_before(alloc, trace, answers, ignored, at, nobody)?;
-    let blame = put_answers(alloc, &mut out, story, event, at)?;
+    let mut story = story_before(alloc, trace, answers, ignored, at, nobody)?;
+    let blame = put_answers(alloc, &mut out, &mut story, event, at)?;
     if let (Some(blame), Some((call, changes))) = (blame, call_of(event)) {
         let mine = History::new(alloc, call.pid, call.fd, &[blame.key])?;
-        let again = story_before(alloc, trace, answers, ignored, at, mine)?;
-        put_blame(&mut out, again, &blame, call, changes)?;
+        let mut again = story_before(alloc, trace, answers, ignored, at, mine)?;
+        put_blame(&mut out, &mut again, &blame, call, changes)?;
     }
     Ok(out)
 }
@@ -48,19 +48,6 @@ pub fn refusal_of(
 /// Adds the answer that was given to a record, and that of the queue's order, and gives what is wrong. The story ends
 /// with the record.
 fn put_answers(
-    alloc: Global,
-    out: &mut Vec<u8>,
-    story: Story<'_>,
-    event: &Event,
-    at: u64,
-) -> Result<Option<Blame>, Memory>
-    requires { story.system.applied < 2 ^ 31 - 1 }
-{
-    let mut story = story;
-    put_both(alloc, out, &mut story, event, at)
-}
-
-fn put_both(
     alloc: Global,
     out: &mut Vec<u8>,
     story: &mut Story<'_>,
@@ -146,19 +133,6 @@ fn blame_of(judgement: Judgement, own: &[Kevent]) -> Option<Blame> {
 /// Adds what is blamed, and what that kevent went through until the changes of the call were done. The story ends
 /// there.
 fn put_blame(
-    out: &mut Vec<u8>,
-    story: Story<'_>,
-    blame: &Blame,
-    call: Call,
-    changes: &[Change],
-) -> Result<(), Memory>
-    requires { story.system.applied < 2 ^ 31 - 1 }
-{
-    let mut story = story;
-    put_moments_of(out, &mut story, blame, call, changes)
-}
-
-fn put_moments_of(
     out: &mut Vec<u8>,
     story: &mut Story<'_>,
     blame: &Blame,

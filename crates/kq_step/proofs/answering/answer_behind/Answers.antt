@@ -1,8 +1,10 @@
 -- The header, and what the lines behind it come to.
-use Rattle.std.proofs.Common.{rules}
+use Rattle.std.proofs.Common.{rules, subst, sym}
 use Rattle.std.proofs.lemmas.Result.{IfErr-weaker, on_ok_weaker}
 use Rattle.std.specs.Io.KnownBytes.{prepend_known}
 use Rattle.kq_step.specs.Answering.{LeavesBy}
+use Rattle.kq_step.specs.Stepping.{before_records}
+use Rattle.kq_step.specs.Stood.{IsAt}
 use Rattle.kq_step.proofs.SoFar.{by_header, nothing_answered, opened}
 use Rattle.kq_step.proofs.answering.answer_behind.Goals as goal
 
@@ -21,7 +23,8 @@ returns-clause-all g c =
     let given = g.I.Read.remaining c.args.input.now in
     let before = g.O.Write.contents c.args.out.now in
     let so_far = opened given before (prepend_known c.header.new.lines.waiting (g.I.Read.remaining c.header.new.input))
-    c.in_ok-version.version c.in-Ok.stepping c.in_ok-version.ensures.opened c.in-Ok.ensures in
+    c.in_ok-version.version c.deref_mut.result.now c.in_ok-version.ensures.opened
+    (subst (IsAt (before_records c.in_ok-version.version)) (sym c.deref_mut.ensures.value) c.in-Ok.ensures) in
     on_ok_weaker c.answer_lines.result (λ all. all given before so_far) c.answer_lines.ensures.all
 
 pub returns-clause-fault : goal.returns-clause-fault
@@ -29,5 +32,6 @@ returns-clause-fault g c =
     let given = g.I.Read.remaining c.args.input.now in
     let before = g.O.Write.contents c.args.out.now in
     let so_far = opened given before (prepend_known c.header.new.lines.waiting (g.I.Read.remaining c.header.new.input))
-    c.in_ok-version.version c.in-Ok.stepping c.in_ok-version.ensures.opened c.in-Ok.ensures in
+    c.in_ok-version.version c.deref_mut.result.now c.in_ok-version.ensures.opened
+    (subst (IsAt (before_records c.in_ok-version.version)) (sym c.deref_mut.ensures.value) c.in-Ok.ensures) in
     IfErr-weaker c.answer_lines.result _ _ (λ fault leaves. leaves given before so_far) c.answer_lines.ensures.fault
