@@ -136,7 +136,7 @@ impl Keyed for Knote {
 }
 
 impl Knote {
-    /// Whether it has nothing to tell: it has no notice, and heard nothing.
+    /// Whether it has nothing to tell: it has no notice, and heard nothing that tells anything.
     pub fn has_nothing(&self) -> bool
         ensures { result ≡ has_nothing self.now }
     {

@@ -16,7 +16,7 @@ pub struct Tally {
     pub count: u64,
     /// The union of the notes that it heard.
     pub notes: u32,
-    /// It heard a note or of a child.
+    /// It heard a hint that tells something by itself: a note, or of a child.
     pub told: bool,
 }
 

@@ -1,6 +1,7 @@
 -- A knote that is told hints one after the other becomes what the definition of a record's hints makes of it.
 use Rattle.std.proofs.Common.{◌≡◌, ◌+◌, ◌==◌, min, Bool, true, false, cond, not, ◌&&◌, ◌||◌, List, [], ◌∷◌, filter, Option, Some, None, refl, sym, ap, ◌∙◌, subst, arith, if◌then◌else◌}
 use Rattle.std.proofs.lemmas.Bool.{true≢false, ne_eqb, and_parts}
+use Rattle.std.specs.Cmp.Derive.{both_true}
 use Rattle.std.specs.List.{list_any}
 use Rattle.std.specs.Option.{is_none}
 use Rattle.kq_model.specs.declared.filter.Filter.{Filter}
@@ -40,9 +41,6 @@ or_true false = refl
 and_true : (b : Bool) → b && true ≡ b
 and_true true = refl
 and_true false = refl
-
-and_both : {a b : Bool} → a ≡ true → b ≡ true → a && b ≡ true
-and_both {a} {b} here there = ap (λ c. c && b) here ∙ there
 
 and_false : (b : Bool) → b && false ≡ false
 and_false true = refl
@@ -213,7 +211,7 @@ module _ {S : Type 0} {h : Hearing S} where
     added-empty None k e = e
     added-empty (Some hint) k e =
         let parts = and_parts (is_none k.notice) _ e in
-        and_both parts.0 (hears (Told hint) k.seen parts.1)
+        both_true parts.0 (hears (Told hint) k.seen parts.1)
 
     after-empty : (hint : Hint) (k : Knote h) → has_nothing (after_hint hint k) ≡ true → has_nothing k ≡ true
     unfolding after_hint
@@ -260,7 +258,7 @@ tally-hears x t =
     by_test (λ b. (cond b (min (t.count + 1) most_counted) t.count == 0) && not (is_telling x || t.told) ≡ true → tallying.is_empty t ≡ true)
     (is_counted x)
     (λ _ e. absurd (true≢false (sym (and_parts _ _ e).0 ∙ ne_eqb (min (t.count + 1) most_counted) 0 (λ z. omega (arith, z)))))
-    (λ _ e. let parts = and_parts (t.count == 0) _ e in and_both parts.0 (not_either (is_telling x) t.told parts.1))
+    (λ _ e. let parts = and_parts (t.count == 0) _ e in both_true parts.0 (not_either (is_telling x) t.told parts.1))
   where
     not_either : (a b : Bool) → not (a || b) ≡ true → not b ≡ true
     not_either true b e = absurd (true≢false (sym e))
