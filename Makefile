@@ -27,7 +27,7 @@ JOBS ?= $(shell echo $$((2 * $$(nproc))))
 # proves and builds a program over that, by as many jobs as there is room for, and runs it, so it is given its stored
 # run)
 all:
-	cd crates/kq_run && rt all check --jobs $(JOBS)
+	cd crates/kq_command && rt all check --jobs $(JOBS)
 	cd crates/kqsim && rt run < stdin
 	cd crates/kqstep && rt run < stdin
 	cd crates/kqcheck && rt run -- --explain 4 - < stdin

@@ -221,7 +221,8 @@ pub fn judge_all(
 ) -> Result<Outcome, Memory>
     ensures { IfOk result (IsJudged ignored.now permits trace.now.version trace.now.events answers.now) }
 {
-    let mut system = System::new(alloc, trace.version)?;
+    let empty = System::new(alloc, trace.version)?;
+    let mut system = Box::new(alloc, empty)?;
     judge_from(alloc, &mut system, trace, answers, ignored, permits)
 }
 

@@ -1,8 +1,9 @@
--- What of a live system may go to another thread, or lie before several. The machine has a system and an allocator,
--- and a snapshot, which owns nothing; a seat and the lock are the machine's, an event's and a reply's.
+-- What of a live system may go to another thread, or lie before several. The machine has a box and an allocator, and a
+-- snapshot, which owns nothing; a seat and the lock are the machine's, an event's and a reply's.
 use denote.RattleType.{RattleType}
 use denote.Param.Send.{IsSend, IsSync, sendable}
 use Rattle.std.specs.contracts.snapshot.Snapshot as snapshot
+use Rattle.std.proofs.Crossing.{Box-send}
 use Rattle.kq_model.specs.contracts.event.Event as event
 use Rattle.kq_model.specs.contracts.reply.Reply as reply
 use Rattle.kq_model.proofs.event.Event.TheSendSync as an_event
@@ -20,7 +21,7 @@ snapshot_send : (Y : RattleType) → IsSend (snapshot.the_row Y)
 snapshot_send Y = record { owned = λ d vs. ((λ vss. (tt, ((λ uss. (tt, tt)), tt))), tt); leaving = λ k f vs. tt }
 
 pub machine_send : IsSend machine.the_row
-machine_send = search (sendable, snapshot_send, system.the_send) depth 20
+machine_send = search (sendable, Box-send, snapshot_send, system.the_send) depth 20
 
 pub seat_send : IsSend (seat.the_row machine.the_row event.the_row reply.the_row ghosts)
 seat_send =

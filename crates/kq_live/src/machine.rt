@@ -16,10 +16,10 @@ use std::snapshot::Snapshot;
 /// Events that a system can apply.
 const MOST_EVENTS: u64 = (1 << 31) - 1;
 
-/// The system, whose step is an event and whose answer the reply to it.
+/// The system, whose step is an event and whose answer the reply to it. It can be moved at little cost.
 #[derive(Drop)]
 pub struct LiveMachine {
-    system: System,
+    system: Box<System>,
     /// The system as the last event left it. An event that was refused may have left more room in `system`, which
     /// contracts see in a system and not here.
     settled: Snapshot<System>,
@@ -36,7 +36,7 @@ impl Model for LiveMachine {
 
     ghost view = { λ m. m.settled.value };
 
-    ghost invariant = { λ m. IsUnchanged m.settled.value m.system };
+    ghost invariant = { λ m. IsUnchanged m.settled.value m.system.value };
 }
 
 impl LiveMachine {
@@ -47,6 +47,7 @@ impl LiveMachine {
     {
         let system = System::new(alloc, version)?;
         let settled = Snapshot::of(&system);
+        let system = Box::new(alloc, system)?;
         Ok(LiveMachine {
             system,
             settled,
@@ -70,7 +71,7 @@ impl Machine for LiveMachine {
         }
         let spare = Spare::for_reply_to(self.alloc, event)?;
         let reply = self.system.apply(event)?;
-        self.settled = Snapshot::of(&self.system);
+        self.settled = Snapshot::of(&*self.system);
         let copy = spare.copy_of(&reply);
         Ok((copy, reply))
     }

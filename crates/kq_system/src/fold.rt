@@ -30,7 +30,8 @@ impl System {
         ensures watched { AlwaysWatchTheirNumbers 1
             (empty_system {h = listed} {k = objects.listed} trace.now.version) trace.now.events }
     {
-        let mut system = System::new(alloc, trace.version)?;
+        let empty = System::new(alloc, trace.version)?;
+        let mut system = Box::new(alloc, empty)?;
         rows_from(alloc, &mut system, trace)
     }
 }

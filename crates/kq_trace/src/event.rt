@@ -5,7 +5,7 @@ ghost use Rattle.serde_json.specs.View.{view};
 ghost use Rattle.kq_model.specs.RecordText.{changes_at, event_as, with_pid_fd, with_u32};
 
 use crate::changes::change_list;
-use crate::member::{i64_at, moment_at, truth_at, u32_at};
+use crate::member::{i64_at, moment_at, truth_at, two_at, u32_at};
 use crate::names::{mode_at, note_at, side_at};
 use kq_model::{Change, Event, Memory, RecordKind, Series};
 use serde_json::Value;
@@ -35,8 +35,7 @@ fn proc(value: &Value) -> Option<Event>
 fn fork(value: &Value) -> Option<Event>
     ensures { result ≡ event_as RecordKind.Fork (view value.now) }
 {
-    let pid = u32_at(value, "pid")?;
-    let child = u32_at(value, "child")?;
+    let (pid, child) = two_at(value, "pid", "child")?;
     Some(Event::Fork { pid, child })
 }
 
@@ -53,8 +52,7 @@ fn exit(value: &Value) -> Option<Event>
 fn kqueue(value: &Value) -> Option<Event>
     ensures { result ≡ event_as RecordKind.Kqueue (view value.now) }
 {
-    let pid = u32_at(value, "pid")?;
-    let fd = u32_at(value, "fd")?;
+    let (pid, fd) = two_at(value, "pid", "fd")?;
     Some(Event::Kqueue { pid, fd })
 }
 
@@ -62,8 +60,7 @@ fn kqueue(value: &Value) -> Option<Event>
 fn dup(value: &Value) -> Option<Event>
     ensures { result ≡ event_as RecordKind.Dup (view value.now) }
 {
-    let pid = u32_at(value, "pid")?;
-    let fd = u32_at(value, "fd")?;
+    let (pid, fd) = two_at(value, "pid", "fd")?;
     let to = u32_at(value, "to")?;
     Some(Event::Dup { pid, fd, to })
 }
@@ -72,8 +69,7 @@ fn dup(value: &Value) -> Option<Event>
 fn close(value: &Value) -> Option<Event>
     ensures { result ≡ event_as RecordKind.Close (view value.now) }
 {
-    let pid = u32_at(value, "pid")?;
-    let fd = u32_at(value, "fd")?;
+    let (pid, fd) = two_at(value, "pid", "fd")?;
     Some(Event::Close { pid, fd })
 }
 
@@ -81,10 +77,8 @@ fn close(value: &Value) -> Option<Event>
 fn socket(value: &Value) -> Option<Event>
     ensures { result ≡ event_as RecordKind.Socket (view value.now) }
 {
-    let pid = u32_at(value, "pid")?;
-    let fd = u32_at(value, "fd")?;
-    let rcv = u32_at(value, "rcv")?;
-    let snd = u32_at(value, "snd")?;
+    let (pid, fd) = two_at(value, "pid", "fd")?;
+    let (rcv, snd) = two_at(value, "rcv", "snd")?;
     Some(Event::Socket { pid, fd, rcv, snd })
 }
 
@@ -92,8 +86,7 @@ fn socket(value: &Value) -> Option<Event>
 fn listen(value: &Value) -> Option<Event>
     ensures { result ≡ event_as RecordKind.Listen (view value.now) }
 {
-    let pid = u32_at(value, "pid")?;
-    let fd = u32_at(value, "fd")?;
+    let (pid, fd) = two_at(value, "pid", "fd")?;
     let backlog = u32_at(value, "backlog")?;
     Some(Event::Listen { pid, fd, backlog })
 }
@@ -102,8 +95,7 @@ fn listen(value: &Value) -> Option<Event>
 fn arrive(value: &Value) -> Option<Event>
     ensures { result ≡ event_as RecordKind.Arrive (view value.now) }
 {
-    let pid = u32_at(value, "pid")?;
-    let fd = u32_at(value, "fd")?;
+    let (pid, fd) = two_at(value, "pid", "fd")?;
     Some(Event::Arrive { pid, fd })
 }
 
@@ -111,11 +103,9 @@ fn arrive(value: &Value) -> Option<Event>
 fn accept(value: &Value) -> Option<Event>
     ensures { result ≡ event_as RecordKind.Accept (view value.now) }
 {
-    let pid = u32_at(value, "pid")?;
-    let fd = u32_at(value, "fd")?;
+    let (pid, fd) = two_at(value, "pid", "fd")?;
     let to = u32_at(value, "to")?;
-    let rcv = u32_at(value, "rcv")?;
-    let snd = u32_at(value, "snd")?;
+    let (rcv, snd) = two_at(value, "rcv", "snd")?;
     Some(Event::Accept {
         pid,
         fd,
@@ -129,8 +119,7 @@ fn accept(value: &Value) -> Option<Event>
 fn connect(value: &Value) -> Option<Event>
     ensures { result ≡ event_as RecordKind.Connect (view value.now) }
 {
-    let pid = u32_at(value, "pid")?;
-    let fd = u32_at(value, "fd")?;
+    let (pid, fd) = two_at(value, "pid", "fd")?;
     Some(Event::Connect { pid, fd })
 }
 
@@ -138,8 +127,7 @@ fn connect(value: &Value) -> Option<Event>
 fn rx(value: &Value) -> Option<Event>
     ensures { result ≡ event_as RecordKind.Rx (view value.now) }
 {
-    let pid = u32_at(value, "pid")?;
-    let fd = u32_at(value, "fd")?;
+    let (pid, fd) = two_at(value, "pid", "fd")?;
     let n = u32_at(value, "n")?;
     Some(Event::Rx { pid, fd, n })
 }
@@ -148,8 +136,7 @@ fn rx(value: &Value) -> Option<Event>
 fn tx(value: &Value) -> Option<Event>
     ensures { result ≡ event_as RecordKind.Tx (view value.now) }
 {
-    let pid = u32_at(value, "pid")?;
-    let fd = u32_at(value, "fd")?;
+    let (pid, fd) = two_at(value, "pid", "fd")?;
     let n = u32_at(value, "n")?;
     Some(Event::Tx { pid, fd, n })
 }
@@ -158,8 +145,7 @@ fn tx(value: &Value) -> Option<Event>
 fn shut(value: &Value) -> Option<Event>
     ensures { result ≡ event_as RecordKind.Shut (view value.now) }
 {
-    let pid = u32_at(value, "pid")?;
-    let fd = u32_at(value, "fd")?;
+    let (pid, fd) = two_at(value, "pid", "fd")?;
     let side = side_at(value, "side")?;
     let error = u32_at(value, "error")?;
     Some(Event::Shut {
@@ -174,8 +160,7 @@ fn shut(value: &Value) -> Option<Event>
 fn lowat(value: &Value) -> Option<Event>
     ensures { result ≡ event_as RecordKind.Lowat (view value.now) }
 {
-    let pid = u32_at(value, "pid")?;
-    let fd = u32_at(value, "fd")?;
+    let (pid, fd) = two_at(value, "pid", "fd")?;
     let side = side_at(value, "side")?;
     let n = u32_at(value, "n")?;
     Some(Event::Lowat { pid, fd, side, n })
@@ -185,10 +170,8 @@ fn lowat(value: &Value) -> Option<Event>
 fn pipe(value: &Value) -> Option<Event>
     ensures { result ≡ event_as RecordKind.Pipe (view value.now) }
 {
-    let pid = u32_at(value, "pid")?;
-    let rfd = u32_at(value, "rfd")?;
-    let wfd = u32_at(value, "wfd")?;
-    let cap = u32_at(value, "cap")?;
+    let (pid, rfd) = two_at(value, "pid", "rfd")?;
+    let (wfd, cap) = two_at(value, "wfd", "cap")?;
     Some(Event::Pipe { pid, rfd, wfd, cap })
 }
 
@@ -196,8 +179,7 @@ fn pipe(value: &Value) -> Option<Event>
 fn read(value: &Value) -> Option<Event>
     ensures { result ≡ event_as RecordKind.Read (view value.now) }
 {
-    let pid = u32_at(value, "pid")?;
-    let fd = u32_at(value, "fd")?;
+    let (pid, fd) = two_at(value, "pid", "fd")?;
     let n = u32_at(value, "n")?;
     Some(Event::Read { pid, fd, n })
 }
@@ -206,8 +188,7 @@ fn read(value: &Value) -> Option<Event>
 fn write(value: &Value) -> Option<Event>
     ensures { result ≡ event_as RecordKind.Write (view value.now) }
 {
-    let pid = u32_at(value, "pid")?;
-    let fd = u32_at(value, "fd")?;
+    let (pid, fd) = two_at(value, "pid", "fd")?;
     let n = u32_at(value, "n")?;
     Some(Event::Write { pid, fd, n })
 }
@@ -224,8 +205,7 @@ fn exec(value: &Value) -> Option<Event>
 fn sigset(value: &Value) -> Option<Event>
     ensures { result ≡ event_as RecordKind.Sigset (view value.now) }
 {
-    let pid = u32_at(value, "pid")?;
-    let sig = u32_at(value, "sig")?;
+    let (pid, sig) = two_at(value, "pid", "sig")?;
     let ignore = truth_at(value, "ignore")?;
     Some(Event::Sigset { pid, sig, ignore })
 }
@@ -234,8 +214,7 @@ fn sigset(value: &Value) -> Option<Event>
 fn sig(value: &Value) -> Option<Event>
     ensures { result ≡ event_as RecordKind.Sig (view value.now) }
 {
-    let pid = u32_at(value, "pid")?;
-    let sig = u32_at(value, "sig")?;
+    let (pid, sig) = two_at(value, "pid", "sig")?;
     Some(Event::Sig { pid, sig })
 }
 
@@ -252,8 +231,7 @@ fn file(value: &Value) -> Option<Event>
 fn open(value: &Value) -> Option<Event>
     ensures { result ≡ event_as RecordKind.Open (view value.now) }
 {
-    let pid = u32_at(value, "pid")?;
-    let fd = u32_at(value, "fd")?;
+    let (pid, fd) = two_at(value, "pid", "fd")?;
     let file = u32_at(value, "file")?;
     let mode = mode_at(value, "mode")?;
     Some(Event::Open {
@@ -268,8 +246,7 @@ fn open(value: &Value) -> Option<Event>
 fn seek(value: &Value) -> Option<Event>
     ensures { result ≡ event_as RecordKind.Seek (view value.now) }
 {
-    let pid = u32_at(value, "pid")?;
-    let fd = u32_at(value, "fd")?;
+    let (pid, fd) = two_at(value, "pid", "fd")?;
     let offset = i64_at(value, "offset")?;
     Some(Event::Seek { pid, fd, offset })
 }
@@ -306,8 +283,7 @@ fn with_changes(value: &Value, changes: Option<Vec<Change>>) -> Option<Event>
         (λ room. option_and_then (λ changes. Some (Event.Kevent pid fd changes room))
         (option_map (λ changes. changes.items) changes))) }
 {
-    let pid = u32_at(value, "pid")?;
-    let fd = u32_at(value, "fd")?;
+    let (pid, fd) = two_at(value, "pid", "fd")?;
     let room = u32_at(value, "room")?;
     let changes = Series::from_vec(changes?);
     Some(Event::Kevent {

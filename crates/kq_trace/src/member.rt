@@ -1,6 +1,6 @@
 //! The members of a record: whether they are there, of which kind, and their values in range.
 
-ghost use Rattle.std.specs.Prelude.{◌≡◌, map, option_and_then, pos};
+ghost use Rattle.std.specs.Prelude.{◌≡◌, ◌⊎◌, ℕ, None, Some, MatchOption, map, option_and_then, pos};
 ghost use Rattle.std.specs.List.{list_all};
 ghost use Rattle.serde_json.specs.Find.{get};
 ghost use Rattle.serde_json.specs.View.{view};
@@ -108,6 +108,18 @@ pub fn u32_at(value: &Value, name: &str) -> Option<u32>
         Some(member) => u32_in(member),
         None => None,
     }
+}
+
+/// Two members, where each is a whole number of 32 bits.
+pub fn two_at(value: &Value, one: &str, other: &str) -> Option<(u32, u32)>
+    ensures { MatchOption result
+        ((u32_at one.now (view value.now) ≡ None)
+        ⊎ ((number : ℕ) × (u32_at one.now (view value.now) ≡ Some number) × (u32_at other.now (view value.now) ≡ None)))
+        (λ two. (u32_at one.now (view value.now) ≡ Some two.0) × (u32_at other.now (view value.now) ≡ Some two.1)) }
+{
+    let one = u32_at(value, one)?;
+    let other = u32_at(value, other)?;
+    Some((one, other))
 }
 
 /// The member, where it is a whole number of 64 bits with a sign.

@@ -18,6 +18,7 @@ use fault::Fault;
 use input::{MOST_BYTES, read_in};
 use order::{Order, order_of};
 use running::{Given, run_order, tell};
+use std::alloc::Global;
 use std::env;
 use std::fs::File;
 use std::io::ErrorKind;
@@ -35,8 +36,16 @@ fn main(rt: HostRuntime) -> ExitCode {
     ExitCode::from(status)
 }
 
-/// The order of the command line, and what its files have. Words that are no text are none of the program's.
+/// The order of the command line, and what its files have.
 fn asked(rt: &HostRuntime) -> Result<(Order, Given), Fault> {
+    let words = words_given(rt)?;
+    let order = ordered(rt.alloc(), words.as_slice())?;
+    let given = given_for(rt, &order)?;
+    Ok((order, given))
+}
+
+/// The words after the program's name. Words that are no text are none of the program's.
+fn words_given(rt: &HostRuntime) -> Result<Vec<String>, Fault> {
     let all = env::args(rt).map_err(|error| match error.kind() {
         ErrorKind::OutOfMemory => Fault::Memory,
         _ => Fault::Usage,
@@ -45,13 +54,16 @@ fn asked(rt: &HostRuntime) -> Result<(Order, Given), Fault> {
     for word in all.skip(1) {
         words.push(word).map_err(|_| Fault::Memory)?;
     }
-    let mut texts = Vec::new(rt.alloc());
-    for word in &words {
+    Ok(words)
+}
+
+/// The order that the words give.
+fn ordered(alloc: Global, words: &[String]) -> Result<Order, Fault> {
+    let mut texts = Vec::new(alloc);
+    for word in words {
         texts.push(word.as_str()).map_err(|_| Fault::Memory)?;
     }
-    let order = order_of(rt.alloc(), texts.as_slice())?;
-    let given = given_for(rt, &order)?;
-    Ok((order, given))
+    order_of(alloc, texts.as_slice())
 }
 
 /// The files of an order, read whole.

@@ -94,15 +94,33 @@ fn check<R: AllocGlobal + Threads + Sync, O: Write>(
 ) -> Result<u8, Fault> {
     let trace = read_trace_with(rt, &given.trace, 1)?;
     let answers = read_answers(rt.alloc(), &given.answers)?;
-    let answers = answers.as_slice();
+    check_answers(
+        rt.alloc(),
+        &trace,
+        answers.as_slice(),
+        ignored,
+        permits,
+        out,
+    )
+}
+
+/// Holds answers against a trace.
+fn check_answers<O: Write>(
+    alloc: Global,
+    trace: &Trace,
+    answers: &[Answer],
+    ignored: &[Ignored],
+    permits: bool,
+    out: &mut O,
+) -> Result<u8, Fault> {
     if let Some(line) = first_misplaced(trace.events.as_slice(), answers) {
         return Err(Fault::Answers {
             line,
             fault: AnswerFault::NoCall,
         });
     }
-    let outcome = judge_all(rt.alloc(), &trace, answers, ignored, permits)?;
-    let text = text_of(rt.alloc(), &trace, answers, ignored, outcome)?;
+    let outcome = judge_all(alloc, trace, answers, ignored, permits)?;
+    let text = text_of(alloc, trace, answers, ignored, outcome)?;
     write_out(&text, out)?;
     Ok(outcome.status())
 }
@@ -132,21 +150,37 @@ fn explain<R: AllocGlobal + Threads + Sync, O: Write>(
     out: &mut O,
 ) -> Result<u8, Fault> {
     let trace = read_trace_with(rt, &given.trace, 1)?;
-    let outcome = judge_all(rt.alloc(), &trace, &[], &[], permits)?;
-    if let Outcome::Impossible { at: place, .. } = outcome {
-        if place <= at {
-            let text = text_of(rt.alloc(), &trace, &[], &[], outcome)?;
+    explain_call(rt.alloc(), &trace, at, permits, out)
+}
+
+/// Explains the call at a place of a trace, unless an impossible record stands before it.
+fn explain_call<O: Write>(
+    alloc: Global,
+    trace: &Trace,
+    at: u64,
+    permits: bool,
+    out: &mut O,
+) -> Result<u8, Fault> {
+    let outcome = judge_all(alloc, trace, &[], &[], permits)?;
+    match outcome {
+        Outcome::Impossible { at: place, .. } if place <= at => {
+            let text = text_of(alloc, trace, &[], &[], outcome)?;
             write_out(&text, out)?;
-            return Ok(1);
+            Ok(1)
         }
+        _ => put_explained(alloc, trace, at, out),
     }
-    match explained(rt.alloc(), &trace, at)? {
-        Some(text) => {
-            write_out(&text, out)?;
-            Ok(0)
-        }
-        None => Err(Fault::NoCall { at }),
-    }
+}
+
+fn put_explained<O: Write>(
+    alloc: Global,
+    trace: &Trace,
+    at: u64,
+    out: &mut O,
+) -> Result<u8, Fault> {
+    let text = explained(alloc, trace, at)?.ok_or(Fault::NoCall { at })?;
+    write_out(&text, out)?;
+    Ok(0)
 }
 
 /// Prints the line of a fault; where that fails nothing else can be done.

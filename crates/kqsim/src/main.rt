@@ -2,16 +2,9 @@
 //! kevent(2) call in it returned.
 #![tactic(auto)]
 
-mod command_line;
-mod order;
-mod running;
-#[cfg(test)]
-mod tests;
-
-use command_line::parse_words;
+use kq_command::{Order, parse_words, run_order, tell};
 use kq_run::Fault;
-use order::Order;
-use running::{run_order, tell};
+use std::alloc::Global;
 use std::env;
 use std::fs::File;
 use std::io::ErrorKind;
@@ -35,19 +28,9 @@ fn main(rt: HostRuntime) -> ExitCode {
 /// The order of the command line, and the file that it names, opened; none for standard input.
 fn asked(rt: &HostRuntime) -> Result<(Order, Option<File>), Fault> {
     let words = words(rt)?;
-    let mut texts = Vec::new(rt.alloc());
-    for word in &words {
-        texts.push(word.as_str()).map_err(|_| Fault::Memory)?;
-    }
-    let order = parse_words(rt.alloc(), texts.as_slice())?;
-    if order.file() == "-" {
-        return Ok((order, None));
-    }
-    let file = File::open(rt, order.file()).map_err(|error| match error.kind() {
-        ErrorKind::OutOfMemory => Fault::Memory,
-        _ => Fault::Read,
-    })?;
-    Ok((order, Some(file)))
+    let order = ordered(rt.alloc(), words.as_slice())?;
+    let file = opened(rt, order.file())?;
+    Ok((order, file))
 }
 
 /// The words after the program's name. Words that are no text are none of the program's.
@@ -61,4 +44,25 @@ fn words(rt: &HostRuntime) -> Result<Vec<String>, Fault> {
         words.push(word).map_err(|_| Fault::Memory)?;
     }
     Ok(words)
+}
+
+/// The order that the words give.
+fn ordered(alloc: Global, words: &[String]) -> Result<Order, Fault> {
+    let mut texts = Vec::new(alloc);
+    for word in words {
+        texts.push(word.as_str()).map_err(|_| Fault::Memory)?;
+    }
+    parse_words(alloc, texts.as_slice())
+}
+
+/// The file of this name; none for standard input, whose name is `-`.
+fn opened(rt: &HostRuntime, name: &str) -> Result<Option<File>, Fault> {
+    if name == "-" {
+        return Ok(None);
+    }
+    let file = File::open(rt, name).map_err(|error| match error.kind() {
+        ErrorKind::OutOfMemory => Fault::Memory,
+        _ => Fault::Read,
+    })?;
+    Ok(Some(file))
 }

@@ -1,5 +1,6 @@
 //! A trace that is applied record by record.
 ghost use Rattle.std.specs.Prelude.{◌-◌, ◌^◌, ◌<◌};
+ghost use Rattle.kq_model.specs.Limits.{IsVersion};
 
 use crate::Outcome;
 use crate::fault::Fault;
@@ -18,8 +19,16 @@ pub fn applied(alloc: Global, bytes: &[u8]) -> Result<Outcome, Fault> {
 
 /// The report of the records that are read.
 fn replied(alloc: Global, reader: &mut TraceReader<'_>) -> Result<Outcome, Fault> {
-    let mut system = System::new(alloc, reader.version())?;
+    let mut system = empty_system(alloc, reader.version())?;
     replied_by(alloc, reader, &mut system)
+}
+
+/// The system before the first record of a trace of this version, on the heap.
+fn empty_system(alloc: Global, version: u32) -> Result<Box<System>, Memory>
+    requires { IsVersion version }
+{
+    let system = System::new(alloc, version)?;
+    Ok(Box::new(alloc, system)?)
 }
 
 /// The report of the records that are read, by this system.

@@ -1,8 +1,9 @@
 //! What happens where a reader has no end, and where a writer fails midway.
 use crate::given::{REPORT, STORED};
+use crate::narrow::{Narrow, taking};
 use kq_run::{Fault, live_report, read_in, write_out};
 use std::io;
-use std::io::{ErrorKind, Read, Write};
+use std::io::{ErrorKind, Read};
 use std::sync::Wait;
 use std::test::Fail;
 use std::thread::Threads;
@@ -21,40 +22,6 @@ impl Read for Endless {
         }
         buf[0] = b' ';
         Ok(1)
-    }
-}
-
-/// Takes one byte a write, and fails once it was written so often.
-#[derive(Drop)]
-struct Narrow {
-    got: Vec<u8>,
-    writes: usize,
-}
-
-impl Write for Narrow {
-    fn write(&mut self, buf: &[u8]) -> io::Result<usize> {
-        if self.writes == 0 {
-            return Err(io::Error::from(ErrorKind::Other));
-        }
-        self.writes -= 1;
-        if buf.is_empty() {
-            return Ok(0);
-        }
-        self.got
-            .push(buf[0])
-            .map_err(|_| io::Error::from(ErrorKind::OutOfMemory))?;
-        Ok(1)
-    }
-
-    fn flush(&mut self) -> io::Result<()> {
-        Ok(())
-    }
-}
-
-fn taking(rt: &impl AllocGlobal, writes: usize) -> Narrow {
-    Narrow {
-        got: Vec::new(rt.alloc()),
-        writes,
     }
 }
 
@@ -81,7 +48,7 @@ fn is_cut_off(ended: Result<(), Fault>, out: &Narrow, writes: usize) -> bool {
 }
 
 fn is_written_in_part(rt: &impl AllocGlobal, writes: usize) -> bool {
-    let mut out = taking(rt, writes);
+    let mut out = taking(rt, writes, Some(ErrorKind::Other));
     let ended = write_out(REPORT.as_bytes(), &mut out);
     is_cut_off(ended, &out, writes)
 }
@@ -91,12 +58,12 @@ fn a_failed_write_leaves_a_prefix(rt: HostRuntime) {
     for writes in [0, 5] {
         assert!(rt; is_written_in_part(&rt, writes), "at {writes}");
     }
-    let mut whole = taking(&rt, REPORT.len());
+    let mut whole = taking(&rt, REPORT.len(), None);
     assert!(rt; write_out(REPORT.as_bytes(), &mut whole).is_ok());
 }
 
 fn is_live_in_part<R: AllocGlobal + Threads + Wait + Sync>(rt: &R, writes: usize) -> bool {
-    let mut out = taking(rt, writes);
+    let mut out = taking(rt, writes, Some(ErrorKind::Other));
     let ended = live_report(rt, STORED.as_bytes(), 1, &mut out);
     is_cut_off(ended, &out, writes)
 }

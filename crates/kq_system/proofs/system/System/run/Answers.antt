@@ -1,4 +1,4 @@
-use Rattle.std.proofs.Common.{◌∙◌, ℕ, ap}
+use Rattle.std.proofs.Common.{◌≡◌, ◌∙◌, ℕ, ap, rules}
 use Rattle.std.proofs.lemmas.Result.{IfOk-weaker}
 use Rattle.kq_model.specs.Hearing.{listed}
 use Rattle.kq_model.specs.Objects as objects
@@ -14,9 +14,11 @@ use Rattle.kq_system.proofs.system.System.run.Goals as goal
 pub returns-clause-rows : goal.returns-clause-rows
 returns-clause-rows c =
     let trace = c.args.trace.now in
-    let system = c.in_ok-system in
+    let begun = c.deref_mut.result.now in
+    let is : begun ≡ c.in_ok-empty.empty = search rules in
     IfOk-weaker c.rows_from.result _ _
-    (λ rs are. are ∙ rows-begin trace.version trace.events (system_of system.system) system.ensures.system) c.rows_from.ensures
+    (λ rs are. are ∙ rows-begin trace.version trace.events (system_of begun) (ap system_of is ∙ c.in_ok-empty.ensures.system))
+    c.rows_from.ensures
 
 pub returns-clause-version_one : goal.returns-clause-version_one
 returns-clause-version_one c = λ first.
@@ -30,6 +32,13 @@ returns-clause-closed c =
 
 pub returns-clause-watched : goal.returns-clause-watched
 returns-clause-watched c = always_watched_from_none c.args.trace.now.version c.args.trace.now.events
+
+pub returns-in_err-empty-clause-closed : goal.returns-in_err-empty-clause-closed
+returns-in_err-empty-clause-closed c =
+    always_closes 1 (empty_system {h = listed} {k = objects.listed} c.args.trace.now.version) c.args.trace.now.events
+
+pub returns-in_err-empty-clause-watched : goal.returns-in_err-empty-clause-watched
+returns-in_err-empty-clause-watched c = always_watched_from_none c.args.trace.now.version c.args.trace.now.events
 
 pub returns-in_err-system-clause-closed : goal.returns-in_err-system-clause-closed
 returns-in_err-system-clause-closed c =

@@ -1,7 +1,7 @@
 ghost use Rattle.std.specs.Prelude.{◌≡◌, ◌↔◌, IfErr, IsErrOf, IsTrue, OnOk};
 ghost use Rattle.std.specs.Io.KnownBytes.{Keeps};
 ghost use Rattle.kq_run.specs.Written.{Leaves, Writes};
-ghost use Rattle.kqsim.specs.Run.{EndsBy, IsInRange, IsReaderFault, IsReaderOutput, LeavesBy, WritesOutput};
+ghost use Rattle.kq_command.specs.Run.{EndsBy, IsInRange, IsReaderFault, IsReaderOutput, LeavesBy, WritesOutput};
 
 use crate::order::Order;
 use kq_run::{

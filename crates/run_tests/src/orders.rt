@@ -1,9 +1,10 @@
 //! What happens to an order where a reader or a writer fails midway.
-use super::program::{REPORT, STORED, replay_of};
-use crate::order::Order;
-use crate::running::run_order;
+use crate::given::{REPORT, STORED};
+use crate::narrow::taking;
+use crate::words::replay_of;
+use kq_command::{Order, run_order};
 use std::io;
-use std::io::{ErrorKind, Read, Write};
+use std::io::{ErrorKind, Read};
 use std::sync::Wait;
 use std::test::Fail;
 use std::thread::Threads;
@@ -28,45 +29,6 @@ impl Read for Halting<'_> {
         buf[0] = self.bytes[0];
         self.bytes = &self.bytes[1..];
         Ok(1)
-    }
-}
-
-/// Takes one byte a write, and once it was written so often fails, or takes nothing more.
-#[derive(Drop)]
-struct Narrow {
-    got: Vec<u8>,
-    writes: usize,
-    kind: Option<ErrorKind>,
-}
-
-impl Write for Narrow {
-    fn write(&mut self, buf: &[u8]) -> io::Result<usize> {
-        if self.writes == 0 {
-            return match self.kind {
-                Some(kind) => Err(io::Error::from(kind)),
-                None => Ok(0),
-            };
-        }
-        self.writes -= 1;
-        if buf.is_empty() {
-            return Ok(0);
-        }
-        self.got
-            .push(buf[0])
-            .map_err(|_| io::Error::from(ErrorKind::OutOfMemory))?;
-        Ok(1)
-    }
-
-    fn flush(&mut self) -> io::Result<()> {
-        Ok(())
-    }
-}
-
-fn taking(rt: &impl AllocGlobal, writes: usize, kind: Option<ErrorKind>) -> Narrow {
-    Narrow {
-        got: Vec::new(rt.alloc()),
-        writes,
-        kind,
     }
 }
 

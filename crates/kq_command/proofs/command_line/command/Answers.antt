@@ -3,8 +3,8 @@ use Rattle.std.proofs.Common.{◌≡◌, ◌∙◌, rules, ap₂, codes, true}
 use Rattle.std.proofs.lemmas.Result.{IfOk-weaker}
 use Rattle.clap.specs.Words.{App, app_of, new_app, with_subcommand}
 use Rattle.clap.specs.Simple.{on_top}
-use Rattle.kqsim.specs.CommandLine.{command_app, threads_rule, workers_rule}
-use Rattle.kqsim.proofs.command_line.command.Goals as goal
+use Rattle.kq_command.specs.CommandLine.{command_app, threads_rule, workers_rule}
+use Rattle.kq_command.proofs.command_line.command.Goals as goal
 
 abbrev start : App
 start = on_top (λ s. record s { subcommand_required = true }) (new_app (codes "kqsim"))

@@ -7,8 +7,8 @@ use Rattle.kq_run.specs.Replay.{Had, IsFault, IsReport}
 use Rattle.kq_run.specs.Workers.{IsThreadCount, IsWorkerCount}
 use Rattle.kq_run.specs.declared.fault.Fault.{Fault}
 use Rattle.kq_run.specs.declared.fault.Fault.TheVariants.{Usage, Read, Trace, Memory, Spawn, Write}
-use Rattle.kqsim.specs.declared.order.Order.{Order}
-use Rattle.kqsim.specs.declared.order.Order.TheVariants as order
+use Rattle.kq_command.specs.declared.order.Order.{Order}
+use Rattle.kq_command.specs.declared.order.Order.TheVariants as order
 
 -- the most bytes that the program reads
 abbrev pub most_bytes : ℕ

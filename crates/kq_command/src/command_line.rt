@@ -4,8 +4,8 @@ ghost use Rattle.std.specs.Prelude.{string_bytes, IfOk, IfErr};
 ghost use Rattle.clap.specs.Words.{app_of, first_of, found_of, one_of, rows_of, rule_of, subcommand_rows_of};
 ghost use Rattle.clap.specs.Words.{with_subcommand};
 ghost use Rattle.clap.specs.declared.builder.command.Command.TheViews.{out-Command as fields_of};
-ghost use Rattle.kqsim.specs.CommandLine.{IsOrderFrom, IsOrderOf, command_app, file_rule, number_in, program};
-ghost use Rattle.kqsim.specs.CommandLine.{threads_rule, workers_rule};
+ghost use Rattle.kq_command.specs.CommandLine.{IsOrderFrom, IsOrderOf, command_app, file_rule, number_in, program};
+ghost use Rattle.kq_command.specs.CommandLine.{threads_rule, workers_rule};
 ghost use Rattle.kq_run.specs.Workers.{IsThreadCount};
 
 use crate::order::Order;

@@ -7,10 +7,10 @@ use Rattle.kq_run.specs.Living.{IsLiveFault, IsLiveReport}
 use Rattle.kq_run.specs.Replay.{Had, IsInputFault, IsReportIn}
 use Rattle.kq_run.specs.Workers.{IsThreadCount}
 use Rattle.kq_run.specs.Written.{Leaves}
-use Rattle.kqsim.specs.Run.{IsInRange, IsReaderFault, IsReaderOutput, most_bytes}
-use Rattle.kqsim.specs.declared.order.Order.TheVariants as order
-use Rattle.kqsim.proofs.Outputs.{bytes_left, input_fault_given, leaves_as, live_fault_given}
-use Rattle.kqsim.proofs.running.write_output.Goals as goal
+use Rattle.kq_command.specs.Run.{IsInRange, IsReaderFault, IsReaderOutput, most_bytes}
+use Rattle.kq_command.specs.declared.order.Order.TheVariants as order
+use Rattle.kq_command.proofs.Outputs.{bytes_left, input_fault_given, leaves_as, live_fault_given}
+use Rattle.kq_command.proofs.running.write_output.Goals as goal
 
 pub returns-in-Replay-clause-fault : goal.returns-in-Replay-clause-fault
 returns-in-Replay-clause-fault g c =

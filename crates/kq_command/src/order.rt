@@ -27,7 +27,7 @@ pub enum Order {
 }
 
 impl Order {
-    ghost use Rattle.kqsim.specs.Run.{file_of};
+    ghost use Rattle.kq_command.specs.Run.{file_of};
 
     /// The file with the trace, or `-` for standard input.
     pub fn file(&self) -> &str

@@ -4,8 +4,8 @@ use Rattle.std.specs.Borrow.{Bor}
 use Rattle.std.specs.Str.Parse.{ExplainsUnsignedError, HasUnsignedDigitsIfOk, ParsesUnsigned}
 use Rattle.clap.specs.Words.{ReadsOne, Text, found_of, one_text}
 use Rattle.clap.proofs.WalkLemmas.{first_value-rows, one_text-rows}
-use Rattle.kqsim.specs.CommandLine.{number_in}
-use Rattle.kqsim.proofs.command_line.number_and_file.Goals as goal
+use Rattle.kq_command.specs.CommandLine.{number_in}
+use Rattle.kq_command.proofs.command_line.number_and_file.Goals as goal
 
 -- a number that was read is the number in the text
 number_read : {E : Type 0} (X Y : Text → Result ℕ E → Type 0) (text : Option Text) (r : Option ℕ) (n : ℕ) → r ≡ Some n

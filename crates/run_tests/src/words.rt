@@ -1,30 +1,9 @@
 //! The words of the command line.
-use crate::command_line::parse_words;
-use crate::order::Order;
+use kq_command::{Order, parse_words};
 use kq_run::Fault;
 use std::alloc::Global;
 use std::process::Abort;
 use std::test::Fail;
-
-pub const STORED: &str = concat!(
-    "{\"kqsim\":1}\n",
-    "{\"op\":\"proc\",\"pid\":1}\n",
-    "{\"op\":\"kqueue\",\"pid\":1,\"fd\":9}\n",
-    "{\"op\":\"kevent\",\"pid\":1,\"fd\":9,",
-    "\"changes\":[{\"ident\":7,\"filter\":\"USER\",\"flags\":[\"ADD\"],\"fflags\":5}],\"room\":4}\n",
-    "{\"op\":\"kevent\",\"pid\":1,\"fd\":9,",
-    "\"changes\":[{\"ident\":7,\"filter\":\"USER\",\"flags\":[],\"fflags\":16777216}],\"room\":0}\n",
-    "{\"op\":\"kevent\",\"pid\":1,\"fd\":9,\"changes\":[],\"room\":4}\n",
-    "{\"op\":\"kevent\",\"pid\":1,\"fd\":9,\"changes\":[],\"room\":4}\n",
-);
-
-pub const REPORT: &str = concat!(
-    "{\"at\":3,\"events\":[]}\n",
-    "{\"at\":4,\"events\":[]}\n",
-    "{\"at\":5,\"events\":[{\"data\":0,\"fflags\":5,\"filter\":\"USER\",\"flags\":[],\"ident\":7,\"udata\":0}]}\n",
-    "{\"at\":6,\"events\":[{\"data\":0,\"fflags\":5,\"filter\":\"USER\",\"flags\":[],\"ident\":7,\"udata\":0}]}\n",
-    "{\"calls\":4,\"events\":2,\"records\":6}\n",
-);
 
 pub fn replay_of(rt: &HostRuntime, workers: u32, file: &str) -> Result<Order, Fail> {
     let file = String::from_str(rt.alloc(), file)?;

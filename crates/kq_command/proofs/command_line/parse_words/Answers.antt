@@ -2,9 +2,9 @@ use Rattle.std.proofs.Common.{◌≡◌, ◌∙◌, List, [], ◌∷◌, rules, 
 use Rattle.std.proofs.lemmas.Result.{IfOk-weaker}
 use Rattle.std.specs.Borrow.{Bor}
 use Rattle.clap.specs.Words.{HasMatchesOf, Text, app_of, is_simple, subcommand_of, subcommand_rows_of}
-use Rattle.kqsim.specs.declared.order.Order.{Order}
-use Rattle.kqsim.specs.CommandLine.{Entered, IsOrderFrom, IsOrderOf, entered_by, program}
-use Rattle.kqsim.proofs.command_line.parse_words.Goals as goal
+use Rattle.kq_command.specs.declared.order.Order.{Order}
+use Rattle.kq_command.specs.CommandLine.{Entered, IsOrderFrom, IsOrderOf, entered_by, program}
+use Rattle.kq_command.proofs.command_line.parse_words.Goals as goal
 
 -- what was entered gives the order, where there are words
 order_given : (words : List (Bor Text)) (entered : Entered) (order : Order) → nat_eq (length words) 0 ≡ false

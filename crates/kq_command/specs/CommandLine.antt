@@ -11,8 +11,8 @@ use Rattle.clap.specs.Simple.{on_top}
 use Rattle.clap.specs.declared.builder.ArgAction.TheVariants.{Set}
 use Rattle.clap.specs.declared.builder.value_parser.ValueParser.TheVariants as vp
 use Rattle.kq_run.specs.Workers.{IsThreadCount, IsWorkerCount}
-use Rattle.kqsim.specs.declared.order.Order.{Order}
-use Rattle.kqsim.specs.declared.order.Order.TheVariants.{Replay, Live, Book}
+use Rattle.kq_command.specs.declared.order.Order.{Order}
+use Rattle.kq_command.specs.declared.order.Order.TheVariants.{Replay, Live, Book}
 
 -- `--NAME N`, a whole number from 1 up to a limit, and 1 where it is not given
 abbrev pub number_rule : Text → ℕ → Rule

@@ -8,8 +8,8 @@ use Rattle.kq_run.specs.Workers.{IsThreadCount}
 use Rattle.kq_run.specs.Written.{Leaves}
 use Rattle.kq_run.specs.declared.fault.Fault.{Fault}
 use Rattle.kq_run.specs.declared.fault.Fault.TheVariants.{Usage, Read, Trace, Memory, Spawn, Write}
-use Rattle.kqsim.specs.Run.{IsOutputFault, IsReaderFault, most_bytes}
-use Rattle.kqsim.specs.declared.order.Order.{Order}
+use Rattle.kq_command.specs.Run.{IsOutputFault, IsReaderFault, most_bytes}
+use Rattle.kq_command.specs.declared.order.Order.{Order}
 
 -- a fault of an input
 pub input_fault_given : (o : Order) (workers : ℕ) (given : Option (List ℕ))

@@ -1,2 +1,0 @@
-mod program;
-mod streams;
