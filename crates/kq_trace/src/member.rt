@@ -114,8 +114,10 @@ pub fn u32_at(value: &Value, name: &str) -> Option<u32>
 pub fn two_at(value: &Value, one: &str, other: &str) -> Option<(u32, u32)>
     ensures { MatchOption result
         ((u32_at one.now (view value.now) ≡ None)
-        ⊎ ((number : ℕ) × (u32_at one.now (view value.now) ≡ Some number) × (u32_at other.now (view value.now) ≡ None)))
-        (λ two. (u32_at one.now (view value.now) ≡ Some two.0) × (u32_at other.now (view value.now) ≡ Some two.1)) }
+        ⊎ ((number : ℕ) × (u32_at one.now (view value.now) ≡ Some number)
+        × (u32_at other.now (view value.now) ≡ None)))
+        (λ two. (u32_at one.now (view value.now) ≡ Some two.0)
+        × (u32_at other.now (view value.now) ≡ Some two.1)) }
 {
     let one = u32_at(value, one)?;
     let other = u32_at(value, other)?;
