@@ -20,6 +20,9 @@ pub mod FoldAlone
 pub mod Distinct
 pub mod MergedRows
 pub mod FoldRows
+pub mod Shares
+pub mod ShareSteps
+pub mod ShareTallied
 pub mod PlannedCalls
 pub mod Projection
 pub mod ProjectionOpened

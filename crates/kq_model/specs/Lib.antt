@@ -65,6 +65,7 @@ pub mod References
 pub mod PrivateList
 pub mod Replayed
 pub mod OwnedRows
+pub mod Shares
 pub mod Projection
 -- Laws: what these definitions promise, in the words of a user of kqueue(2), and what version 1 of the format meant.
 pub mod RegistrationLaws

@@ -1,9 +1,8 @@
 -- A call that begins in the table of live kqueues, and another order of a queue: the kqueue that it is about is written
 -- in its place, and the system stays lawful.
-use Rattle.std.proofs.Common.{◌≡◌, ◌∙◌, ◌+◌, ◌==◌, ◌&&◌, ◌||◌, ℕ, Bool, true, false, nat_eq, List, [], ◌∷◌, map, Option, None, Some, Result, Ok, Err, refl, sym, ap, ap₂, subst, cond, arith}
-use Rattle.std.proofs.lemmas.Bool.{and_parts, true≢false}
+use Rattle.std.proofs.Common.{◌≡◌, ◌∙◌, ◌+◌, ℕ, Bool, true, false, nat_eq, List, [], ◌∷◌, map, Option, None, Some, Result, Ok, Err, refl, sym, ap, ap₂, subst, cond, arith}
 use Rattle.std.proofs.lemmas.Bool.Decides.{nat_tests}
-use Rattle.std.proofs.lemmas.List.Elements.{All-nil, All-cons, All-head, All-tail, All-weaker}
+use Rattle.std.proofs.lemmas.List.Elements.{All-nil, All-cons, All-head, All-tail}
 use Rattle.std.specs.List.{AllByRecursion, IsDistinct}
 use Rattle.std.specs.Map.{lookup, keys_of, set_value}
 use Rattle.std.specs.Prelude.{All, IfOk, OnErr, option_and_then}
@@ -16,11 +15,11 @@ use Rattle.kq_model.specs.declared.change.Change.{Change}
 use Rattle.kq_model.specs.declared.memory.Memory.{Memory}
 use Rattle.kq_model.specs.declared.object.Target.{Target}
 use Rattle.kq_model.specs.declared.reply.Reply.{Reply}
+use Rattle.kq_model.specs.declared.reply.Reply.TheVariants as reply
 use Rattle.kq_model.specs.Bits.{add, asks}
 use Rattle.kq_model.specs.Call.{call}
 use Rattle.kq_model.specs.Caller.{Caller}
 use Rattle.kq_model.specs.Hearing.{tallying}
-use Rattle.kq_model.specs.LiveKqueues.{AreAllLive, NamesLive, has_live, is_live_as}
 use Rattle.kq_model.specs.Moment.{Moment, caller_at}
 use Rattle.kq_model.specs.Subjects.{HaveSubjects}
 use Rattle.kq_model.specs.Tallied.{Called, Kqueue, Live}
@@ -36,7 +35,7 @@ use Rattle.kq_process.specs.World.{world_of}
 use Rattle.kq_system.specs.Beginning.{begun_kqueue, live_at, with_live_at, IsBegunAt, IsCallSoFar}
 use Rattle.kq_system.specs.Showing.{IsListed}
 use Rattle.kq_system.specs.SystemState.{AreOfVersion, HaveStayed, IsCalled, IsLawful, IsQuiet, NumberedKqueue, live_of}
-use Rattle.kq_system.proofs.CallLemmas.{called_quiet, keys_kept, live_by_place, live_found, same_live, up_to_more, version_found, version_kept}
+use Rattle.kq_system.proofs.CallLemmas.{called_none, called_quiet, keys_kept, same_live, up_to_more, version_found, version_kept}
 use Rattle.kq_system.proofs.FoundLemmas.{make_listed}
 use Rattle.kq_system.proofs.ShowLemmas.{Entries}
 
@@ -112,38 +111,6 @@ behind x k (e ∷ es) is others =
     let other : nat_eq k e.0 ≡ false = ap (λ n. nat_eq n e.0) is ∙ others.0 in
     rw other (behind x k es is others.1)
 
-swapped : (a b : ℕ) → nat_eq a b ≡ nat_eq b a
-swapped a b = grind (arith, nat_tests)
-
-owner_step : (place pid number : ℕ) (e : ℕ × NumberedKqueue) (es : Entries) (v : NumberedKqueue) (b c : Bool)
-    → nat_eq place e.0 ≡ b → c ≡ b → cond b (Some e.1) (lookup (nat_eq place) es) ≡ Some v
-    → ((c && ((e.1.kq.owner == pid) && (e.1.number == number))) || has_live place pid number (map live_of es)) ≡ true
-    → (b ≡ true → has_live place pid number (map live_of es) ≡ true → ⊥)
-    → (lookup (nat_eq place) es ≡ Some v → has_live place pid number (map live_of es) ≡ true → v.kq.owner ≡ pid)
-    → v.kq.owner ≡ pid
-owner_step place pid number e es v true true hit same found is alone later =
-    let here : e.1 ≡ v = cc in
-    by_test (λ (o : Bool). ((e.1.kq.owner == pid) && (e.1.number == number)) ≡ o
-    → (o || has_live place pid number (map live_of es)) ≡ true → v.kq.owner ≡ pid)
-    ((e.1.kq.owner == pid) && (e.1.number == number))
-    (λ _ both _. sym (ap (λ (u : NumberedKqueue). u.kq.owner) here)
-    ∙ is_equal e.1.kq.owner pid ((and_parts (e.1.kq.owner == pid) (e.1.number == number) both).0))
-    (λ _ _ more. absurd (alone refl more)) refl is
-owner_step place pid number e es v true false hit same found is alone later = absurd (true≢false (sym same))
-owner_step place pid number e es v false true hit same found is alone later = absurd (true≢false same)
-owner_step place pid number e es v false false hit same found is alone later = later found is
-
--- a kqueue that a number of a process names is of that process
-pub owner_found : (place pid number : ℕ) (es : Entries) (v : NumberedKqueue) → IsDistinct nat_eq (keys_of es)
-    → has_live place pid number (map live_of es) ≡ true → lookup (nat_eq place) es ≡ Some v → v.kq.owner ≡ pid
-unfolding IsDistinct
-owner_found place pid number [] v distinct is found = absurd (cc)
-owner_found place pid number (e ∷ es) v distinct is found =
-    owner_step place pid number e es v (nat_eq place e.0) (nat_eq e.0 place) refl (swapped e.0 place) found is
-    (λ hit more. live_found place es (live_by_place place pid number (map live_of es) more)
-    (behind e.0 place es (is_equal place e.0 hit) distinct.0))
-    (λ there more. owner_found place pid number es v distinct.1 more there)
-
 -- ---- something is done with the kqueue of a place
 
 module _ (k : ℕ) (does : Live → Kqueue) where
@@ -155,7 +122,7 @@ module _ (k : ℕ) (does : Live → Kqueue) where
   absent_step true e rest none = absurd (cc)
   absent_step false e rest none = (refl, none)
 
-  none_with : (es : Entries) → lookup (nat_eq k) es ≡ None → with_live_at k does (map live_of es) ≡ map live_of es
+  pub none_with : (es : Entries) → lookup (nat_eq k) es ≡ None → with_live_at k does (map live_of es) ≡ map live_of es
   none_with [] none = refl
   none_with (e ∷ es) none =
       let gone = absent_step (nat_eq k e.0) e (lookup (nat_eq k) es) none in
@@ -191,16 +158,6 @@ module _ (k : ℕ) (does : Live → Kqueue) where
   set_with (e ∷ es) v w distinct found number owner kq =
       with_step e es v w (nat_eq k e.0) refl distinct.0 found number owner kq
       (λ there. set_with es v w distinct.1 there number owner kq)
-
-  -- no kqueue comes, and none goes
-  pub has_live-with : (place pid number : ℕ) (live : List Live)
-      → has_live place pid number (with_live_at k does live) ≡ has_live place pid number live
-  has_live-with place pid number [] = refl
-  has_live-with place pid number (l ∷ ls) =
-      ap₂ (λ (a : Bool) (b : Bool). a || b)
-      (by_test (λ b. is_live_as place pid number (one_with l b) ≡ is_live_as place pid number l) (nat_eq k l.place)
-      (λ _. refl) (λ _. refl))
-      (has_live-with place pid number ls)
 
   pub watched-with : (views : Views) (live : List Live)
       → ((l : Live) → WatchTheirNumbers views l.owner l.kq → WatchTheirNumbers views l.owner (does l))
@@ -290,6 +247,24 @@ so_far-goes m n c views es v w quiet sees versions calls still seen version then
           (set_twice c.kqueue es w u) read,
     )
 
+-- nothing comes of a call on one that is not live
+pub begun_none : (m : Moment) (c : Call) (es : Entries) → lookup (nat_eq c.kqueue) es ≡ None
+    → IsBegunAt m c (map live_of es) (map live_of es) None
+begun_none m c es none = (
+  sym (none_with c.kqueue (λ l. (begun_kqueue m c l).kq) es none),
+  sym (ap (option_and_then (λ (l : Live). (begun_kqueue m c l).answer)) (live_at-none c.kqueue es none)),
+)
+
+pub so_far-none : (m n : Moment) (c : Call) (es : Entries) → IsQuiet m → m.call ≡ Some c
+    → IsQuiet n → n.call ≡ Some (record c { changes = [] }) → lookup (nat_eq c.kqueue) es ≡ None
+    → IsCallSoFar m n c (map live_of es) (map live_of es) None
+so_far-none m n c es quiet calls still then none = (
+  map live_of es,
+  reply.Done,
+  called_none m c quiet calls es none,
+  called_none n (record c { changes = [] }) still then es none,
+)
+
 -- what a call that began is, so far
 pub so_far : (m n : Moment) (c : Call) (views : Views) (es : Entries) (v w : NumberedKqueue) (answer : Option Reply)
     → IsQuiet m → m.views ≡ views → AreOfVersion m.version es → m.call ≡ Some c
@@ -335,25 +310,13 @@ begun_watched m c l all =
 
 -- ---- the system stays lawful
 
--- the same live kqueues, of which one was changed
-pub all_live-with : (version : ℕ) (w : code.World) (k : ℕ) (does : Live → Kqueue) (live next : List Live)
-    → next ≡ with_live_at k does live
-    → AreAllLive (record { version = version; world = world_of w; live = live })
-    → AreAllLive (record { version = version; world = world_of w; live = next })
-all_live-with version w k does live next is all =
-    All-weaker (NamesLive live) (NamesLive next)
-    (λ d names place named. ap (has_live place d.pid d.number) is ∙ has_live-with k does place d.pid d.number live
-    ∙ names place named) (world_of w).table all
-
 pub lawful_now : (version applied : ℕ) (w : code.World) (es es' : Entries)
     → IsLawful version applied w es → HaveStayed es es'
-    → AreAllLive (record { version = version; world = world_of w; live = map live_of es' })
     → AllWatchTheirNumbers (record { version = version; world = world_of w; live = map live_of es' })
     → IsLawful version applied w es'
-lawful_now version applied w es es' old stayed live watched = record {
+lawful_now version applied w es es' old stayed watched = record {
   of_version = stayed.of_version version old.of_version;
   born = stayed.up_to applied old.born;
-  all_live = live;
   watched = watched;
   places = old.places;
 }
@@ -364,7 +327,6 @@ pub lawful_later : (version applied : ℕ) (w : code.World) (es : Entries) → I
 lawful_later version applied w es old = record {
   of_version = old.of_version;
   born = up_to_more applied (applied + 1) (keys_of es) (omega arith) old.born;
-  all_live = old.all_live;
   watched = old.watched;
   places = let before = old.places in omega arith;
 }

@@ -1,19 +1,19 @@
 -- A call in the table of live kqueues: the one that is called makes its step in its place.
-use Rattle.std.proofs.Common.{◌≡◌, ◌∙◌, ◌==◌, ◌||◌, ◌&&◌, ◌<◌, ◌≤◌, ◌++◌, ℕ, Bool, true, false, nat_eq, List, [], ◌∷◌, map, Option, None, Some, refl, sym, ap, ap₂, cond, arith}
-use Rattle.std.specs.List.{AllByRecursion, IsDistinct, list_any}
+use Rattle.std.proofs.Common.{◌≡◌, ◌∙◌, ◌<◌, ◌≤◌, ◌++◌, ℕ, Bool, true, false, nat_eq, List, [], ◌∷◌, map, Option, None, Some, refl, sym, ap, ap₂, cond, arith}
+use Rattle.std.specs.List.{AllByRecursion, IsDistinct}
 use Rattle.std.specs.Map.{lookup, keys_of, set_value}
 use Rattle.std.proofs.lemmas.Bool.Decides.{nat_tests}
 use Rattle.kq_model.specs.declared.reply.Reply.{Reply}
+use Rattle.kq_model.specs.declared.reply.Reply.TheVariants as reply
 use Rattle.kq_kevent.specs.Owned.{caller}
 use Rattle.kq_model.specs.Call as kevent
 use Rattle.kq_model.specs.Caller.{Caller}
-use Rattle.kq_model.specs.LiveKqueues.{has_live}
 use Rattle.kq_model.specs.Moment.{Moment, called_at, caller_at}
 use Rattle.kq_model.specs.System.{answer, stepped}
 use Rattle.kq_model.specs.Tallied.{Called, Kqueue, Live}
 use Rattle.kq_model.specs.Views.{Views}
 use Rattle.kq_model.specs.World.{Call}
-use Rattle.kq_system.specs.SystemState.{AreOfVersion, AreUpTo, IsCalled, IsLive, IsQuiet, NumberedKqueue, live_of}
+use Rattle.kq_system.specs.SystemState.{AreOfVersion, AreUpTo, IsCalled, IsQuiet, NumberedKqueue, live_of}
 use Rattle.kq_system.proofs.QuietLemmas.{called_one, called_other, lived_each, unhappened}
 
 -- ---- what a look-up finds
@@ -36,36 +36,6 @@ behind x k (e ∷ es) is others =
 
 swapped : (a b : ℕ) → nat_eq a b ≡ nat_eq b a
 swapped a b = grind (arith, nat_tests)
-
--- a kqueue that is live is found
-there_step : (b c : Bool) (v : NumberedKqueue) (rest : Option NumberedKqueue) (later : Bool) → b ≡ c
-    → (later ≡ true → rest ≡ None → ⊥) → (b || later) ≡ true
-    → cond c (Some v) rest ≡ None → ⊥
-there_step true true v rest later same gone is none = cc
-there_step true false v rest later same gone is none = cc
-there_step false true v rest later same gone is none = cc
-there_step false false v rest later same gone is none = gone is none
-
-pub live_found : (place : ℕ) (es : List (ℕ × NumberedKqueue)) → IsLive place (map live_of es)
-    → lookup (nat_eq place) es ≡ None → ⊥
-live_found place [] is none = cc
-live_found place (e ∷ es) is none =
-    there_step (nat_eq e.0 place) (nat_eq place e.0) e.1 (lookup (nat_eq place) es)
-    (list_any (λ (l : Live). l.place == place) (map live_of es))
-    (swapped e.0 place) (live_found place es) is none
-
--- the kqueue of a number is live
-or_cases : (a b rest others : Bool) → ((a && b) || rest) ≡ true → (rest ≡ true → others ≡ true) → (a || others) ≡ true
-or_cases true b rest others is more = refl
-or_cases false b rest others is more = more is
-
-pub live_by_place : (place pid number : ℕ) (live : List Live) → has_live place pid number live ≡ true
-    → IsLive place live
-live_by_place place pid number [] is = is
-live_by_place place pid number (l ∷ ls) is =
-    or_cases (l.place == place) ((l.owner == pid) && (l.number == number)) (has_live place pid number ls)
-    (list_any (λ (k : Live). k.place == place) ls)
-    is (live_by_place place pid number ls)
 
 -- ---- the kqueue that is called is written in its place
 
@@ -133,6 +103,22 @@ some_answers : (m : Moment) (c : Call) (es : List (ℕ × NumberedKqueue)) (v : 
 some_answers m c [] v r found is = absurd (cc)
 some_answers m c (e ∷ es) v r found is =
     answers_step m c e es v r (nat_eq c.kqueue e.0) refl found is (λ there. some_answers m c es v r there is)
+
+none_answers : (m : Moment) (c : Call) (es : List (ℕ × NumberedKqueue)) → lookup (nat_eq c.kqueue) es ≡ None
+    → reply.Done ≡ answer m c (map live_of es)
+unfolding answer
+none_answers m c [] none = refl
+none_answers m c (e ∷ es) none =
+    let others = missed (nat_eq c.kqueue e.0) e.1 (lookup (nat_eq c.kqueue) es) none in
+    rw others.0 (none_answers m c es others.1)
+
+-- nothing comes of a call on one that is not live
+pub called_none : (m : Moment) (c : Call) → IsQuiet m → m.call ≡ Some c → (es : List (ℕ × NumberedKqueue))
+    → lookup (nat_eq c.kqueue) es ≡ None → IsCalled m c (map live_of es) (map live_of es) reply.Done
+called_none m c quiet call es none = (
+  none_called m c quiet call es none ∙ sym (lived_each m (map live_of es) quiet),
+  none_answers m c es none,
+)
 
 pub called_some : (m : Moment) (c : Call) → IsQuiet m → m.call ≡ Some c
     → (es : List (ℕ × NumberedKqueue)) (v w : NumberedKqueue) (r : Reply) → IsDistinct nat_eq (keys_of es)

@@ -24,3 +24,4 @@ pub mod BeginSteps
 pub mod BeginTallied
 pub mod NamedLemmas
 pub mod NearLemmas
+pub mod ShareLemmas

@@ -16,7 +16,6 @@ use Rattle.kq_model.specs.Close.{Pair}
 use Rattle.kq_model.specs.CountedWorld.{IsCountedWorld, NamesBelow}
 use Rattle.kq_model.specs.DescriptorPlans.{on_descriptor, on_named, plan_call, plan_kevent, plan_kqueue}
 use Rattle.kq_model.specs.Limits.{most_changes, most_room}
-use Rattle.kq_model.specs.LiveKqueues.{AreAllLive}
 use Rattle.kq_model.specs.Plans.{plan}
 use Rattle.kq_model.specs.Processes.{is_live}
 use Rattle.kq_model.specs.System.{born}
@@ -45,13 +44,11 @@ counted_later place w c = record {
 
 pub lawful_after : (version applied : ℕ) (w w' : code.World) (es es' : List (ℕ × NumberedKqueue))
     → IsLawful version applied w es → HaveStayed es es'
-    → AreAllLive (record { version = version; world = world_of w'; live = map live_of es' })
     → AllWatchTheirNumbers (record { version = version; world = world_of w'; live = map live_of es' })
     → last_of w' ≤ applied + 1 → IsLawful version (applied + 1) w' es'
-lawful_after version applied w w' es es' old stayed live watched places = record {
+lawful_after version applied w w' es es' old stayed watched places = record {
   of_version = stayed.of_version version old.of_version;
   born = stayed.up_to (applied + 1) (up_to_more applied (applied + 1) (keys_of es) (omega arith) old.born);
-  all_live = live;
   watched = watched;
   places = places;
 }
@@ -63,8 +60,6 @@ lawful_unchanged version applied w w' es es' old same last entries =
     subst (λ (l : List (ℕ × NumberedKqueue)). IsLawful version applied w' l) (sym entries) (record {
       of_version = old.of_version;
       born = old.born;
-      all_live = subst (λ (v : World). AreAllLive (record { version = version; world = v; live = map live_of es }))
-          (sym same) old.all_live;
       watched =
           subst (λ (v : World). AllWatchTheirNumbers (record { version = version; world = v; live = map live_of es }))
           (sym same) old.watched;
@@ -78,8 +73,6 @@ pub lawful_same : (version applied : ℕ) (w : code.World) (es es' : List (ℕ �
 lawful_same version applied w es es' old stayed same = record {
   of_version = stayed.of_version version old.of_version;
   born = stayed.up_to applied old.born;
-  all_live = subst (λ (ls : List Live). AreAllLive (record { version = version; world = world_of w; live = ls }))
-      (sym same) old.all_live;
   watched = subst (λ (ls : List Live). AllWatchTheirNumbers
       (record { version = version; world = world_of w; live = ls }))
       (sym same) old.watched;

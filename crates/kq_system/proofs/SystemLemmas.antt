@@ -8,7 +8,6 @@ use Rattle.kq_model.specs.declared.why.Why.{Why}
 use Rattle.kq_model.specs.Close.{Pair}
 use Rattle.kq_model.specs.CountedWorld.{IsCountedWorld}
 use Rattle.kq_model.specs.Descriptors.{Descriptor, IsRising, with_descriptors}
-use Rattle.kq_model.specs.LiveKqueues.{AreAllLive}
 use Rattle.kq_model.specs.Moment.{moment_of}
 use Rattle.kq_model.specs.Objects.{all_done}
 use Rattle.kq_model.specs.Plans.{plan}
@@ -19,7 +18,6 @@ use Rattle.kq_model.specs.Tallied.{Live, System, World}
 use Rattle.kq_model.specs.Targets.{Posted}
 use Rattle.kq_model.specs.WatchedNumbers.{AllWatchTheirNumbers}
 use Rattle.kq_model.specs.World.{Call, Impossible, Plan, Planned, Possible, carried_out, clock_after, idle, views_of, with_kqueue}
-use Rattle.kq_model.proofs.LiveKqueues.{step-live}
 use Rattle.kq_model.proofs.SeenWorld.{seen-counted}
 use Rattle.kq_model.proofs.WatchedNumbers.{step-watched}
 use Rattle.kq_process.specs.declared.effect.Effect.{Effect}
@@ -168,12 +166,7 @@ opened place pid number e p old w live planned is world grown =
     bears place pid number e old w live (planned ∙ ap Possible is)
     (world ∙ ap (λ (p : Plan). carried_out place p old.world) is) grown
 
--- after a step a number that names a kqueue names a live one, where it did before
-pub stays_live : (place : ℕ) (e : Event) (old new : System) (r : Reply) → IsStep place e old new r → AreAllLive old
-    → AreAllLive new
-stays_live place e old new r steps all = subst (λ (s : System). AreAllLive s) (sym steps.0) (step-live place e old all)
-
--- and READ, WRITE and VNODE knotes watch what their numbers name, where they did before
+-- after a step READ, WRITE and VNODE knotes watch what their numbers name, where they did before
 pub stays_watched : (place next : ℕ) (e : Event) (old new : System) (r : Reply) → IsStep place e old new r
     → IsCountedWorld next new.world → AllWatchTheirNumbers old → AllWatchTheirNumbers new
 stays_watched place next e old new r steps counted all =

@@ -3,3 +3,5 @@ pub mod Places
 pub mod Showing
 pub mod Forking
 pub mod Beginning
+pub mod Dealing
+pub mod Sharing

@@ -1,7 +1,6 @@
 -- The system of the code as contracts see it, and how its tables stand for the model's lists.
-use Rattle.std.specs.Prelude.{◌≡◌, ◌==◌, ◌≤◌, ℕ, Bool, true, not, List, [], ◌∷◌, map}
+use Rattle.std.specs.Prelude.{◌≡◌, ◌≤◌, ℕ, Bool, not, List, [], ◌∷◌, map}
 use Rattle.std.specs.Prelude.{filter, Some, None}
-use Rattle.std.specs.List.{list_any}
 use Rattle.std.specs.Map.{keys_of}
 use Rattle.kq_kevent.specs.Owned.{OwnedKqueue}
 use Rattle.kq_model.specs.declared.event.Event.{Event}
@@ -11,7 +10,6 @@ use Rattle.kq_model.specs.Clock.{Span, clocked}
 use Rattle.kq_model.specs.Close.{Pair, closed, has_pair}
 use Rattle.kq_model.specs.Following.{followed}
 use Rattle.kq_model.specs.Hints.{notified}
-use Rattle.kq_model.specs.LiveKqueues.{AreAllLive}
 use Rattle.kq_model.specs.Moment.{Moment}
 use Rattle.kq_model.specs.Plans.{plan}
 use Rattle.kq_model.specs.System as system
@@ -80,10 +78,6 @@ call_plan c = record idle { call = Some c }
 abbrev pub IsCalled : Moment → Call → List Live → List Live → Reply → Type 0
 IsCalled m c old new reply = (new ≡ system.lived m old) × (reply ≡ system.answer m c old)
 
--- the kqueue that was made at this place is live
-abbrev pub IsLive : ℕ → List Live → Type 0
-IsLive place live = list_any (λ (l : Live). l.place == place) live ≡ true
-
 -- the record calls no kqueue, makes none and leaves the clock as it is, where it is possible
 pub record IsPlain (event : Event) : Type 0 where
   pub call : (place : ℕ) (w : World) (p : Plan) → plan place event w ≡ Possible p → p.call ≡ None
@@ -138,8 +132,6 @@ pub record IsLawful (version applied : ℕ) (world : code.World) (live : List (�
   pub of_version : AreOfVersion version live
   -- no place of birth is later than the last event
   pub born : AreUpTo applied (keys_of live)
-  -- a number that names a kqueue names a live one, under this number and of this process
-  pub all_live : AreAllLive (record { version = version; world = world_of world; live = map live_of live })
   -- each READ, WRITE or VNODE knote watches what its number names
   pub watched : AllWatchTheirNumbers (record { version = version; world = world_of world; live = map live_of live })
   -- the next record comes after all that the world has seen

@@ -3,13 +3,14 @@ ghost use Rattle.std.specs.Prelude.{◌≡◌, ◌++◌, ◌<◌, ◌≤◌, ℕ
 ghost use Rattle.std.specs.Prelude.{Some, All, IfOk, IfSome};
 ghost use Rattle.std.specs.Prelude.{OnErr, OnOk};
 ghost use Rattle.std.specs.Map.{keys_of, lookup};
+ghost use Rattle.std.specs.Option.{option_map};
 ghost use Rattle.kq_model.specs.declared.object.Target.TheVariants.{Own};
 ghost use Rattle.kq_model.specs.Following.{all_forks};
 ghost use Rattle.kq_model.specs.Moment.{Moment};
 ghost use Rattle.kq_model.specs.System.{born};
 ghost use Rattle.kq_model.specs.Ticks.{last_moment};
 ghost use Rattle.kq_process.specs.Effects.{pairs_in};
-ghost use Rattle.kq_system.specs.SystemState.{live_of, AreOfVersion, AreUpTo, HaveStayed, IsCalled, IsLive, IsQuiet};
+ghost use Rattle.kq_system.specs.SystemState.{live_of, AreOfVersion, AreUpTo, HaveStayed, IsCalled, IsQuiet};
 ghost use Rattle.kq_system.specs.SystemState.{NumberedKqueue, happened_to_all, ticked};
 
 use crate::kqueues::Kqueues;
@@ -102,7 +103,7 @@ fn is_quiet(pairs: &[(u32, u32)], hints: &[(Target, Hint)]) -> bool
     pairs.is_empty() && hints.is_empty()
 }
 
-/// A call on the live kqueue that was made at a place.
+/// A call on the kqueue that was made at a place. Where it is not live, nothing comes of the call.
 pub fn call_on<V: Views>(
     live: &mut Kqueues,
     kqueue: u64,
@@ -110,7 +111,6 @@ pub fn call_on<V: Views>(
     room: u32,
     views: &V,
 ) -> Result<Reply, Memory>
-    requires { IsLive kqueue (map live_of live.old.entries) }
     ensures called { IfOk result (λ reply. (m : Moment) → IsQuiet m → m.views ≡ V.sees views.now
         → AreOfVersion m.version live.old.entries
         → m.call ≡ Some (record { kqueue = kqueue; changes = changes.now; room = room })
@@ -121,7 +121,9 @@ pub fn call_on<V: Views>(
 {
     renew(live)?;
     live.ready = None;
-    let owner = owner_of(&live.live, kqueue);
+    let Some(owner) = owner_of(&live.live, kqueue) else {
+        return Ok(Reply::Done);
+    };
     watch_all(&mut live.watching, kqueue, owner, changes, views)?;
     let Some(one) = live.live.get_mut(&kqueue) else {
         unreachable!();
@@ -129,14 +131,13 @@ pub fn call_on<V: Views>(
     one.kq.call(changes, room, views)
 }
 
-/// The process of a live kqueue.
-pub fn owner_of(live: &IndexMap<u64, Live>, kqueue: u64) -> u32
-    requires { IsLive kqueue (map live_of live.now.entries) }
-    ensures { (v : NumberedKqueue) → lookup (nat_eq kqueue) live.now.entries ≡ Some v → result ≡ v.kq.owner }
+/// The process of the kqueue that was made at a place, where it is live.
+pub fn owner_of(live: &IndexMap<u64, Live>, kqueue: u64) -> Option<u32>
+    ensures { result ≡ option_map (λ (v : NumberedKqueue). v.kq.owner) (lookup (nat_eq kqueue) live.now.entries) }
 {
     match live.get(&kqueue) {
-        Some(one) => one.kq.owner(),
-        None => unreachable!(),
+        Some(one) => Some(one.kq.owner()),
+        None => None,
     }
 }
 

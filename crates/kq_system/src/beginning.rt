@@ -4,7 +4,7 @@ ghost use Rattle.std.specs.Map.{lookup};
 ghost use Rattle.kq_kevent.specs.Arranged.{arranged};
 ghost use Rattle.kq_model.specs.Moment.{Moment};
 ghost use Rattle.kq_system.specs.Beginning.{with_live_at, IsBegunAt, IsCallSoFar, IsEntry};
-ghost use Rattle.kq_system.specs.SystemState.{live_of, AreOfVersion, HaveStayed, IsLive, IsQuiet};
+ghost use Rattle.kq_system.specs.SystemState.{live_of, AreOfVersion, HaveStayed, IsQuiet};
 
 use crate::all_live::owner_of;
 use crate::kqueues::Kqueues;
@@ -25,7 +25,7 @@ pub fn kqueue_at(live: &Kqueues, kqueue: u64) -> Option<&Kq>
     }
 }
 
-/// A call on the live kqueue that was made at a place begins.
+/// A call on the kqueue that was made at a place begins. Where it is not live, nothing comes of the call.
 pub fn begin_on<V: Views>(
     live: &mut Kqueues,
     kqueue: u64,
@@ -33,7 +33,6 @@ pub fn begin_on<V: Views>(
     room: u32,
     views: &V,
 ) -> Result<Option<Reply>, Memory>
-    requires { IsLive kqueue (map live_of live.old.entries) }
     ensures begun { IfOk result (λ answer. (m : Moment) → m.views ≡ V.sees views.now
         → AreOfVersion m.version live.old.entries
         → IsBegunAt m (record { kqueue = kqueue; changes = changes.now; room = room })
@@ -52,7 +51,9 @@ pub fn begin_on<V: Views>(
 {
     renew(live)?;
     live.ready = None;
-    let owner = owner_of(&live.live, kqueue);
+    let Some(owner) = owner_of(&live.live, kqueue) else {
+        return Ok(None);
+    };
     watch_all(&mut live.watching, kqueue, owner, changes, views)?;
     let Some(one) = live.live.get_mut(&kqueue) else {
         unreachable!();
@@ -60,9 +61,8 @@ pub fn begin_on<V: Views>(
     one.kq.begin(changes, room, views)
 }
 
-/// These keys come first in the queue of the kqueue that was made at a place.
+/// These keys come first in the queue of the kqueue that was made at a place, where it is live.
 pub fn put_first_in(live: &mut Kqueues, kqueue: u64, keys: &[Key])
-    requires { IsLive kqueue (map live_of live.old.entries) }
     ensures arranged { map live_of live.new.entries
         ≡ with_live_at kqueue (λ l. record l.kq { queue = arranged keys.now l.kq.queue })
         (map live_of live.old.entries) }
@@ -70,7 +70,7 @@ pub fn put_first_in(live: &mut Kqueues, kqueue: u64, keys: &[Key])
 {
     live.ready = None;
     let Some(one) = live.live.get_mut(&kqueue) else {
-        unreachable!();
+        return;
     };
     one.kq.put_first(keys);
 }

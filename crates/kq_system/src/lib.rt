@@ -4,6 +4,7 @@
 
 mod all_live;
 mod beginning;
+mod dealing;
 mod fold;
 mod following;
 mod index;
@@ -11,10 +12,13 @@ mod kqueues;
 mod live;
 mod places;
 mod renewing;
+mod sharing;
 mod showing;
 mod stepping;
 mod system;
 mod ticking;
 mod watching;
 
+pub use dealing::Dealing;
+pub use sharing::Share;
 pub use system::System;

@@ -1,4 +1,4 @@
-ghost use Rattle.std.specs.Prelude.{◌≡◌, ◌+◌, ◌-◌, ◌^◌, ◌<◌, ℕ, true, None, Some, IfOk};
+ghost use Rattle.std.specs.Prelude.{◌≡◌, ◌+◌, ◌-◌, ◌^◌, ◌<◌, ℕ, Bool, true, false, Option, None, Some, IfOk};
 ghost use Rattle.std.specs.Prelude.{IfSome, IsOk, OnErr, OnOk};
 ghost use Rattle.kq_model.specs.declared.object.Named.TheVariants as named_as;
 ghost use Rattle.kq_process.specs.World.{world_of};
@@ -11,8 +11,8 @@ use kq_process::{Effect, World};
 use std::alloc::Global;
 use std::marker::Model;
 
-/// The simulated system: a world, and the live kqueues in order of birth. A number of a process that
-/// names a kqueue names a live one, and each READ, WRITE or VNODE knote watches what its number names.
+/// The simulated system: a world, and the live kqueues in order of birth. Each READ, WRITE or VNODE knote
+/// watches what its number names.
 #[derive(Drop)]
 pub struct System {
     version: u32,
@@ -109,6 +109,7 @@ impl System {
     ghost use Rattle.kq_model.specs.WatchedNumbers.{AllWatchTheirNumbers};
     ghost use Rattle.kq_model.specs.World.{Plan, Possible};
     ghost use Rattle.kq_process.specs.Effects.{IsPossible};
+    ghost use Rattle.kq_system.specs.Sharing.{IsOwnShare, IsStepBeside};
     ghost use Rattle.kq_system.specs.SystemState.{IsImpossible, IsPlain, IsStep, IsUnchanged, system_of};
 
     /// Applies one event, and gives the reply to it. A record that is possible changes the world, then
@@ -265,6 +266,26 @@ impl System {
             return Ok(Reply::Impossible(why));
         }
         bear(&mut self.live, self.version, place, pid, number);
+        Ok(Reply::Done)
+    }
+
+    /// The same, where the kqueue is of another share: the world's step alone.
+    pub(crate) fn pass(&mut self, event: &Event, pid: u32, number: u32) -> Result<Reply, Memory>
+        requires applied { self.old.applied < 2 ^ 31 - 1 }
+        requires event { event.now ≡ event_of.Kqueue pid number }
+        ensures reply { IfOk result (λ reply. (own : Option ℕ → Bool) → own (Some (self.old.applied + 1)) ≡ false
+            → IsOwnShare own (system_of self.old)
+            → IsStepBeside own (self.old.applied + 1) event.now (system_of self.old) (system_of self.new) reply) }
+        ensures applied { IfOk result (λ _. self.new.applied ≡ self.old.applied + 1) }
+        ensures memory { OnErr result (IsUnchanged self.old self.new) }
+        ensures possible { OnErr result (IsPossible (plan (self.old.applied + 1) event.now (world_of self.old.world))) }
+    {
+        let place = self.applied + 1;
+        self.world.apply_into(place, event, &mut self.effect)?;
+        self.applied = place;
+        if let Err(why) = self.effect.verdict {
+            return Ok(Reply::Impossible(why));
+        }
         Ok(Reply::Done)
     }
 

@@ -1,6 +1,7 @@
-use Rattle.std.proofs.Common.{◌≡◌, ◌∙◌, true, None, Some, nat_eq, map, sym, refl, ap, subst}
+use Rattle.std.proofs.Common.{◌≡◌, ◌∙◌, true, None, Option, Some, nat_eq, map, sym, refl, ap, subst}
 use Rattle.std.proofs.lemmas.Result.{IfOk-weaker, on_err_weaker}
 use Rattle.std.specs.Map.{lookup}
+use Rattle.std.specs.Option.{option_map}
 use Rattle.std.specs.HashMap.{spare}
 use Rattle.std.specs.Prelude.{All}
 use Rattle.kq_kevent.specs.Owned.{caller}
@@ -10,24 +11,37 @@ use Rattle.kq_model.specs.Targets.{target_of}
 use Rattle.kq_model.specs.World.{Call}
 use Rattle.kq_system.specs.Beginning.{IsBegunAt, IsCallSoFar}
 use Rattle.kq_system.specs.Showing.{AreFound, IsListed, LiveKqueues}
-use Rattle.kq_system.specs.SystemState.{AreOfVersion, AreUpTo, HaveStayed, IsLive, NumberedKqueue, live_of}
-use Rattle.kq_system.proofs.BeginLemmas.{begun_at, begun_listed, so_far}
-use Rattle.kq_system.proofs.CallLemmas.{kept, keys_kept, live_found, version_kept}
+use Rattle.kq_system.specs.SystemState.{AreOfVersion, AreUpTo, HaveStayed, NumberedKqueue, live_of}
+use Rattle.kq_system.proofs.BeginLemmas.{begun_at, begun_listed, begun_none, so_far, so_far-none}
+use Rattle.kq_system.proofs.CallLemmas.{kept, keys_kept, version_kept}
 use Rattle.kq_system.proofs.FoundLemmas.{found_called, found_more}
 use Rattle.kq_system.proofs.ShowLemmas.{Entries}
 use Rattle.kq_system.proofs.beginning.begin_on.Goals as goal
 
-pub owner_of-owner-requires : goal.owner_of-owner-requires
-owner_of-owner-requires g c =
-    subst (λ (es : Entries). IsLive c.args.kqueue (map live_of es))
-    (sym (ap (λ (l : LiveKqueues). l.entries) c.live.view_is ∙ c.renew.ensures)) c.requires
+-- what has no owner is not there
+none_of : (found : Option NumberedKqueue) → option_map (λ (u : NumberedKqueue). u.kq.owner) found ≡ None → found ≡ None
+none_of None none = refl
+none_of (Some v) none = absurd (cc)
 
-pub unreachable-requires : goal.unreachable-requires
-unreachable-requires g c =
-    live_found c.args.kqueue c.live.inside.live.entries
-    (subst (λ (es : Entries). IsLive c.args.kqueue (map live_of es))
-    (sym (ap (λ (l : LiveKqueues). l.entries) c.live.view_is ∙ c.renew.ensures)) c.requires)
-    (sym c.in_default.ensures.value)
+-- on one that is not live
+pub returns-in_default-clause-begun : goal.returns-in_default-clause-begun
+returns-in_default-clause-begun g c m sees versions =
+    let call : Call = record { kqueue = c.args.kqueue; changes = c.args.changes.now; room = c.args.room } in
+    let es = c.live.inside.live.entries in
+    let same : es ≡ c.args.live.now.entries = ap (λ (l : LiveKqueues). l.entries) c.live.view_is ∙ c.renew.ensures in
+    let gone : lookup (nat_eq c.args.kqueue) es ≡ None =
+    none_of (lookup (nat_eq c.args.kqueue) es) (sym c.in_default.ensures) in
+    subst (λ (old : Entries). IsBegunAt m call (map live_of old) (map live_of es) None) same (begun_none m call es gone)
+
+pub returns-in_default-clause-steps : goal.returns-in_default-clause-steps
+returns-in_default-clause-steps g c m n versions quiet sees calls still seen version then =
+    let call : Call = record { kqueue = c.args.kqueue; changes = c.args.changes.now; room = c.args.room } in
+    let es = c.live.inside.live.entries in
+    let same : es ≡ c.args.live.now.entries = ap (λ (l : LiveKqueues). l.entries) c.live.view_is ∙ c.renew.ensures in
+    let gone : lookup (nat_eq c.args.kqueue) es ≡ None =
+    none_of (lookup (nat_eq c.args.kqueue) es) (sym c.in_default.ensures) in
+    subst (λ (old : Entries). IsCallSoFar m n call (map live_of old) (map live_of es) None) same
+    (so_far-none m n call es quiet calls still then gone)
 
 pub returns-clause-begun : goal.returns-clause-begun
 returns-clause-begun g c =
@@ -47,7 +61,7 @@ returns-clause-begun g c =
       ended = c.one.inside.ended;
     } in
     let writes = c.get_mut.follows.holds w in
-    let found : lookup (nat_eq c.args.kqueue) es ≡ Some v = sym c.in-Some.ensures.value
+    let found : lookup (nat_eq c.args.kqueue) es ≡ Some v = sym c.in-Some-get_mut.ensures.value
     ∙ ap Some (sym c.one.view_is) in
     IfOk-weaker c.begin.result _ _ (λ r begun m sees versions.
     subst (λ (es : Entries). IsBegunAt m call (map live_of es) (map live_of
@@ -76,7 +90,7 @@ returns-clause-steps g c =
       ended = c.one.inside.ended;
     } in
     let writes = c.get_mut.follows.holds w in
-    let found : lookup (nat_eq c.args.kqueue) es ≡ Some v = sym c.in-Some.ensures.value
+    let found : lookup (nat_eq c.args.kqueue) es ≡ Some v = sym c.in-Some-get_mut.ensures.value
     ∙ ap Some (sym c.one.view_is) in
     IfOk-weaker c.begin.result _ _ (λ r begun m n versions quiet sees calls still seen version then.
     subst (λ (es : Entries). IsCallSoFar m n call (map live_of es) (map live_of
@@ -104,7 +118,7 @@ returns-clause-stayed g c =
       ended = c.one.inside.ended;
     } in
     let writes = c.get_mut.follows.holds w in
-    let found : lookup (nat_eq c.args.kqueue) es ≡ Some v = sym c.in-Some.ensures.value
+    let found : lookup (nat_eq c.args.kqueue) es ≡ Some v = sym c.in-Some-get_mut.ensures.value
     ∙ ap Some (sym c.one.view_is) in
     subst (λ (es : Entries). HaveStayed es (c.get_mut.follows.lender w).entries) same
     (subst (HaveStayed es) (sym writes.0) (record {
@@ -129,7 +143,7 @@ returns-clause-memory g c =
       ended = c.one.inside.ended;
     } in
     let writes = c.get_mut.follows.holds w in
-    let found : lookup (nat_eq c.args.kqueue) es ≡ Some v = sym c.in-Some.ensures.value
+    let found : lookup (nat_eq c.args.kqueue) es ≡ Some v = sym c.in-Some-get_mut.ensures.value
     ∙ ap Some (sym c.one.view_is) in
     on_err_weaker c.begin.result (λ kept_kq.
     ap (map live_of) writes.0 ∙ kept c.args.kqueue es v w found refl c.begin.ensures.owner kept_kq
@@ -137,8 +151,8 @@ returns-clause-memory g c =
     c.begin.ensures.err
 
 -- where the targets of the changes got no place
-pub invariant_of-live : goal.invariant_of-live
-invariant_of-live g c =
+pub invariant_of-live-in_err-watch_all : goal.invariant_of-live-in_err-watch_all
+invariant_of-live-in_err-watch_all g c =
     let old = c.live.inside in
     found_more old.owned.table old.watching.table c.watch_all.new.watching.table old.round old.live.entries
     (spare old.live) old.ready c.live.invariant c.watch_all.ensures.grows (spare old.live)
@@ -162,9 +176,11 @@ invariant_of-live-2 g c =
       ended = c.one.inside.ended;
     } in
     let writes = c.get_mut.follows.holds w in
-    let found : lookup (nat_eq c.args.kqueue) es ≡ Some v = sym c.in-Some.ensures.value
+    let found : lookup (nat_eq c.args.kqueue) es ≡ Some v = sym c.in-Some-get_mut.ensures.value
     ∙ ap Some (sym c.one.view_is) in
-    let owner : c.owner_of-owner.result ≡ v.kq.owner = c.owner_of-owner.ensures v found in
+    let owners : Some c.in-Some.owner ≡ Some v.kq.owner =
+    c.in-Some.ensures ∙ ap (option_map (λ (u : NumberedKqueue). u.kq.owner)) found in
+    let owner : c.in-Some.owner ≡ v.kq.owner = cc in
     subst (λ (es : Entries). AreFound es (spare (c.get_mut.follows.lender w)) None old.owned.table
     c.watch_all.new.watching.table old.round) (sym writes.0)
     (found_called old.owned.table old.watching.table c.watch_all.new.watching.table old.round es (spare old.live)

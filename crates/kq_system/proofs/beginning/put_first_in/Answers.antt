@@ -6,19 +6,22 @@ use Rattle.kq_model.specs.Subjects.{HaveSubjects}
 use Rattle.kq_model.specs.Tallied.{Kqueue, Live}
 use Rattle.kq_system.specs.Beginning.{with_live_at}
 use Rattle.kq_system.specs.Showing.{AreFound, IsListed, LiveKqueues}
-use Rattle.kq_system.specs.SystemState.{AreUpTo, HaveStayed, IsLive, NumberedKqueue, live_of}
-use Rattle.kq_system.proofs.BeginLemmas.{set_with}
-use Rattle.kq_system.proofs.CallLemmas.{keys_kept, live_found, version_kept}
+use Rattle.kq_system.specs.SystemState.{AreUpTo, HaveStayed, NumberedKqueue, live_of}
+use Rattle.kq_system.proofs.BeginLemmas.{none_with, set_with}
+use Rattle.kq_system.proofs.CallLemmas.{keys_kept, version_kept}
 use Rattle.kq_system.proofs.FoundLemmas.{found_called}
 use Rattle.kq_system.proofs.ShowLemmas.{Entries}
 use Rattle.kq_system.proofs.beginning.put_first_in.Goals as goal
 
-pub unreachable-requires : goal.unreachable-requires
-unreachable-requires c =
-    live_found c.args.kqueue c.live.inside.live.entries
-    (subst (λ (es : Entries). IsLive c.args.kqueue (map live_of es))
-    (sym (ap (λ (l : LiveKqueues). l.entries) c.live.view_is)) c.requires)
-    (sym c.in_default.ensures.value)
+-- where it is not live
+pub returns-in_default-clause-arranged : goal.returns-in_default-clause-arranged
+returns-in_default-clause-arranged c =
+    let es = c.live.inside.live.entries in
+    let same : es ≡ c.args.live.now.entries = ap (λ (l : LiveKqueues). l.entries) c.live.view_is in
+    let does : Live → Kqueue = λ (l : Live). record l.kq { queue = arranged c.args.keys.now l.kq.queue } in
+    ap (λ m. map live_of m.entries) c.get_mut.follows.holds-at-none
+    ∙ sym (none_with c.args.kqueue does es (sym c.in_default.ensures.value))
+    ∙ ap (λ (es : Entries). with_live_at c.args.kqueue does (map live_of es)) same
 
 pub returns-clause-arranged : goal.returns-clause-arranged
 returns-clause-arranged c =
@@ -70,8 +73,8 @@ returns-clause-stayed c =
       up_to = λ most all. subst (AreUpTo most) (sym (keys_kept c.args.kqueue es w)) all;
     }))
 
-pub invariant_of-live : goal.invariant_of-live
-invariant_of-live c =
+pub invariant_of-live-2 : goal.invariant_of-live-2
+invariant_of-live-2 c =
     let old = c.live.inside in
     let es = c.live.inside.live.entries in
     let v : NumberedKqueue = record {

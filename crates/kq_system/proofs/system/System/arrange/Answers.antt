@@ -3,23 +3,13 @@ use Rattle.kq_kevent.specs.Arranged.{arranged}
 use Rattle.kq_model.specs.Tallied.{Kqueue, Live}
 use Rattle.kq_model.specs.WatchedNumbers.{WatchTheirNumbers}
 use Rattle.kq_model.specs.World.{named_by, seen_world, views_of}
-use Rattle.kq_model.proofs.LiveKqueues.{named_among-live}
 use Rattle.kq_process.specs.World.{world_of}
 use Rattle.kq_system.specs.Beginning.{arranged_in, kqueue_in}
 use Rattle.kq_system.specs.SystemState.{SystemState, live_of, state_of, system_of}
 use Rattle.std.specs.Prelude.{All}
-use Rattle.kq_system.proofs.BeginLemmas.{all_live-with, lawful_now, watched-with}
+use Rattle.kq_system.proofs.BeginLemmas.{lawful_now, watched-with}
 use Rattle.kq_system.proofs.BeginSteps.{arranged-none, arranged-some, named-seen, names-none, names-some}
-use Rattle.kq_system.proofs.CallLemmas.{live_by_place}
 use Rattle.kq_system.proofs.system.System.arrange.Goals as goal
-
-pub put_first_in-requires : goal.put_first_in-requires
-unfolding named_by
-put_first_in-requires c =
-    let live = map live_of c.self.inside.live.entries in
-    live_by_place c.in-Some.kqueue c.args.pid c.args.fd live
-    (named_among-live live c.args.pid c.args.fd c.in-Some.kqueue (world_of c.self.inside.world).table
-    c.self.invariant.all_live (sym c.descriptor.ensures ∙ c.in-Some.ensures.found))
 
 pub invariant_of-self : goal.invariant_of-self
 invariant_of-self c =
@@ -30,8 +20,6 @@ invariant_of-self c =
     let views = views_of (seen_world (world_of old.world)) in
     lawful_now old.version old.applied old.world old.live.entries c.put_first_in.new.live.entries c.self.invariant
     c.put_first_in.ensures.stayed
-    (all_live-with old.version old.world c.in-Some.kqueue does live next c.put_first_in.ensures.arranged
-    c.self.invariant.all_live)
     (subst (All (λ (l : Live). WatchTheirNumbers views l.owner l.kq)) (sym c.put_first_in.ensures.arranged)
     (watched-with c.in-Some.kqueue does views live (λ l has. has) c.self.invariant.watched))
 

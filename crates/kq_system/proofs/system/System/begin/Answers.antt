@@ -7,16 +7,14 @@ use Rattle.kq_model.specs.DescriptorPlans.{plan_kevent}
 use Rattle.kq_model.specs.Moment.{moment_of}
 use Rattle.kq_model.specs.Plans.{plan}
 use Rattle.kq_model.specs.World.{Call, named_by, seen_world, views_of}
-use Rattle.kq_model.proofs.LiveKqueues.{named_among-live}
 use Rattle.kq_model.proofs.SeenWorld.{seen-counted}
 use Rattle.kq_process.specs.Effects.{IsPossible}
 use Rattle.kq_process.specs.World.{world_of}
 use Rattle.kq_process.proofs.Planned.{held_anyway}
-use Rattle.kq_system.specs.Beginning.{begun_kqueue, IsBeginning, IsStepSoFar}
+use Rattle.kq_system.specs.Beginning.{IsBeginning, IsStepSoFar}
 use Rattle.kq_system.specs.SystemState.{AreOfVersion, SystemState, call_plan, live_of, state_of, system_of}
-use Rattle.kq_system.proofs.BeginLemmas.{all_live-with, lawful_later, watched-begun}
+use Rattle.kq_system.proofs.BeginLemmas.{lawful_later, watched-begun}
 use Rattle.kq_system.proofs.BeginSteps.{begins-impossible, begins-possible, few-planned, step-impossible, step-possible}
-use Rattle.kq_system.proofs.CallLemmas.{live_by_place}
 use Rattle.kq_system.proofs.StepLemmas.{call_planned, call_possible, kevent_plan, lawful_after, lawful_same, possible_call}
 use Rattle.kq_system.proofs.SystemLemmas.{call_of, called_views, done, quiet_call, refused, version_of}
 use Rattle.kq_system.proofs.system.System.begin.Goals as goal
@@ -63,14 +61,6 @@ unreachable-requires c =
     let on = possible_call c.args.pid c.args.fd c.args.room c.args.changes.now w d.plan_is d.is in
     c.kqueue_named.ensures.none c.in_default-kqueue_named.is on.kqueue (c.descriptor.ensures ∙ on.there)
 
-pub begin_on-requires : goal.begin_on-requires
-unfolding named_by
-begin_on-requires c =
-    let live = map live_of c.self.inside.live.entries in
-    live_by_place c.in-Some.kqueue c.args.pid c.args.fd live
-    (named_among-live live c.args.pid c.args.fd c.in-Some.kqueue (world_of c.self.inside.world).table
-    c.self.invariant.all_live (sym c.descriptor.ensures ∙ c.in-Some.ensures.found))
-
 pub invariant_of-self-in_err-answer : goal.invariant_of-self-in_err-answer
 invariant_of-self-in_err-answer c =
     let old = c.self.inside in
@@ -101,9 +91,6 @@ invariant_of-self-2 c =
     c.self.invariant.of_version) in
     lawful_after old.version old.applied old.world old.world es c.begin_on.new.live.entries
     c.self.invariant c.in_ok-answer.ensures.stayed
-    (all_live-with old.version old.world c.in-Some.kqueue (λ l. (begun_kqueue m call l).kq)
-    (map live_of es) next begun.0
-    c.self.invariant.all_live)
     (watched-begun m call (views_of (seen_world w)) (map live_of es) next (sees ∙ sym (ap views_of (seen-counted w)))
     begun.0 c.self.invariant.watched)
     (omega (arith, c.self.invariant.places))

@@ -6,17 +6,15 @@ use Rattle.kq_model.specs.declared.reply.Reply.TheVariants as reply
 use Rattle.kq_model.specs.DescriptorPlans.{plan_kevent}
 use Rattle.kq_model.specs.Moment.{moment_of}
 use Rattle.kq_model.specs.Plans.{plan}
-use Rattle.kq_model.specs.World.{Call, named_by}
-use Rattle.kq_model.proofs.LiveKqueues.{named_among-live}
+use Rattle.kq_model.specs.World.{Call}
 use Rattle.kq_process.specs.Effects.{IsPossible}
 use Rattle.kq_process.specs.World.{last_of, world_of}
 use Rattle.kq_process.proofs.Applied.{counted-later, counted-now}
 use Rattle.kq_process.proofs.Planned.{held_anyway}
 use Rattle.kq_system.specs.SystemState.{AreOfVersion, IsStep, SystemState, call_plan, live_of, state_of, system_of}
 use Rattle.kq_system.proofs.BeginLemmas.{either_way, lawful_now}
-use Rattle.kq_system.proofs.CallLemmas.{live_by_place}
 use Rattle.kq_system.proofs.StepLemmas.{call_planned, call_possible, kevent_plan, lawful_same, possible_call}
-use Rattle.kq_system.proofs.SystemLemmas.{call_of, called, called_views, done, impossible, quiet_call, refused, stays_live, stays_watched, version_of}
+use Rattle.kq_system.proofs.SystemLemmas.{call_of, called, called_views, done, impossible, quiet_call, refused, stays_watched, version_of}
 use Rattle.kq_system.proofs.system.System.call_kqueue.Goals as goal
 
 pub returns-in-Err-clause-reply : goal.returns-in-Err-clause-reply
@@ -42,14 +40,6 @@ unreachable-requires c =
     let on = possible_call c.args.pid c.args.number c.args.room c.args.changes.now w d.plan_is d.is in
     c.kqueue_named.ensures.none c.in_default-kqueue_named.is on.kqueue (c.descriptor.ensures ∙ on.there)
 
-pub call_on-requires : goal.call_on-requires
-unfolding named_by
-call_on-requires c =
-    let live = map live_of c.self.inside.live.entries in
-    live_by_place c.in-Some.kqueue c.args.pid c.args.number live
-    (named_among-live live c.args.pid c.args.number c.in-Some.kqueue (world_of c.self.inside.world).table
-    c.self.invariant.all_live (sym c.descriptor.ensures ∙ c.in-Some.ensures.found))
-
 pub invariant_of-self : goal.invariant_of-self
 invariant_of-self c =
     let old = c.self.inside in
@@ -72,7 +62,6 @@ invariant_of-self c =
     (does m quiet views versions (call_of old.version place call w)) in
     lawful_now old.version old.applied old.world old.live.entries c.call_on.new.live.entries
     c.self.invariant c.call_on.ensures.stayed
-    (stays_live place e (system_of s) _ r steps c.self.invariant.all_live)
     (stays_watched place (place + 1) e (system_of s) _ r steps
     (counted-later (last_of old.world + 1) (place + 1) w (omega (arith, c.self.invariant.places))
     (counted-now old.world)) c.self.invariant.watched))

@@ -10,7 +10,7 @@ use Rattle.kq_process.specs.Effects.{world_after}
 use Rattle.kq_process.specs.World.{world_of}
 use Rattle.kq_system.specs.SystemState.{IsStep, SystemState, live_of, state_of, system_of}
 use Rattle.kq_system.proofs.ForkLemmas.{IfTells, fork_tells, forked_step}
-use Rattle.kq_system.proofs.SystemLemmas.{done, refused, stays_live, stays_watched}
+use Rattle.kq_system.proofs.SystemLemmas.{done, refused, stays_watched}
 use Rattle.kq_system.proofs.StepLemmas.{lawful_after, lawful_same, lawful_unchanged, refused_step}
 use Rattle.kq_system.proofs.system.System.fork.Goals as goal
 
@@ -46,7 +46,6 @@ invariant_of-self-in-Err c =
     c.in_ok-effect.ensures.world (c.in_ok-effect.ensures.refused c.in-Err.why c.in-Err.is) in
     lawful_after old.version old.applied old.world c.fork_all.new.world old.live.entries
     c.fork_all.new.live.entries c.self.invariant c.fork_all.ensures.stayed
-    (stays_live place e (system_of s) _ (reply.Impossible c.in-Err.why) steps c.self.invariant.all_live)
     (stays_watched place (place + 1) e (system_of s) _ (reply.Impossible c.in-Err.why) steps
     c.in_ok-effect.ensures.next c.self.invariant.watched)
     (omega (arith, c.in_ok-effect.ensures.last))
@@ -85,7 +84,6 @@ invariant_of-self-2 c =
     (c.in_ok-effect.ensures.followed ok old.version c.self.invariant.of_version) in
     lawful_after old.version old.applied old.world c.fork_all.new.world old.live.entries
     c.fork_all.new.live.entries c.self.invariant c.fork_all.ensures.stayed
-    (stays_live place e (system_of s) _ reply.Done steps c.self.invariant.all_live)
     (stays_watched place (place + 1) e (system_of s) _ reply.Done steps c.in_ok-effect.ensures.next
     c.self.invariant.watched)
     (omega (arith, c.in_ok-effect.ensures.last))

@@ -10,7 +10,7 @@ use Rattle.kq_process.specs.World.{world_of}
 use Rattle.kq_system.specs.SystemState.{IsStep, SystemState, happened_to_all, live_of, state_of, system_of}
 use Rattle.kq_system.proofs.HappenLemmas.{stayed_same}
 use Rattle.kq_system.proofs.StepLemmas.{happened_step, lawful_after, lawful_unchanged, refused_step}
-use Rattle.kq_system.proofs.SystemLemmas.{done, refused, stays_live, stays_watched}
+use Rattle.kq_system.proofs.SystemLemmas.{done, refused, stays_watched}
 use Rattle.kq_system.proofs.system.System.happen.Goals as goal
 
 pub invariant_of-self : goal.invariant_of-self
@@ -30,7 +30,6 @@ invariant_of-self-in-Err c =
     c.in-Err.is) c.in_ok-apply_into.ensures.world in
     lawful_after old.version old.applied old.world c.apply_into.new.self old.live.entries old.live.entries c.self.invariant
     (stayed_same old.live.entries)
-    (stays_live place e (system_of s) _ (reply.Impossible c.in-Err.why) steps c.self.invariant.all_live)
     (stays_watched place (place + 1) e (system_of s) _ (reply.Impossible c.in-Err.why) steps c.in_ok-apply_into.ensures.next
     c.self.invariant.watched)
     (omega (arith, c.in_ok-apply_into.ensures.last))
@@ -62,7 +61,6 @@ invariant_of-self-2 c =
     (views_of (world_of c.apply_into.new.self)) (map live_of old.live.entries)) c.as_slice.ensures c.as_slice-2.ensures) in
     lawful_after old.version old.applied old.world c.apply_into.new.self old.live.entries
     c.happen_to_all.new.live.entries c.self.invariant c.happen_to_all.ensures.stayed
-    (stays_live place e (system_of s) _ reply.Done steps c.self.invariant.all_live)
     (stays_watched place (place + 1) e (system_of s) _ reply.Done steps c.in_ok-apply_into.ensures.next
     c.self.invariant.watched)
     (omega (arith, c.in_ok-apply_into.ensures.last))

@@ -13,7 +13,7 @@ use Rattle.kq_system.specs.SystemState.{AreOfVersion, AreUpTo, IsLawful, IsStep,
 use Rattle.kq_system.proofs.CallLemmas.{not_born, up_to_more}
 use Rattle.kq_system.proofs.HappenLemmas.{stayed_same}
 use Rattle.kq_system.proofs.StepLemmas.{kqueue_plan, kqueue_possible, lawful_after, lawful_unchanged, possible_kqueue, refused_step}
-use Rattle.kq_system.proofs.SystemLemmas.{done, opened, refused, stays_live, stays_watched}
+use Rattle.kq_system.proofs.SystemLemmas.{done, opened, refused, stays_watched}
 use Rattle.kq_system.proofs.system.System.open.Goals as goal
 
 pub invariant_of-self-in_err-effect : goal.invariant_of-self-in_err-effect
@@ -35,7 +35,6 @@ invariant_of-self-in-Err c =
     subst (IsLawful old.version (old.applied + 1) c.apply.new.self) (sym c.in_ok-reserve_one.ensures.entries)
     (lawful_after old.version old.applied old.world c.apply.new.self old.live.entries old.live.entries
     c.self.invariant (stayed_same old.live.entries)
-    (stays_live place e (system_of s) _ (reply.Impossible c.in-Err.why) steps c.self.invariant.all_live)
     (stays_watched place (place + 1) e (system_of s) _ (reply.Impossible c.in-Err.why) steps c.in_ok-effect.ensures.next
     c.self.invariant.watched)
     (omega (arith, c.in_ok-effect.ensures.last)))
@@ -107,7 +106,6 @@ invariant_of-self-2 c =
           (sym c.in_ok-reserve_one.ensures.entries)
           (up_to_more old.applied (old.applied + 1) (keys_of old.live.entries) (omega arith)
           c.self.invariant.born));
-      all_live = stays_live place e (system_of s) _ reply.Done steps c.self.invariant.all_live;
       watched = stays_watched place (place + 1) e (system_of s) _ reply.Done steps c.in_ok-effect.ensures.next
           c.self.invariant.watched;
       places = omega (arith, c.in_ok-effect.ensures.last);

@@ -9,7 +9,7 @@ use Rattle.kq_system.specs.SystemState.{IsStep, SystemState, live_of, state_of, 
 use Rattle.kq_system.proofs.ClockLemmas.{has_gone}
 use Rattle.kq_system.proofs.HappenLemmas.{stayed_same}
 use Rattle.kq_system.proofs.StepLemmas.{lawful_after, lawful_unchanged, refused_step}
-use Rattle.kq_system.proofs.SystemLemmas.{refused, stays_live, stays_watched}
+use Rattle.kq_system.proofs.SystemLemmas.{refused, stays_watched}
 use Rattle.kq_system.proofs.system.System.tick.Goals as goal
 
 pub invariant_of-self : goal.invariant_of-self
@@ -29,7 +29,6 @@ invariant_of-self-in-Err c =
     c.in-Err.is) c.in_ok-apply_into.ensures.world in
     lawful_after old.version old.applied old.world c.apply_into.new.self old.live.entries old.live.entries c.self.invariant
     (stayed_same old.live.entries)
-    (stays_live place e (system_of s) _ (reply.Impossible c.in-Err.why) steps c.self.invariant.all_live)
     (stays_watched place (place + 1) e (system_of s) _ (reply.Impossible c.in-Err.why) steps c.in_ok-apply_into.ensures.next
     c.self.invariant.watched)
     (omega (arith, c.in_ok-apply_into.ensures.last))
@@ -75,7 +74,6 @@ invariant_of-self-2 c =
     (c.tick_all.ensures.ticked ∙ ap (λ n. map (ticked (record { from = n; to = c.clock_of-to.result })) (map live_of old.live.entries)) c.clock_of-from.ensures) in
     lawful_after old.version old.applied old.world c.apply_into.new.self old.live.entries c.tick_all.new.live.entries c.self.invariant
     c.tick_all.ensures.stayed
-    (stays_live place (event.Clock c.args.moment) (system_of s) _ reply.Done steps c.self.invariant.all_live)
     (stays_watched place (place + 1) (event.Clock c.args.moment) (system_of s) _ reply.Done steps c.in_ok-apply_into.ensures.next
     c.self.invariant.watched)
     (omega (arith, c.in_ok-apply_into.ensures.last))
