@@ -1,29 +1,66 @@
-//! Three calls at once.
+//! Two calls at once, where it is told whether the first had a thread of its own.
 #![tactic(auto)]
 
-use std::thread::{Threads, join_mut};
+ghost use Rattle.std.specs.Prelude.{◌≡◌};
 
-/// Calls the first two closures on a thread each and the third on this one, each once, and returns when all three have
-/// returned. Where no thread can be made for one of them, it is called on this thread, after the third.
-pub fn join_three_mut<
-    R: Threads,
-    F: FnMut() -> A + Send,
-    G: FnMut() -> B + Send,
-    H: FnMut() -> C,
-    A: Send,
-    B: Send,
-    C,
->(rt: &R, first: &mut F, second: &mut G, third: &mut H) -> (A, B, C)
-    requires { F.pre first.old × G.pre second.old × H.pre third.old }
-    ensures first { F.step first.old result.0 first.new }
-    ensures second { G.step second.old result.1 second.new }
-    ensures third { H.step third.old result.2 third.new }
-{
-    let mut others = ||
-        requires { G.pre second.now × H.pre third.now }
-        ensures second { G.step second.entry.now result.0 second.exit.now }
-        ensures third { H.step third.entry.now result.1 third.exit.now }
-    { join_mut(rt, second, third) };
-    let (a, (b, c)) = join_mut(rt, first, &mut others);
-    (a, b, c)
+mod task;
+
+use std::sync::Wait;
+use std::thread::Threads;
+use task::{Lent, Once, run_both};
+
+/// What two calls returned.
+#[derive(Drop)]
+pub struct Joined<A, B> {
+    pub first: A,
+    pub second: B,
+    /// Whether a thread could be made for the first.
+    pub has_started: bool,
 }
+
+/// Calls the first closure on a thread of its own and the second on this one, and returns when both have returned.
+/// Where no thread can be made, the first is called on this one, after the second.
+pub fn join<
+    R: Threads + Wait,
+    F: FnOnce() -> A + Send + Drop,
+    G: FnOnce() -> B + Drop,
+    A: Send + Drop,
+    B,
+>(rt: &R, first: F, second: G) -> Joined<A, B>
+    requires { F.pre first × G.pre second }
+    ensures first { F.post first result.first }
+    ensures second { G.post second result.second }
+{
+    run_both(rt, Once { call: first }, Once { call: second })
+}
+
+/// The same for closures that are lent, so that it is known what each leaves in its captures.
+pub fn join_mut<
+    R: Threads + Wait,
+    F: FnMut() -> A + Send,
+    G: FnMut() -> B,
+    A: Send + Drop,
+    B: Drop,
+>(rt: &R, first: &mut F, second: &mut G) -> Joined<A, B>
+    requires { F.pre first.old × G.pre second.old }
+    ensures first { F.step first.old result.first first.new }
+    ensures second { G.step second.old result.second second.new }
+{
+    let Joined {
+        first: (first, a),
+        second: (second, b),
+        has_started,
+    } = run_both(rt, Lent { call: first }, Lent { call: second });
+    take_back(first);
+    take_back(second);
+    Joined {
+        first: a,
+        second: b,
+        has_started,
+    }
+}
+
+/// Does nothing, but this use of a returned reference ties it to the parameter that lent it.
+fn take_back<T>(x: &mut T)
+    ensures { x.new ≡ x.old }
+{}

@@ -1,17 +1,17 @@
-//! Three calls at once.
-use kq_join::join_three_mut;
+//! Two calls at once.
+use kq_join::{join, join_mut};
 use std::sync::atomic::AtomicU64;
 use std::sync::atomic::Ordering::SeqCst;
 use std::thread::yield_now;
 
-/// How often a call yields before it gives up on the others.
+/// How often a call yields before it gives up on the other.
 const TURNS: u64 = 10_000_000;
 
-/// Holds a call until three have come; false where it gave up.
+/// Holds a call until two have come; false where it gave up.
 fn meets(come: &AtomicU64) -> bool {
     come.fetch_add(1, SeqCst);
     for _ in 0..TURNS {
-        if come.load(SeqCst) == 3 {
+        if come.load(SeqCst) == 2 {
             return true;
         }
         yield_now();
@@ -20,10 +20,17 @@ fn meets(come: &AtomicU64) -> bool {
 }
 
 #[test]
-fn three_calls_are_made_at_once(rt: HostRuntime) {
+fn two_calls_are_made_at_once(rt: HostRuntime) {
     let come = AtomicU64::new(0);
-    let (mut a, mut b, mut c) = (1u32, 2u64, 3u8);
-    let met = join_three_mut(
+    let joined = join(&rt, || meets(&come), || meets(&come));
+    assert_eq!(rt; (joined.first, joined.second, joined.has_started), (true, true, true));
+}
+
+#[test]
+fn lent_calls_are_made_at_once(rt: HostRuntime) {
+    let come = AtomicU64::new(0);
+    let (mut a, mut b) = (1u32, 2u64);
+    let joined = join_mut(
         &rt,
         &mut || {
             a = 10;
@@ -33,11 +40,7 @@ fn three_calls_are_made_at_once(rt: HostRuntime) {
             b = 20;
             meets(&come)
         },
-        &mut || {
-            c = 30;
-            meets(&come)
-        },
     );
-    assert_eq!(rt; met, (true, true, true));
-    assert_eq!(rt; (a, b, c), (10, 20, 30));
+    assert_eq!(rt; (joined.first, joined.second, joined.has_started), (true, true, true));
+    assert_eq!(rt; (a, b), (10, 20));
 }
