@@ -12,6 +12,7 @@ use crate::sink::Kept;
 use crate::source::Lent;
 use crate::trace_reader::TraceReader;
 use kq_model::{Memory, Series, Trace};
+use std::sync::Wait;
 use std::thread::Threads;
 
 /// Reads the text of a trace. On `Bad` the line is the first that has a fault, counted from 1, and
@@ -20,7 +21,7 @@ use std::thread::Threads;
 /// A line feed ends a line, one at the end of the text adds none, and empty text is one empty line.
 /// The format is this project's own, and a line's value is what `serde_json` reads. `rt` gives the
 /// memory for the trace, and the threads that decode its lines; a thread that does not start is no error.
-pub fn read_trace<R: AllocGlobal + Threads + Sync>(
+pub fn read_trace<R: AllocGlobal + Threads + Wait + Sync>(
     rt: &R,
     bytes: &[u8],
 ) -> Result<Trace, TraceError>
@@ -33,7 +34,7 @@ pub fn read_trace<R: AllocGlobal + Threads + Sync>(
 
 /// The same by at most so many threads, of which the calling one is the first, and one more where there are two or
 /// more; 0 and 1 start none.
-pub fn read_trace_with<R: AllocGlobal + Threads + Sync>(
+pub fn read_trace_with<R: AllocGlobal + Threads + Wait + Sync>(
     rt: &R,
     bytes: &[u8],
     threads: u32,

@@ -20,21 +20,23 @@ use crate::input_error::InputError;
 use crate::part::Part;
 use crate::sink::Sink;
 use crate::source::Source;
-use kq_join::join_three_mut;
+use kq_join::join_mut;
 use kq_model::Memory;
 use std::alloc::Global;
 use std::mem::{replace, swap};
+use std::sync::Wait;
 use std::thread::Threads;
 
 /// Reads the trace that a source has, while it comes, and gives its records to the sink: the version that its header
-/// names. By two threads and more the calling one has the sink take a part of the records, while as many threads as
-/// are asked for but one decode what came behind it, and one more reads on; so no more of the text is held than two
-/// blocks of it. By 0 and 1 the calling one does all. A thread that does not start is no error.
+/// names. By two threads and more the calling one has the sink take a part of the records, while another decodes what
+/// came behind it, helped by as many as are asked for but two, and then reads on; so no more of the text is held than
+/// two blocks of it. By 0 and 1 the calling one does all.
 ///
 /// [`InputError::Read`]: a read failed, whatever is wrong with what came before. `Bad`: the first line that has a
-/// fault, once all was read. `Memory` also comes where the sink answered it. After an error nothing is known of the
-/// sink, and part of the source is used up.
-pub fn read_trace_into<R: AllocGlobal + Threads + Sync, S: Source + Send, K: Sink>(
+/// fault, once all was read. `Memory` also comes where the sink answered it, and where the thread beside the calling
+/// one does not start, though a thread that would have helped that one is no error. After an error nothing is known of the sink, and
+/// part of the source is used up.
+pub fn read_trace_into<R: AllocGlobal + Threads + Wait + Sync, S: Source + Send, K: Sink>(
     rt: &R,
     source: &mut S,
     threads: u32,
@@ -99,7 +101,7 @@ struct Decoded {
 }
 
 /// Reads the trace block by block, up to the last one or a bad line.
-fn read_blocks<R: AllocGlobal + Threads + Sync, S: Source + Send, K: Sink>(
+fn read_blocks<R: AllocGlobal + Threads + Wait + Sync, S: Source + Send, K: Sink>(
     rt: &R,
     source: &mut S,
     text: &mut Text,
@@ -118,7 +120,7 @@ fn read_blocks<R: AllocGlobal + Threads + Sync, S: Source + Send, K: Sink>(
     text.coming.next(source, &mut text.next)?;
     let (version, first) = opened(alloc, &text.next)?;
     sink.begin(version)?;
-    let part = part_of(rt, FIRST_RECORD_LINE, first, threads)?;
+    let part = part_of(rt, FIRST_RECORD_LINE, first, threads.saturating_sub(1))?;
     text.coming.next(source, &mut text.block)?;
     let mut decoded = Decoded { before: 0, part };
     'rounds: while !decoded.part.is_empty() || !text.block.is_empty() {
@@ -135,7 +137,7 @@ fn read_blocks<R: AllocGlobal + Threads + Sync, S: Source + Send, K: Sink>(
 
 /// Reads the next block, decodes the one that came, and has the sink take the records of the one before: by two threads
 /// and more at the same time, by 0 and 1 one after the other.
-fn round<R: AllocGlobal + Threads + Sync, S: Source + Send, K: Sink>(
+fn round<R: AllocGlobal + Threads + Wait + Sync, S: Source + Send, K: Sink>(
     rt: &R,
     source: &mut S,
     text: &mut Text,
@@ -172,18 +174,18 @@ fn round<R: AllocGlobal + Threads + Sync, S: Source + Send, K: Sink>(
         next,
     } = text;
     let decoders = threads.saturating_sub(1);
-    let mut read = ||
-        requires { EndsWith coming.now (S.ahead source.now) }
-        ensures { OnOk result (IsNextBlock (S.ahead source.entry.now) (S.ahead source.exit.now)
-            coming.entry.now coming.exit.now next.exit.now.items)
-            × OnOk result (EndsWith coming.exit.now (S.ahead source.exit.now))
-            × IfErr result (IsNoLine S.may_fail) }
-    { coming.next(source, next) };
-    let mut decode = ||
-        requires { IsSync R.row × (number ≤ 1000002) }
-        ensures { IfOk result (AreRecordsFrom number (lines_behind block.entry.now.items))
-            × IfErr result (IsFaultFrom number (lines_behind block.entry.now.items)) }
-    { part_of(rt, number, block.as_slice(), decoders) };
+    let mut prepare = ||
+        requires { IsSync R.row × (number ≤ 1000002) × EndsWith coming.now (S.ahead source.now) }
+        ensures part { IfOk result.1 (AreRecordsFrom number (lines_behind block.entry.now.items)) }
+        ensures bad { IfErr result.1 (IsFaultFrom number (lines_behind block.entry.now.items)) }
+        ensures block { OnOk result.0 (IsNextBlock (S.ahead source.entry.now) (S.ahead source.exit.now)
+            coming.entry.now coming.exit.now next.exit.now.items) }
+        ensures ends { OnOk result.0 (EndsWith coming.exit.now (S.ahead source.exit.now)) }
+        ensures fault { IfErr result.0 (IsNoLine S.may_fail) }
+    {
+        let part = part_of(rt, number, block.as_slice(), decoders);
+        (coming.next(source, next), part)
+    };
     let mut take = ||
         requires { IsSync R.row × HasTaken K.took before sink.now
             × (before + length (flat_map (λ piece. piece.items) pieces.items) < 2 ^ 31) }
@@ -194,8 +196,13 @@ fn round<R: AllocGlobal + Threads + Sync, S: Source + Send, K: Sink>(
     if threads < 2 {
         // Each takes what was made last, so that it still stands in the cache.
         let taken = take();
-        let part = decode();
-        return (read(), part, taken);
+        let (read, part) = prepare();
+        return (read, part, taken);
     }
-    join_three_mut(rt, &mut read, &mut decode, &mut take)
+    let joined = join_mut(rt, &mut prepare, &mut take);
+    let (read, part) = joined.first;
+    if !joined.has_started {
+        return (read, part, Err(Memory));
+    }
+    (read, part, joined.second)
 }

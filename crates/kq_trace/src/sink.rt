@@ -8,6 +8,7 @@ ghost use Rattle.kq_trace.specs.Sink.{HasTaken};
 
 use kq_model::{Event, Memory};
 use std::alloc::Global;
+use std::sync::Wait;
 use std::thread::Threads;
 
 /// Takes the records of a trace, a part after the other.
@@ -26,7 +27,7 @@ pub trait Sink {
 
     /// Takes the events of the records that follow so many, in pieces, and may start threads for that. After Memory
     /// nothing is known.
-    fn accept<R: AllocGlobal + Threads + Sync>(
+    fn accept<R: AllocGlobal + Threads + Wait + Sync>(
         &mut self,
         rt: &R,
         before: u64,
@@ -76,7 +77,7 @@ impl Sink for Kept {
         Ok(())
     }
 
-    fn accept<R: AllocGlobal + Threads + Sync>(
+    fn accept<R: AllocGlobal + Threads + Wait + Sync>(
         &mut self,
         _rt: &R,
         _before: u64,
