@@ -1,0 +1,3 @@
+pub mod BirthLemmas
+pub mod GoneLemmas
+pub mod WholeLemmas

@@ -1,0 +1,3 @@
+pub mod Births
+pub mod Going
+pub mod Whole
