@@ -1,11 +1,10 @@
-"""Tests of the Python client by itself: the virtual system, and the descriptors that are sampled."""
+"""Tests of the Python client: the virtual system, and the package."""
 import errno
+import importlib
+import inspect
 import io
 import os
-import select
-import socket
-import tempfile
-import time
+import re
 import unittest
 
 import kqsim
@@ -86,80 +85,27 @@ class Virtual(unittest.TestCase):
             sim.proc(2)
 
 
-class Sampled(unittest.TestCase):
-    """kqueue and kevent over the descriptors of this process."""
+class Package(unittest.TestCase):
+    """What pyproject.toml says of the package."""
 
-    def setUp(self):
-        self.kq = kqsim.kqueue()
-        self.addCleanup(self.kq.close)
+    def test_metadata(self):
+        folder = os.path.dirname(kqsim.__file__)
+        with open(os.path.join(os.path.dirname(folder), "pyproject.toml"), encoding="utf-8") as file:
+            text = file.read()
+        module, name = re.search(r'^version = {attr = "([\w.]+)\.(\w+)"}$', text, re.MULTILINE).groups()
+        self.assertEqual(getattr(importlib.import_module(module), name), kqsim.__version__)
+        self.assertRegex(kqsim.__version__, r"^\d+\.\d+\.\d+$")
+        self.assertIn('license = {text = "BSD-2-Clause"}\n', text)
+        self.assertIn('kqsim = ["py.typed"]\n', text)
+        self.assertTrue(os.path.exists(os.path.join(folder, "py.typed")))
 
-    def add(self, ident, *filters, flags=kqsim.KQ_EV_ADD, **more):
-        self.kq.control([kqsim.kevent(ident, it, flags, **more) for it in filters], 0)
-
-    def events(self, seconds=0):
-        return [(it.ident, it.filter, it.data) for it in self.kq.control(None, 8, seconds)]
-
-    def test_socketpair(self):
-        near, far = socket.socketpair()
-        self.addCleanup(near.close)
-        self.add(near, kqsim.KQ_FILTER_READ)
-        self.assertEqual(self.events(), [])
-        far.send(b"hello")
-        self.assertEqual(self.events(), [(near.fileno(), kqsim.KQ_FILTER_READ, 5)])
-        near.recv(2)
-        self.assertEqual(self.events(), [(near.fileno(), kqsim.KQ_FILTER_READ, 3)])
-        near.recv(3)
-        far.close()
-        found = self.kq.control(None, 8, 0)
-        self.assertEqual([it.flags & kqsim.KQ_EV_EOF for it in found], [kqsim.KQ_EV_EOF])
-
-    def test_pipe_and_clear(self):
-        reader, writer = os.pipe()
-        self.addCleanup(os.close, reader)
-        self.add(reader, kqsim.KQ_FILTER_READ, flags=kqsim.KQ_EV_ADD | kqsim.KQ_EV_CLEAR)
-        os.write(writer, b"abc")
-        self.assertEqual(self.events(), [(reader, kqsim.KQ_FILTER_READ, 3)])
-        self.assertEqual(self.events(), [])
-        os.write(writer, b"d")
-        self.assertEqual(self.events(), [(reader, kqsim.KQ_FILTER_READ, 4)])
-        os.close(writer)
-        self.assertEqual(len(self.events()), 1)
-
-    def test_file(self):
-        with tempfile.TemporaryFile(buffering=0) as file:
-            self.add(file, kqsim.KQ_FILTER_READ)
-            file.write(b"abcdef")
-            file.seek(2)
-            self.assertEqual(self.events(), [(file.fileno(), kqsim.KQ_FILTER_READ, 4)])
-
-    def test_listener(self):
-        with socket.create_server(("127.0.0.1", 0)) as server:
-            self.add(server, kqsim.KQ_FILTER_READ)
-            self.assertEqual(self.events(), [])
-            with socket.create_connection(server.getsockname()):
-                self.assertEqual([it[0] for it in self.events(5)], [server.fileno()])
-                server.accept()[0].close()
-                self.assertEqual(self.events(), [])
-
-    def test_timer(self):
-        self.add(1, kqsim.KQ_FILTER_TIMER, data=20)
-        start = time.monotonic()
-        self.assertEqual(self.events(5), [(1, kqsim.KQ_FILTER_TIMER, 1)])
-        self.assertGreaterEqual(time.monotonic() - start, 0.015)
-
-    def test_bad_number(self):
-        reader, writer = os.pipe()
-        os.close(writer)
-        os.close(reader)
-        with self.assertRaises(OSError) as caught:
-            self.add(reader, kqsim.KQ_FILTER_READ)
-        self.assertEqual(caught.exception.errno, errno.EBADF)
-
-    def test_default_selector(self):
-        import selectors
-
-        self.assertIs(selectors.DefaultSelector, selectors.KqueueSelector)
-        self.assertIs(select.kqueue, kqsim.kqueue)
+    def test_hints(self):
+        """Each function that a user calls says what it takes and gives."""
+        for kind in (kqsim.Sim, kqsim.kqueue, kqsim.kevent):
+            for name, it in vars(kind).items():
+                if inspect.isfunction(it):
+                    names = {*inspect.signature(it).parameters, "return"} - {"self"}
+                    self.assertEqual(names - set(it.__annotations__), set(), f"{kind.__name__}.{name}")
 
 
 if __name__ == "__main__":

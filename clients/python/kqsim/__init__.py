@@ -6,7 +6,8 @@ over the real descriptors of this process, and install() gives them to the modul
 from .constants import CONSTANTS
 from .kqueues import install, kevent, kqueue
 from .sim import Ended, Fault, Impossible, Sim
+from .version import VERSION as __version__
 
 globals().update(CONSTANTS)
 
-__all__ = ["Ended", "Fault", "Impossible", "Sim", "install", "kevent", "kqueue", *CONSTANTS]
+__all__ = ["Ended", "Fault", "Impossible", "Sim", "__version__", "install", "kevent", "kqueue", *CONSTANTS]

@@ -1,6 +1,9 @@
 """The names of the trace, and the numbers of FreeBSD's <sys/event.h> for them."""
+from __future__ import annotations
 
-FILTERS = {
+from typing import Dict, Iterable, List
+
+FILTERS: Dict[str, int] = {
     "READ": -1,
     "WRITE": -2,
     "AIO": -3,
@@ -8,12 +11,15 @@ FILTERS = {
     "PROC": -5,
     "SIGNAL": -6,
     "TIMER": -7,
+    "PROCDESC": -8,
     "FS": -9,
     "LIO": -10,
     "USER": -11,
+    "SENDFILE": -12,
+    "EMPTY": -13,
 }
 
-FLAGS = {
+FLAGS: Dict[str, int] = {
     "ADD": 0x0001,
     "DELETE": 0x0002,
     "ENABLE": 0x0004,
@@ -26,10 +32,10 @@ FLAGS = {
     "EOF": 0x8000,
 }
 
-FILTER_NAMES = {number: name for name, number in FILTERS.items()}
+FILTER_NAMES: Dict[int, str] = {number: name for name, number in FILTERS.items()}
 
 # What select has where there is a kqueue.
-CONSTANTS = {
+CONSTANTS: Dict[str, int] = {
     **{f"KQ_FILTER_{name}": FILTERS[name] for name in ("READ", "WRITE", "AIO", "VNODE", "PROC", "SIGNAL", "TIMER")},
     **{f"KQ_EV_{name}": bits for name, bits in FLAGS.items() if name not in ("RECEIPT", "DISPATCH")},
     "KQ_EV_SYSFLAGS": 0xF000,
@@ -53,10 +59,10 @@ CONSTANTS = {
 }
 
 
-def flag_names(bits):
+def flag_names(bits: int) -> List[str]:
     """The names of the flags among bits; those that have none do nothing in a change."""
     return [name for name, bit in FLAGS.items() if bits & bit]
 
 
-def flag_bits(names):
+def flag_bits(names: Iterable[str]) -> int:
     return sum(FLAGS[name] for name in names)
