@@ -10,11 +10,13 @@ form of a report. So this compares the loop with kevent(2), call by call, and pr
 It needs Python 3 and no kqueue. To record a loop of your own, take Recorder, and call it while you hold the lock
 that puts your calls into an order.
 """
+import contextlib
 import json
 import sys
 import threading
 
 NOTE_TRIGGER = 0x01000000
+ENOENT = 2
 
 
 class Recorder:
@@ -35,12 +37,19 @@ class Recorder:
     def kqueue(self, pid, fd):
         self.record(op="kqueue", pid=pid, fd=fd)
 
-    def kevent(self, pid, fd, changes, room, events):
-        """A call of kevent(2): its changes, the room for events that it had, and the events that it returned."""
+    def kevent(self, pid, fd, changes, room, events=(), failed=None):
+        """A call of kevent(2): its changes, the room for events that it had, and the events that it returned.
+
+        failed is the error number of a call that failed, which has made the changes before the one that failed. One
+        that was interrupted has made all of them: its room is 0, and it returned no events.
+        """
         self.record(op="kevent", pid=pid, fd=fd, changes=changes, room=room)
-        write(self.answers, {"at": self.records, "events": events})
+        if failed is None:
+            write(self.answers, {"at": self.records, "events": list(events)})
+            self.events += len(events)
+        else:
+            write(self.answers, {"at": self.records, "failed": failed})
         self.calls += 1
-        self.events += len(events)
 
     def end(self):
         write(self.answers, {"calls": self.calls, "events": self.events, "records": self.records})
@@ -60,17 +69,24 @@ class Loop:
         self.recorder, self.pid, self.fd = recorder, pid, fd
         self.changed = threading.Condition()
         self.is_waiting = threading.Event()
+        self.bells = set()
         self.rung = {}  # the number of each bell that rings, in the order in which they began to
         recorder.process(pid)
         recorder.kqueue(pid, fd)
 
     def add(self, bell):
         with self.changed:
-            self.call([{"ident": bell, "filter": "USER", "flags": ["ADD", "CLEAR"]}], 0, [])
+            self.call([{"ident": bell, "filter": "USER", "flags": ["ADD", "CLEAR"]}], 0)
+            self.bells.add(bell)
 
     def ring(self, bell, number):
+        """Rings a bell. One that was not added is ENOENT, and that call has a record too."""
+        change = {"ident": bell, "filter": "USER", "flags": [], "fflags": NOTE_TRIGGER, "data": number}
         with self.changed:
-            self.call([{"ident": bell, "filter": "USER", "flags": [], "fflags": NOTE_TRIGGER, "data": number}], 0, [])
+            if bell not in self.bells:
+                self.call([change], 0, failed=ENOENT)
+                raise KeyError(bell)
+            self.call([change], 0)
             self.rung[bell] = number
             self.changed.notify()
 
@@ -95,8 +111,8 @@ class Loop:
                 rings = self.poll(room)
             return rings
 
-    def call(self, changes, room, events):
-        self.recorder.kevent(self.pid, self.fd, changes, room, events)
+    def call(self, changes, room, events=(), failed=None):
+        self.recorder.kevent(self.pid, self.fd, changes, room, events, failed)
 
 
 def event(bell, number):
@@ -105,10 +121,12 @@ def event(bell, number):
 
 
 def work(loop):
-    """Rings two bells, takes them, and then waits for one that another thread rings."""
-    mail, disk = 1, 2
+    """Rings two bells, and one that is not there, takes them, and then waits for one that another thread rings."""
+    mail, disk, door = 1, 2, 3
     loop.add(mail)
     loop.add(disk)
+    with contextlib.suppress(KeyError):
+        loop.ring(door, 5)
     loop.ring(disk, 7)
     loop.ring(mail, 1)
     loop.ring(disk, 8)
