@@ -1,7 +1,6 @@
 """Tests of what CLEAR tells where as much came as was taken between two samples: the counts do not show it."""
 import os
 import socket
-import time
 import unittest
 
 import kqsim
@@ -121,7 +120,6 @@ class Space(KqueueCase):
         self.assertEqual(len(self.data(LONG)), 1)
         far.send(b"x")
         far.shutdown(socket.SHUT_WR)
-        time.sleep(0.05)
         self.assertEqual(self.data(), [])
 
 

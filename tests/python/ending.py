@@ -1,5 +1,6 @@
 """Tests of how processes end: forked children, and loops that are still open at exit."""
 import os
+import signal
 import subprocess
 import sys
 import tempfile
@@ -50,6 +51,16 @@ loop = asyncio.SelectorEventLoop()
 loop.run_until_complete(asyncio.sleep(0))
 """
 
+INTERRUPTED = """
+import kqsim
+kq = kqsim.kqueue()
+try:
+    print("waits", flush=True)
+    kq.control(None, 4, None)
+except KeyboardInterrupt:
+    print(kq.control(None, 4, 0))
+"""
+
 AFTER_THE_END = """
 import atexit
 import socket
@@ -93,6 +104,14 @@ class Exit(unittest.TestCase):
     def test_open_loop_at_exit(self):
         ran = self.script(OPEN_LOOP)
         self.assertEqual((ran.returncode, ran.stderr), (0, ""))
+
+    def test_interrupt_of_the_group(self):
+        """A terminal interrupts all processes of a group; kqstep is in another."""
+        words = [sys.executable, "-c", INTERRUPTED]
+        with subprocess.Popen(words, stdout=subprocess.PIPE, text=True, start_new_session=True) as process:
+            self.assertEqual(process.stdout.readline(), "waits\n")
+            os.killpg(process.pid, signal.SIGINT)
+            self.assertEqual(process.communicate(timeout=LONG)[0], "[]\n")
 
     def test_call_after_the_end(self):
         """The kqueue is closed: EBADF."""

@@ -9,7 +9,7 @@ import time
 import unittest
 
 import kqsim
-from kqueue_case import ADD, CLEAR, DELETE, EOF, ERROR, LONG, READ, TIMER, USER, WRITE, KqueueCase, records
+from kqueue_case import ADD, CLEAR, DELETE, EOF, ERROR, LONG, READ, TIMER, TRIGGER, USER, WRITE, KqueueCase, records
 
 
 class Bytes(KqueueCase):
@@ -161,6 +161,15 @@ class Entries(KqueueCase):
         wanted = [(ident, number, ERROR, errno.EINVAL) for ident, number in enumerate(numbers)]
         wanted.insert(2, (77, USER, ERROR, 0))
         self.assertEqual(found, wanted)
+
+    def test_numbers_that_no_descriptor_has(self):
+        for ident in (1 << 40, (1 << 64) - 1, -1):
+            entries = self.kq.control([kqsim.kevent(ident, READ, ADD)], 1, 0)
+            self.assertEqual([(it.flags, it.data) for it in entries], [(ERROR, errno.EBADF)])
+
+    def test_more_changes_than_a_record_takes(self):
+        self.kq.control([kqsim.kevent(ident, USER, ADD, TRIGGER) for ident in range(2500)], 0)
+        self.assertEqual(sorted(it.ident for it in self.kq.control(None, 3000, 0)), list(range(2500)))
 
     def test_failed_call_keeps_what_is_watched(self):
         """A DELETE behind the change that failed was not made, so the bytes are still told."""

@@ -8,6 +8,11 @@ from .kqueues import install, kevent, kqueue
 from .sim import Ended, Fault, Impossible, Sim
 from .version import VERSION as __version__
 
-globals().update(CONSTANTS)
-
 __all__ = ["Ended", "Fault", "Impossible", "Sim", "__version__", "install", "kevent", "kqueue", *CONSTANTS]
+
+
+def __getattr__(name: str) -> int:
+    """The constants that select has where there is a kqueue, as KQ_FILTER_READ."""
+    if name not in CONSTANTS:
+        raise AttributeError(f"module {__name__!r} has no attribute {name!r}")
+    return CONSTANTS[name]

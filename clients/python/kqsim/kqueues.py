@@ -13,6 +13,8 @@ from .world import World, world
 
 # The room of one call at most.
 MOST_ROOM = 65536
+# The changes of one call at most.
+MOST_CHANGES = 1024
 # What stands for a filter that has no name: it is refused, as that is.
 UNNAMED = "EMPTY"
 
@@ -138,6 +140,10 @@ class kqueue:
         kevents = list(changelist or ())
         changes = [change_of(it) for it in kevents]
         unnamed = iter([it.filter for it, change in zip(kevents, changes) if change["filter"] == UNNAMED])
+        while len(changes) > MOST_CHANGES:
+            # Without room: a change that is refused ends the call, so there are no entries to put together.
+            self._world.call(number, changes[:MOST_CHANGES], 0, 0)
+            changes = changes[MOST_CHANGES:]
         events = self._world.call(number, changes, min(max_events, MOST_ROOM), timeout)
         return [event_of(event, unnamed) for event in events]
 

@@ -2,6 +2,7 @@
 from __future__ import annotations
 
 import contextlib
+import io
 import json
 import os
 import shutil
@@ -9,7 +10,7 @@ import signal
 import subprocess
 import threading
 import weakref
-from typing import Any, Dict, Iterator, List, Mapping, Optional, Sequence, TextIO, Union
+from typing import Any, Dict, Iterator, List, Mapping, Optional, Sequence, TextIO, Union, cast
 
 ALL_SIGNALS = signal.valid_signals()
 
@@ -59,14 +60,17 @@ class Sim:
         self._lock, self._depth = threading.RLock(), 0
         self._own_log: Optional[TextIO] = None
         self._log: Optional[TextIO] = None
-        found = program_of(program)
+        words = [program_of(program)]
         if isinstance(log, (str, os.PathLike)):
             self._log = self._own_log = open(log, "w", buffering=1, encoding="utf-8")
         else:
             self._log = log
-        self._process = subprocess.Popen([found], stdin=subprocess.PIPE, stdout=subprocess.PIPE)
-        assert self._process.stdin and self._process.stdout
-        self._into, self._out = self._process.stdin, self._process.stdout
+        # In a session of its own, where a terminal's signals for this process do not end it.
+        self._process = subprocess.Popen(
+            words, stdin=subprocess.PIPE, stdout=subprocess.PIPE, start_new_session=True
+        )
+        self._into = cast(io.BufferedWriter, self._process.stdin)
+        self._out = cast(io.BufferedReader, self._process.stdout)
         self._counts: Optional[Dict[str, int]] = None
         _sims.add(self)
         self._send({"kqsim": version})
@@ -142,7 +146,7 @@ class Sim:
         self._into.raw.close()
         self._out.raw.close()
         if self._own_log:
-            self._own_log.buffer.raw.close()
+            cast(io.BufferedWriter, self._own_log.buffer).raw.close()
 
     def __enter__(self) -> Sim:
         return self

@@ -115,8 +115,10 @@ class Watches:
             self._unwatch(event["ident"], event["filter"])
 
     def forget(self, fd: int) -> None:
-        """The descriptor was closed."""
-        self.filters.pop(fd, None)
+        """The descriptor was closed, or no filter watches it."""
+        if fd not in self.filters:
+            return
+        del self.filters[fd]
         self.edges.pop(fd, None)
         self.files.discard(fd)
         for epoll in (self.reads, self.writes):
