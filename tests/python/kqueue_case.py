@@ -1,6 +1,7 @@
 """What the tests of sampled descriptors share."""
 import contextlib
 import os
+import time
 import unittest
 from unittest import mock
 
@@ -39,6 +40,12 @@ class KqueueCase(unittest.TestCase):
         for it in things:
             self.addCleanup(it.close)
         return things
+
+    def wait_for_waiters(self, count=1):
+        """Returns once so many threads wait in a call."""
+        end = time.monotonic() + LONG
+        while world().waiters(self.kq.fileno()) < count and time.monotonic() < end:
+            time.sleep(0.01)
 
     def pipe(self):
         reader, writer = os.pipe()

@@ -9,7 +9,9 @@ import time
 import unittest
 
 import kqsim
-from kqueue_case import ADD, CLEAR, DELETE, EOF, ERROR, LONG, READ, TIMER, TRIGGER, USER, WRITE, KqueueCase, records
+from kqueue_case import (
+    ADD, CLEAR, DELETE, EOF, ERROR, LONG, ONESHOT, READ, TIMER, TRIGGER, USER, WRITE, KqueueCase, records,
+)
 
 
 class Bytes(KqueueCase):
@@ -194,7 +196,7 @@ class Entries(KqueueCase):
 
 class Timer(KqueueCase):
     def test_timer(self):
-        self.change(1, TIMER, data=20)
+        self.change(1, TIMER, flags=ADD | ONESHOT, data=20)
         start = time.monotonic()
         self.assertEqual(self.events(LONG), [(1, TIMER, 1)])
         self.assertGreaterEqual(time.monotonic() - start, 0.015)

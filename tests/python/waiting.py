@@ -63,8 +63,9 @@ class Woken(KqueueCase):
 
     def after(self, act):
         """Acts once a call waits; returns what that call gave."""
+
         def late():
-            time.sleep(0.2)
+            self.wait_for_waiters()
             act()
 
         thread = threading.Thread(target=late)
@@ -106,7 +107,8 @@ class Woken(KqueueCase):
         self.assertEqual([it.data for it in self.after(lambda: self.change(near, READ))], [3])
 
     def test_timer_that_is_added(self):
-        self.assertEqual([it.data for it in self.after(lambda: self.change(1, TIMER, data=5))], [1])
+        found = self.after(lambda: self.change(1, TIMER, flags=ADD | ONESHOT, data=5))
+        self.assertEqual([it.data for it in found], [1])
 
     def test_close(self):
         with self.assertRaises(OSError):
@@ -118,7 +120,7 @@ class Woken(KqueueCase):
         threads = [threading.Thread(target=lambda: found.extend(self.kq.control(None, 1, LONG))) for _ in "ab"]
         for thread in threads:
             thread.start()
-        time.sleep(0.2)
+        self.wait_for_waiters(2)
         changes = [kqsim.kevent(ident, USER, ADD | ONESHOT, TRIGGER) for ident in (1, 2)]
         self.kq.control(changes, 0)
         for thread in threads:

@@ -96,6 +96,12 @@ class Watches:
         except (OSError, OverflowError):
             del self.filters[fd]
 
+    def watch_process(self, pidfd: Optional[int]) -> None:
+        """Wakes those who wait once the process has exited."""
+        if pidfd is not None:
+            with contextlib.suppress(FileExistsError):
+                self.reads.register(pidfd, select.EPOLLIN | select.EPOLLET)
+
     def _unwatch(self, fd: int, name: str) -> None:
         filters = self.filters.get(fd)
         if filters is None:
@@ -149,6 +155,10 @@ class Watches:
                 break
 
     # ---- waiting
+
+    @property
+    def waiters(self) -> int:
+        return len(self._waiting)
 
     def enter(self) -> Waiter:
         """A thread has called, and begins to wait."""

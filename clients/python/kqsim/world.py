@@ -11,6 +11,7 @@ from typing import Any, Dict, List, Mapping, Optional, Sequence
 
 from .files import OTHERS, File
 from .pipes import Reader, Writer, is_reader
+from .processes import Processes
 from .sim import Ended, Sim
 from .sockets import Other, Socket
 from .things import Thing
@@ -18,8 +19,6 @@ from .watches import OF_DESCRIPTORS, Waiter, Watches
 
 Record = Dict[str, Any]
 
-# The process, in the trace.
-PID = 1
 # A number that no descriptor has is this one and a descriptor's.
 FAR = 1 << 24
 
@@ -41,7 +40,8 @@ class World:
     def __init__(self, log: Optional[str] = None) -> None:
         self.pid = os.getpid()
         self.sim = CountingSim(log)
-        self.sim.proc(PID)
+        self.sim.proc(self.pid)
+        self._processes = Processes(self.sim, self.pid)
         self._start = time.monotonic_ns()
         self._things: Dict[int, Thing] = {}
         self._kqueues: Dict[int, Watches] = {}
@@ -55,7 +55,7 @@ class World:
             watches = Watches()
             number = watches.fileno()
             self._forget(number)
-            self.sim.kqueue(PID, number)
+            self.sim.kqueue(self.pid, number)
             self._kqueues[number] = watches
             return number
 
@@ -69,13 +69,18 @@ class World:
                 for kqueues in thing.quiet.values():
                     kqueues.discard(number)
             if not self._is_over:
-                self.sim.close(PID, number)
+                self.sim.close(self.pid, number)
 
     def _watches(self, number: int) -> Watches:
         watches = self._kqueues.get(number)
         if watches is None or self._is_over:
             raise closed_error()
         return watches
+
+    def waiters(self, number: int) -> int:
+        """How many threads wait for this kqueue."""
+        with self.sim.held():
+            return self._watches(number).waiters
 
     # ---- calls
 
@@ -130,7 +135,7 @@ class World:
             self.sim.clock(watches.asked)
         made = changes
         try:
-            events = self.sim.kevent(PID, number, changes, room)
+            events = self.sim.kevent(self.pid, number, changes, room)
         except OSError:
             # It is not told which changes were made before the one that failed: what may be watched still is.
             made = [it for it in changes if "DELETE" not in it["flags"]]
@@ -174,8 +179,15 @@ class World:
         for fd in touched:
             if not room or fd not in watches.filters:
                 self._sample(watches, number, fd)
+        # Behind the samples, so that one that has exited, and was not waited for, is added, and then its exit told.
+        for change in changes:
+            if change["filter"] == "PROC" and "ADD" in change["flags"]:
+                watches.watch_process(self._processes.meet(change["ident"]))
 
     def _sample_all(self, watches: Watches, number: int) -> None:
+        if self._processes.sample():
+            for each in self._kqueues.values():
+                each.wake()
         watches.drain()
         for fd in sorted(watches.filters):
             self._sample(watches, number, fd)
@@ -209,17 +221,17 @@ class World:
 
     def _thing_of(self, fd: int, mode: int) -> Thing:
         if stat.S_ISSOCK(mode):
-            made = Socket(self.sim, PID, fd, FAR + fd)
+            made = Socket(self.sim, self.pid, fd, FAR + fd)
             return made.now() or made
         if stat.S_ISFIFO(mode):
             kind = Reader if is_reader(fd) else Writer
-            return kind(self.sim, PID, fd, FAR + fd)
+            return kind(self.sim, self.pid, fd, FAR + fd)
         if stat.S_ISREG(mode) or stat.S_ISDIR(mode):
             self._files += 1
             if self._files == 1:
                 self.sim.proc(OTHERS)
-            return File(self.sim, PID, fd, self._files)
-        return Other(self.sim, PID, fd, FAR + fd)
+            return File(self.sim, self.pid, fd, self._files)
+        return Other(self.sim, self.pid, fd, FAR + fd)
 
     def _forget(self, fd: int) -> None:
         """The number was closed, or names another thing now: no kqueue watches it."""
@@ -239,6 +251,7 @@ class World:
 
     def leave(self) -> None:
         """In a child of fork: closes what belongs to the parent's kqueues."""
+        self._processes.leave()
         for watches in self._kqueues.values():
             watches.close_in_child()
 
