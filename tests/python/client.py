@@ -99,6 +99,12 @@ class Package(unittest.TestCase):
         self.assertIn('kqsim = ["py.typed"]\n', text)
         self.assertTrue(os.path.exists(os.path.join(folder, "py.typed")))
 
+    def test_constants(self):
+        names = {}
+        exec("from kqsim import *", names)
+        self.assertEqual((names["KQ_FILTER_READ"], kqsim.KQ_EV_EOF), (-1, 0x8000))
+        self.assertFalse(hasattr(kqsim, "KQ_FILTER_NOTHING"))
+
     def test_hints(self):
         """Each function that a user calls says what it takes and gives."""
         for kind in (kqsim.Sim, kqsim.kqueue, kqsim.kevent):
