@@ -128,6 +128,60 @@ class Woken(KqueueCase):
         self.assertEqual(sorted(it.ident for it in found), [1, 2])
 
 
+class Threads(KqueueCase):
+    """Loops whose other side is another thread: nothing is lost."""
+
+    def test_exact_reads(self):
+        """A loop reads as many bytes as it was told, and no more, while others come."""
+        near, far = self.made(*socket.socketpair())
+        self.change(near, READ, flags=ADD | CLEAR)
+
+        def send():
+            for n in range(2000):
+                far.sendall(b"x" * (n % 7 + 1))
+            far.shutdown(socket.SHUT_WR)
+
+        thread = threading.Thread(target=send)
+        thread.start()
+        self.addCleanup(thread.join)
+        got, is_over = 0, False
+        while not is_over:
+            [event] = self.kq.control(None, 1, LONG)
+            got += len(near.recv(event.data)) if event.data else 0
+            is_over = event.flags & kqsim.KQ_EV_EOF
+        self.assertEqual(got, sum(n % 7 + 1 for n in range(2000)))
+
+    def test_workers(self):
+        """Four threads share a kqueue; each socket is one's at a time, by ONESHOT."""
+        ends = dict((near.fileno(), (near, far)) for near, far in (self.made(*socket.socketpair()) for _ in range(10)))
+        self.change(0, USER, flags=ADD)
+        for fd in ends:
+            self.change(fd, READ, flags=ADD | ONESHOT)
+        got = []
+
+        def work():
+            while True:
+                [event] = self.kq.control(None, 1, LONG)
+                if event.filter == USER:
+                    return
+                got.append(ends[event.ident][0].recv(event.data))
+                self.change(event.ident, READ, flags=ADD | ONESHOT)
+
+        threads = [threading.Thread(target=work) for _ in range(4)]
+        for thread in threads:
+            thread.start()
+        for _ in range(30):
+            for _, far in ends.values():
+                far.sendall(b"12345")
+        end = time.monotonic() + LONG
+        while sum(map(len, got)) < 1500 and time.monotonic() < end:
+            time.sleep(0.01)
+        self.change(0, USER, flags=0, fflags=TRIGGER)
+        for thread in threads:
+            thread.join()
+        self.assertEqual(sum(map(len, got)), 1500)
+
+
 class Periods(KqueueCase):
     def test_a_timer_is_told_each_time(self):
         """A call is sent when it is due, and not before."""
