@@ -85,6 +85,14 @@ class Bytes(KqueueCase):
         self.change(reader, READ)
         self.assertEqual(self.events(), [(reader, READ, 1)])
 
+    def test_number_that_names_the_other_end(self):
+        """Both ends of a pipe have one inode."""
+        reader, writer = self.pipe()
+        self.change(reader, READ)
+        os.dup2(writer, reader)
+        self.change(reader, WRITE)
+        self.assertEqual([(it.ident, it.filter) for it in self.kq.control(None, 8, 0)], [(reader, WRITE)])
+
 
 class Listening(KqueueCase):
     """Connections that wait, and those that fail."""

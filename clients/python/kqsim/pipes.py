@@ -4,7 +4,7 @@ from __future__ import annotations
 import fcntl
 import os
 import select
-from typing import Container
+from typing import Container, Optional
 
 from .sim import Sim
 from .sockets import Socket
@@ -32,6 +32,9 @@ class Reader(Thing):
         self.far, self.waiting, self.has_far = far, 0, True
         self.size = size_of(fd)
         sim.pipe(pid, fd, far, self.size)
+
+    def now(self) -> Optional[Thing]:
+        return self if is_reader(self.fd) else None
 
     def end(self) -> None:
         super().end()
@@ -68,6 +71,9 @@ class Writer(Socket):
     def __init__(self, sim: Sim, pid: int, fd: int, far: int) -> None:
         super().__init__(sim, pid, fd, far)
         sim.lowat(pid, fd, WRITE, min(WRITE_MARK, self.size))
+
+    def now(self) -> Optional[Thing]:
+        return None if is_reader(self.fd) else self
 
     def is_stream_now(self) -> bool:
         return False
