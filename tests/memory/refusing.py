@@ -1,4 +1,4 @@
-"""Running a program with one allocation of the C library refused, for the runners beside this file."""
+"""Running a program with one allocation of the C library, or one start of a thread, refused."""
 import os
 import subprocess
 
@@ -20,12 +20,12 @@ def built(room):
     return library
 
 
-def run(library, command, given, at):
-    """Runs the command on this input with the allocation number `at` refused, and returns what it gave, that is
-    standard output, standard error and status, and whether one was refused."""
+def run(library, command, given, at, what="REFUSE_AT"):
+    """Runs the command on this input with the allocation number `at` refused, or what else is named, and returns what
+    it gave, that is standard output, standard error and status, and whether one was refused."""
     says = os.memfd_create("says")
     try:
-        environment = {"LD_PRELOAD": library, "REFUSE_AT": str(at), "REFUSE_SAYS": str(says)}
+        environment = {"LD_PRELOAD": library, what: str(at), "REFUSE_SAYS": str(says)}
         how = {"capture_output": True, "timeout": SECONDS, "pass_fds": [says], "env": environment}
         ran = subprocess.run(command, input=given, **how)
         return (ran.stdout, ran.stderr, ran.returncode), os.fstat(says).st_size > 0

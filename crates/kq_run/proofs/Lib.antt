@@ -1,3 +1,4 @@
 mod FoldLemmas
 pub mod LiveFaults
 pub mod ReplayedTraces
+pub mod SharedLemmas

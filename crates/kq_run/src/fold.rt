@@ -2,19 +2,20 @@
 
 ghost use Rattle.std.specs.Prelude.{◌≡◌, ◌<◌, ◌+◌, ◌^◌, ◌++◌, [], IfOk, List, flat_map};
 ghost use Rattle.std.specs.Prelude.{length, ℕ};
-ghost use Rattle.kq_merge.specs.Written.{written};
 ghost use Rattle.kq_model.specs.declared.event.Event.{Event};
-ghost use Rattle.kq_model.specs.declared.row.Row.{Row};
 ghost use Rattle.kq_model.specs.Limits.{IsVersion};
 ghost use Rattle.kq_model.specs.Report.{report_of};
 ghost use Rattle.kq_run.specs.Folding.{Answers, GoesOn, IsFolded};
 
+use crate::lines::with_rows;
 use crate::row_sink::RowSink;
+use kq_join::join;
 use kq_merge::{ReportText, TextChunks};
 use kq_model::{Event, Memory, Row};
 use kq_system::System;
 use std::alloc::Global;
-use std::thread::{Threads, join};
+use std::sync::Wait;
+use std::thread::Threads;
 
 /// The whole system after the records so far, and the report of what it answered. It can be moved at little cost.
 #[derive(Drop)]
@@ -40,25 +41,8 @@ impl Fold {
         })
     }
 
-    /// After these pieces of records more; where another thread may write lines beside, their rows wait.
-    pub fn after<R: AllocGlobal + Threads>(
-        self,
-        rt: &R,
-        beside: bool,
-        pieces: &[Vec<Event>],
-    ) -> Result<Self, Memory>
-        requires { self.system.value.applied + length (flat_map (λ piece. piece.items) pieces.now) < 2 ^ 31 }
-        ensures { IfOk result (λ fold. GoesOn self fold (flat_map (λ piece. piece.items) pieces.now)) }
-    {
-        if beside {
-            self.after_beside(rt, pieces)
-        } else {
-            self.after_alone(rt.alloc(), pieces)
-        }
-    }
-
-    /// The same, the line of each row written at once.
-    fn after_alone(self, alloc: Global, pieces: &[Vec<Event>]) -> Result<Self, Memory>
+    /// After these pieces of records more, the line of each row written at once.
+    pub fn after_alone(self, alloc: Global, pieces: &[Vec<Event>]) -> Result<Self, Memory>
         requires { self.system.value.applied + length (flat_map (λ piece. piece.items) pieces.now) < 2 ^ 31 }
         ensures { IfOk result (λ fold. GoesOn self fold (flat_map (λ piece. piece.items) pieces.now)) }
     {
@@ -76,9 +60,9 @@ impl Fold {
         })
     }
 
-    /// The same: these rows wait, and another thread writes the lines of those that waited. A thread that does not
-    /// start is no error.
-    fn after_beside<R: AllocGlobal + Threads>(
+    /// The same: these rows wait, and another thread writes the lines of those that waited. Memory comes where it does
+    /// not start, too.
+    pub fn after_beside<R: AllocGlobal + Threads + Wait>(
         self,
         rt: &R,
         pieces: &[Vec<Event>],
@@ -92,13 +76,16 @@ impl Fold {
             waiting,
         } = self;
         let rows = Vec::new(rt.alloc());
-        let (written, folded) = join(
+        let joined = join(
             rt,
             move || with_rows(text, waiting),
             move || answered_in_box(system, rows, pieces),
         );
-        let text = written?;
-        let (system, waiting) = folded?;
+        if !joined.has_started {
+            return Err(Memory);
+        }
+        let text = joined.first?;
+        let (system, waiting) = joined.second?;
         Ok(Fold {
             system,
             text,
@@ -118,17 +105,6 @@ impl Fold {
         } = self;
         with_rows(text, waiting)?.end_in_chunks(system.applied())
     }
-}
-
-/// The text with the lines of these rows.
-fn with_rows(mut text: ReportText, rows: Vec<Row>) -> Result<ReportText, Memory>
-    ensures { IfOk result (λ after. (before : List Row) → text ≡ written before
-        → after ≡ written (before ++ rows.items)) }
-{
-    for row in rows.as_slice() {
-        text = text.with_row(row.at, &row.reply)?;
-    }
-    Ok(text)
 }
 
 /// The system after these pieces of records more, and what took the rows.

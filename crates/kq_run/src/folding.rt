@@ -1,4 +1,4 @@
-//! The report of a trace by one fold of the whole system over it, each record as soon as it is read.
+//! The report of a trace by one fold of the whole system over it on one thread, each record as soon as it is read.
 
 ghost use Rattle.std.specs.Prelude.{◌≡◌, IfErr, IfOk, List, None, ℕ};
 ghost use Rattle.kq_model.specs.declared.event.Event.{Event};
@@ -12,28 +12,22 @@ use kq_merge::TextChunks;
 use kq_model::{Event, Memory};
 use kq_trace::{Sink, Source, read_trace_into};
 use std::alloc::Global;
+use std::sync::Wait;
 use std::thread::Threads;
 
 /// Folds the whole system over the records that it takes, and keeps none.
 #[derive(Drop)]
 pub struct Folder {
     alloc: Global,
-    /// Whether the lines of the rows of a part are written while the next one is folded.
-    beside: bool,
     /// None before the version is known.
     fold: Option<Fold>,
 }
 
 impl Folder {
-    /// With so many workers.
-    fn new(alloc: Global, workers: u32) -> Self
+    fn new(alloc: Global) -> Self
         ensures { result.fold ≡ None }
     {
-        Folder {
-            alloc,
-            beside: workers >= 2,
-            fold: None,
-        }
+        Folder { alloc, fold: None }
     }
 
     /// The report of the records that it took.
@@ -61,31 +55,30 @@ impl Sink for Folder {
         Ok(())
     }
 
-    fn accept<R: AllocGlobal + Threads + Sync>(
+    fn accept<R: AllocGlobal + Threads + Wait + Sync>(
         &mut self,
-        rt: &R,
+        _rt: &R,
         _before: u64,
         pieces: Vec<Vec<Event>>,
     ) -> Result<(), Memory> {
         let Some(fold) = self.fold.take() else {
             unreachable!();
         };
-        self.fold = Some(fold.after(rt, self.beside, pieces.as_slice())?);
+        self.fold = Some(fold.after_alone(self.alloc, pieces.as_slice())?);
         Ok(())
     }
 }
 
-/// The report of the trace that a source has, by one fold of the whole system over it on the calling thread. Further
-/// workers read what comes behind, and write the lines of the rows before.
-pub fn fold_from<R: AllocGlobal + Threads + Sync, I: Source + Send>(
+/// The report of the trace that a source has, by one fold of the whole system over it on the calling thread, which
+/// reads it too.
+pub fn fold_alone<R: AllocGlobal + Threads + Wait + Sync, I: Source + Send>(
     rt: &R,
     source: &mut I,
-    workers: u32,
 ) -> Result<TextChunks, Fault>
     ensures report { IfOk result (λ text. IsReportFrom (I.ahead source.old) text) }
-    ensures fault { IfErr result (IsSourceFault I.may_fail (I.ahead source.old) workers) }
+    ensures fault { IfErr result (λ fault. (workers : ℕ) → IsSourceFault I.may_fail (I.ahead source.old) workers fault) }
 {
-    let mut folder = Folder::new(rt.alloc(), workers);
-    let _ = read_trace_into(rt, source, workers, &mut folder)?;
+    let mut folder = Folder::new(rt.alloc());
+    let _ = read_trace_into(rt, source, 1, &mut folder)?;
     Ok(folder.report()?)
 }

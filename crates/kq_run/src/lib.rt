@@ -5,11 +5,14 @@ mod fault;
 mod fold;
 mod folding;
 mod input;
+mod lines;
 mod living;
 mod output;
 mod projecting;
 mod replaying;
 mod row_sink;
+mod shared_fold;
+mod sharing;
 mod workers;
 
 pub use fault::Fault;

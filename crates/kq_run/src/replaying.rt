@@ -1,16 +1,17 @@
 ghost use Rattle.std.specs.Prelude.{◌↔◌, IfErr, IfOk, IsErrOf, OnOk};
-ghost use Rattle.kq_run.specs.Replay.{IsFault, IsInputFault, IsReport, IsReportIn};
+ghost use Rattle.kq_run.specs.Replay.{IsFault, IsInputFault, IsReport, IsReportFrom, IsReportIn, IsSourceFault};
 ghost use Rattle.kq_run.specs.Workers.{IsWorkerCount};
 ghost use Rattle.kq_run.specs.Written.{Leaves, Writes};
 
 use crate::fault::Fault;
-use crate::folding::fold_from;
+use crate::folding::fold_alone;
 use crate::output::write_chunks;
 use crate::projecting::rows_of;
+use crate::sharing::fold_by_shares;
 use crate::workers::is_worker_count;
 use kq_gate::{Gate, Starts};
-use kq_merge::report_text;
-use kq_trace::{Input, Lent, read_trace_with};
+use kq_merge::{TextChunks, report_text};
+use kq_trace::{Input, Lent, Source, read_trace_with};
 use std::io::{Read, Write};
 use std::sync::Wait;
 use std::thread::Threads;
@@ -22,8 +23,9 @@ use std::thread::Threads;
 /// of the whole system over the trace on one thread; where memory or a thread is refused, there is
 /// an error and no report.
 ///
-/// One worker folds. The others read what comes behind, and write the lines of the rows before.
-pub fn replay<R: AllocGlobal + Threads + Sync>(
+/// By several workers the kqueues are dealt to shares, which are folded at the same time. Memory: a thread that reads
+/// or writes lines was not started, too. Spawn: one that folds was not.
+pub fn replay<R: AllocGlobal + Threads + Wait + Sync>(
     rt: &R,
     bytes: &[u8],
     workers: u32,
@@ -37,6 +39,22 @@ pub fn replay<R: AllocGlobal + Threads + Sync>(
     }
     let text = fold_from(rt, &mut Lent::new(bytes), workers)?;
     Ok(text.joined()?)
+}
+
+/// The report of the trace that a source has.
+fn fold_from<R: AllocGlobal + Threads + Wait + Sync, I: Source + Send>(
+    rt: &R,
+    source: &mut I,
+    workers: u32,
+) -> Result<TextChunks, Fault>
+    ensures report { IfOk result (λ text. IsReportFrom (I.ahead source.old) text) }
+    ensures fault { IfErr result (IsSourceFault I.may_fail (I.ahead source.old) workers) }
+{
+    if workers < 2 {
+        fold_alone(rt, source)
+    } else {
+        fold_by_shares(rt, source, workers)
+    }
 }
 
 /// The same, where each kqueue is replayed alone: the gate is asked before each of them, with the number of the worker
@@ -66,7 +84,7 @@ pub fn replay_with<R: AllocGlobal + Threads + Wait + Sync, G: Gate + Sync, S: St
 /// bytes are [`Fault::Read`], whatever the trace.
 ///
 /// After [`Fault::Write`] a prefix of the report was written, after any other fault nothing.
-pub fn replay_input<R: AllocGlobal + Threads + Sync, I: Read + Send, O: Write>(
+pub fn replay_input<R: AllocGlobal + Threads + Wait + Sync, I: Read + Send, O: Write>(
     rt: &R,
     input: &mut I,
     limit: usize,

@@ -50,7 +50,7 @@ impl Shares {
     /// of kq_merge brings them into order.
     ///
     /// Spawn: a thread was not started. After an error the shares are gone.
-    pub fn after<R: Threads + Wait + Sync>(
+    pub fn after<R: Threads + Wait>(
         self,
         rt: &R,
         alloc: Global,

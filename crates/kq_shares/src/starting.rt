@@ -1,7 +1,6 @@
 //! The threads in which shares go over some records.
 
 ghost use Rattle.std.specs.Prelude.{◌≡◌, ◌≤◌, All, IfOk, false, length, map};
-ghost use Rattle.std.specs.Thread.{IsSync};
 ghost use Rattle.kq_shares.specs.Going.{events_in, HasGone, HasPlaces, HaveGone};
 
 use crate::going::{Gone, go_over};
@@ -23,7 +22,7 @@ pub struct AllGone {
 /// Takes all these shares past these pieces of records: the first one on the calling thread, and each further one on a
 /// thread of its own or, where none can be made, on the calling one. Each level starts one, has the next level run, and
 /// joins its own.
-pub fn go_all<R: Threads + Wait + Sync>(
+pub fn go_all<R: Threads + Wait>(
     rt: &R,
     alloc: Global,
     mut shares: Vec<Box<Share>>,
@@ -56,8 +55,7 @@ pub fn go_all<R: Threads + Wait + Sync>(
                 HasGone share.value (events_in pieces.entry.now) gone.share.value gone.rows.items) }
         { go_over(alloc, share, pieces) },
         move || -> Result<AllGone, Memory>
-            requires sync { IsSync R.row }
-            requires places { All (λ s. HasPlaces (length (events_in pieces.now)) s.value) shares.items }
+            requires { All (λ s. HasPlaces (length (events_in pieces.now)) s.value) shares.items }
             ensures { IfOk result (λ all.
                 HaveGone (map (λ s. s.value) shares.items) (events_in pieces.entry.now) all.gone.items) }
         { go_all(rt, alloc, shares, pieces) },

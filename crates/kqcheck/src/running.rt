@@ -13,6 +13,7 @@ use kq_model::{Memory, Trace};
 use kq_trace::read_trace_with;
 use std::alloc::Global;
 use std::io::Write;
+use std::sync::Wait;
 use std::thread::Threads;
 
 /// The bytes of the files of an order; none of a file that it does not name.
@@ -49,7 +50,7 @@ failed.
 
 /// Carries an order out over the bytes of its files, and prints the line of a fault on `err`: the exit status. A
 /// failing `err` changes no status.
-pub fn run_order<R: AllocGlobal + Threads + Sync, O: Write, E: Write>(
+pub fn run_order<R: AllocGlobal + Threads + Wait + Sync, O: Write, E: Write>(
     rt: &R,
     order: &Order,
     given: &Given,
@@ -65,7 +66,7 @@ pub fn run_order<R: AllocGlobal + Threads + Sync, O: Write, E: Write>(
     }
 }
 
-fn carry_out<R: AllocGlobal + Threads + Sync, O: Write>(
+fn carry_out<R: AllocGlobal + Threads + Wait + Sync, O: Write>(
     rt: &R,
     order: &Order,
     given: &Given,
@@ -85,7 +86,7 @@ fn carry_out<R: AllocGlobal + Threads + Sync, O: Write>(
     }
 }
 
-fn check<R: AllocGlobal + Threads + Sync, O: Write>(
+fn check<R: AllocGlobal + Threads + Wait + Sync, O: Write>(
     rt: &R,
     given: &Given,
     ignored: &[Ignored],
@@ -142,7 +143,7 @@ fn text_of(
     Ok(text)
 }
 
-fn explain<R: AllocGlobal + Threads + Sync, O: Write>(
+fn explain<R: AllocGlobal + Threads + Wait + Sync, O: Write>(
     rt: &R,
     given: &Given,
     at: u64,

@@ -10,11 +10,12 @@ use kq_system::System;
 use kq_trace::read_trace_with;
 use std::alloc::{AllocError, Global};
 use std::io::Write;
+use std::sync::Wait;
 use std::thread::Threads;
 use std::time::{Clock, CpuClock};
 
 /// Reads the trace, folds the system over it, and writes its report.
-pub fn fold<R: AllocGlobal + Clock + CpuClock + Threads + Sync, O: Write, W: Write>(
+pub fn fold<R: AllocGlobal + Clock + CpuClock + Threads + Wait + Sync, O: Write, W: Write>(
     rt: &R,
     bytes: &[u8],
     out: &mut O,

@@ -3,6 +3,7 @@
 use kq_line::LineReader;
 use kq_trace::{TraceError, read_trace, read_trace_by_values, write_trace};
 use std::alloc::{AllocError, Global};
+use std::sync::Wait;
 use std::thread::Threads;
 
 /// The header of a trace, with its line feed.
@@ -28,7 +29,7 @@ pub fn fallbacks(alloc: Global, bytes: &[u8]) -> u64 {
 }
 
 /// What each line is read as, as the one record of a trace: the canonical text of that trace, or its fault.
-pub fn each_line<R: AllocGlobal + Threads + Sync>(
+pub fn each_line<R: AllocGlobal + Threads + Wait + Sync>(
     rt: &R,
     bytes: &[u8],
     readers: Readers,

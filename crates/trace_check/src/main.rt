@@ -17,6 +17,7 @@ use lines::{Readers, each_line, fallbacks};
 use std::alloc::AllocError;
 use std::env;
 use std::io::{Read, Write};
+use std::sync::Wait;
 use std::thread::Threads;
 use task::Task;
 
@@ -32,7 +33,7 @@ fn main(rt: HostRuntime) -> anyhow::Result<()> {
     run(&rt, task, bytes.as_slice(), &mut rt.stdout())
 }
 
-fn run<R: AllocGlobal + Print + Threads + Sync, W: Write>(
+fn run<R: AllocGlobal + Print + Threads + Wait + Sync, W: Write>(
     rt: &R,
     task: Task,
     bytes: &[u8],

@@ -9,8 +9,8 @@ use Rattle.kq_shares.specs.Whole.{AreSharesOf}
 use Rattle.kq_shares.proofs.WholeLemmas.{gone-rows, gone-shares, have-places, lists-of, value, values-of}
 use Rattle.kq_shares.proofs.shares.Shares.after.Goals as goal
 
-pub go_all-requires-after_bounds : goal.go_all-requires-after_bounds
-go_all-requires-after_bounds g c κs within =
+pub go_all-requires : goal.go_all-requires
+go_all-requires g c =
     let (applied, s, are, few) = c.requires in
     have-places 0 are.dealing applied (length (events_in c.args.pieces.now)) s c.args.self.shares.items are.are few
 

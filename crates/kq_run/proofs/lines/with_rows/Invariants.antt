@@ -2,7 +2,7 @@
 use Rattle.std.proofs.Common.{◌≡◌, ◌++◌, List, take}
 use Rattle.kq_model.specs.declared.row.Row.{Row}
 use Rattle.kq_merge.specs.Written.{written}
-use Rattle.kq_run.proofs.fold.with_rows.Given as goal
+use Rattle.kq_run.proofs.lines.with_rows.Given as goal
 
 abbrev pub invariant-loop-row : goal.invariant-loop-row
 invariant-loop-row l =

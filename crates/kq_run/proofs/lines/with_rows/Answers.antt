@@ -3,7 +3,7 @@ use Rattle.std.proofs.Common.{◌∙◌, ◌∷◌, ◌++◌, [], ap, append-nil
 use Rattle.std.proofs.lemmas.List.{take_all, take_more}
 use Rattle.kq_merge.specs.Written.{written}
 use Rattle.kq_merge.proofs.WrittenRows.{row_more}
-use Rattle.kq_run.proofs.fold.with_rows.Goals as goal
+use Rattle.kq_run.proofs.lines.with_rows.Goals as goal
 
 pub loop-row-init : goal.loop-row-init
 loop-row-init c = λ before is. is ∙ ap written (sym (append-nil before))
