@@ -2,6 +2,7 @@
 use Rattle.std.proofs.Common.{◌≡◌, ℕ, ◌+◌, List, [], ◌∷◌, ◌++◌, refl, sym, ap, ap₂, ◌∙◌, subst}
 use Rattle.kq_lock.specs.Calls.{Leads}
 use Rattle.kq_model.specs.declared.event.Event.{Event}
+use Rattle.kq_model.specs.declared.filter.Filter.{Filter}
 use Rattle.kq_model.specs.declared.reply.Reply.{Reply}
 use Rattle.kq_model.specs.declared.row.Row.{Row}
 use Rattle.kq_model.specs.Hearing.{Hearing, tallying}
@@ -21,7 +22,7 @@ use Rattle.kq_live.specs.Replies.{replies, replies_after, replies_by, rows_of}
 
 -- ---- the replies are the same, however what was heard and the objects are kept
 
-module _ {S T A B C D : Type 0} {h : Hearing S} {g : Hearing T} {f : S → T} {k : Keeping A B C D} (is : IsHearingMap h g f) (counts : CountsAll k) where
+module _ {S T A B C D : Type 0} {h : Hearing S} {g : Hearing T} {f : Filter → S → T} {k : Keeping A B C D} (is : IsHearingMap h g f) (counts : CountsAll k) where
   replies_after-recast : (place : ℕ) (s : system.System h k) (es : List Event) → replies_after place (recast_system g f s) es ≡ replies_after place s es
   unfolding replies_after
   replies_after-recast place s [] = refl

@@ -24,7 +24,7 @@ abbrev pub AreTaken : Filter → List Hint → Type 0
 AreTaken f [] = Unit {0}
 AreTaken f (hint ∷ hints) = (takes f hint ≡ true) × AreTaken f hints
 
-taken-filter : (f : Filter) (hints : List Hint) → AreTaken f (filter (takes f) hints)
+pub taken-filter : (f : Filter) (hints : List Hint) → AreTaken f (filter (takes f) hints)
 taken-filter f [] = tt
 taken-filter f (hint ∷ hints) =
     by_test (λ b. takes f hint ≡ b → AreTaken f (cond b (hint ∷ filter (takes f) hints) (filter (takes f) hints))) (takes f hint)
@@ -54,7 +54,7 @@ module _ {S : Type 0} {h : Hearing S} where
   abbrev with_oneshot : Bool → Knote h → Knote h
   with_oneshot b k = record k { oneshot = b }
 
-  added-filter : (o : Option Hint) (k : Knote h) → (added o k).key.filter ≡ k.key.filter
+  pub added-filter : (o : Option Hint) (k : Knote h) → (added o k).key.filter ≡ k.key.filter
   unfolding added
   added-filter None k = refl
   added-filter (Some hint) k = refl
@@ -112,6 +112,12 @@ module _ {S : Type 0} {h : Hearing S} where
   unfolding added
   added-same_oneshot None k = refl
   added-same_oneshot (Some hint) k = refl
+
+  pub heard_by-key : (hints : List Hint) (k : Knote h) → (heard_by hints k).key ≡ k.key
+  unfolding heard_by
+  heard_by-key [] k = refl
+  heard_by-key (hint ∷ hints) k =
+      heard_by-key hints (added (kept k.fflags hint) k) ∙ added-key (kept k.fflags hint) k
 
   heard_by-same_oneshot : (hints : List Hint) (k : Knote h) → (heard_by hints k).oneshot ≡ k.oneshot
   unfolding heard_by

@@ -1,6 +1,7 @@
 -- A kevent call commutes with a change of how what was heard is kept, and gives the same reply.
 use Rattle.std.proofs.Common.{◌≡◌, ℕ, Bool, cond, List, [], ◌∷◌, ◌++◌, length, ltb, Option, Some, None, refl, sym, ap, ◌∙◌}
 use Rattle.kq_model.specs.declared.change.Change.{Change}
+use Rattle.kq_model.specs.declared.filter.Filter.{Filter}
 use Rattle.kq_model.specs.declared.kevent.Kevent.{Kevent}
 use Rattle.kq_model.specs.declared.reply.Reply.{Reply}
 use Rattle.kq_model.specs.Call.{Processed, Called, entry_of, is_answered, ended, after, process, returned, by_entries, by_answer, concluded, call}
@@ -14,7 +15,7 @@ use Rattle.kq_model.proofs.RecastKnote.{cond-map}
 use Rattle.kq_model.proofs.RecastRegistration.{recast_registered, register-recast}
 use Rattle.kq_model.proofs.RecastRetrieval.{retrieval-recast}
 
-module _ {S T : Type 0} {h : Hearing S} {g : Hearing T} {f : S → T} (is : IsHearingMap h g f) where
+module _ {S T : Type 0} {h : Hearing S} {g : Hearing T} {f : Filter → S → T} (is : IsHearingMap h g f) where
   abbrev re_kq : Kqueue h → Kqueue g
   re_kq kq = recast_kqueue g f kq
 

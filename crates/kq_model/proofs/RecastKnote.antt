@@ -20,7 +20,7 @@ pub cond-map : {A B : Type 0} (f : A → B) (b : Bool) (x y : A) → f (cond b x
 cond-map f true x y = refl
 cond-map f false x y = refl
 
-module _ {S T : Type 0} {h : Hearing S} {g : Hearing T} {f : S → T} (is : IsHearingMap h g f) where
+module _ {S T : Type 0} {h : Hearing S} {g : Hearing T} {f : Filter → S → T} (is : IsHearingMap h g f) where
   abbrev re : Knote h → Knote g
   re k = recast g f k
 
@@ -51,25 +51,26 @@ module _ {S T : Type 0} {h : Hearing S} {g : Hearing T} {f : S → T} (is : IsHe
 
   -- ---- the look
 
-  look_by-recast : (filter : Filter) (view : Option View) (k : Knote h) → look_by filter view (re k) ≡ look_by filter view k
+  look_by-recast : (filter : Filter) (view : Option View) (k : Knote h) → k.key.filter ≡ filter → look_by filter view (re k) ≡ look_by filter view k
   unfolding look_by look_user mark_of
-  look_by-recast Vnode view k = ap notes_seen (is.notes k.seen)
-  look_by-recast Proc view k = ap (λ notes. process_seen notes (status_of view)) (is.notes k.seen)
-  look_by-recast Signal view k = ap count_seen (is.count k.seen)
-  look_by-recast Timer view k = ap count_seen (is.count k.seen)
-  look_by-recast Read view k = refl
-  look_by-recast Write view k = refl
-  look_by-recast User view k = refl
-  look_by-recast Aio view k = refl
-  look_by-recast Lio view k = refl
-  look_by-recast Fs view k = refl
-  look_by-recast Procdesc view k = refl
-  look_by-recast Sendfile view k = refl
-  look_by-recast Empty view k = refl
+  look_by-recast Vnode view k same = ap notes_seen (is.notes k.key.filter k.seen)
+  look_by-recast Proc view k same = ap (λ notes. process_seen notes (status_of view)) (is.notes k.key.filter k.seen)
+  look_by-recast Signal view k same = ap count_seen (ap (λ filter. g.count (f filter k.seen)) same ∙ is.deliveries k.seen)
+  look_by-recast Timer view k same = ap count_seen (ap (λ filter. g.count (f filter k.seen)) same ∙ is.expirations k.seen)
+  look_by-recast Read view k same = refl
+  look_by-recast Write view k same = refl
+  look_by-recast User view k same = refl
+  look_by-recast Aio view k same = refl
+  look_by-recast Lio view k same = refl
+  look_by-recast Fs view k same = refl
+  look_by-recast Procdesc view k same = refl
+  look_by-recast Sendfile view k same = refl
+  look_by-recast Empty view k same = refl
 
   pub look-recast : (views : Views) (k : Knote h) → look views (re k) ≡ look views k
   unfolding look
-  look-recast views k = ap (notice_or k.notice) (look_by-recast k.key.filter (option_and_then views.view k.target) k)
+  look-recast views k =
+      ap (notice_or k.notice) (look_by-recast k.key.filter (option_and_then views.view k.target) k refl)
 
   -- ---- what a change makes of a knote
 
@@ -79,17 +80,18 @@ module _ {S T : Type 0} {h : Hearing S} {g : Hearing T} {f : S → T} (is : IsHe
 
   fresh-recast : (caller : Caller) (c : Change) → fresh caller c ≡ re (fresh caller c)
   unfolding fresh
-  fresh-recast caller c = ap (hearing (fresh {h = g} caller c)) (sym is.empty)
+  fresh-recast caller c = ap (hearing (fresh {h = g} caller c)) (sym (is.empty c.filter))
 
   -- what it heard, with an expiration more where its moment has come
-  heard_by-recast : (come : Bool) (s : S) → cond come (g.heard Expired (f s)) (f s) ≡ f (cond come (h.heard Expired s) s)
-  heard_by-recast true s = sym (is.heard Expired s)
-  heard_by-recast false s = refl
+  heard_by-recast : (filter : Filter) (come : Bool) (s : S)
+      → cond come (g.heard Expired (f filter s)) (f filter s) ≡ f filter (cond come (h.heard Expired s) s)
+  heard_by-recast filter true s = sym (is.expired filter s)
+  heard_by-recast filter false s = refl
 
   started-recast : (caller : Caller) (c : Change) (k : Knote h) → started caller c (re k) ≡ re (started caller c k)
   unfolding started
   started-recast caller c k =
-      ap (hearing (re (started caller c k))) (heard_by-recast (has_come caller.views.now (timing_in caller c)) k.seen)
+      ap (hearing (re (started caller c k))) (heard_by-recast k.key.filter (has_come caller.views.now (timing_in caller c)) k.seen)
 
   begun-recast : (filter : Filter) (caller : Caller) (c : Change) (k : Knote h) → begun filter caller c (re k) ≡ re (begun filter caller c k)
   unfolding begun
@@ -105,7 +107,7 @@ module _ {S T : Type 0} {h : Hearing S} {g : Hearing T} {f : S → T} (is : IsHe
   unfolding restarted
   restarted-recast Timer caller c k =
       let anew : Knote h = record k { seen = h.empty; active = false } in
-      ap (λ s. cond (asks c.flags add) (started caller c (record (re k) { seen = s; active = false })) (re k)) (sym is.empty)
+      ap (λ s. cond (asks c.flags add) (started caller c (record (re k) { seen = s; active = false })) (re k)) (sym (is.empty k.key.filter))
       ∙ ap (λ n. cond (asks c.flags add) n (re k)) (started-recast caller c anew)
       ∙ sym (cond-map re (asks c.flags add) (started caller c anew) k)
   restarted-recast _ caller c k = refl

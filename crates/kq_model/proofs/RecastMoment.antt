@@ -1,14 +1,20 @@
 -- Closes, hints and the clock commute with a change of how what was heard is kept.
-use Rattle.std.proofs.Common.{◌≡◌, ℕ, zero, suc, ◌+◌, ◌-◌, Bool, true, false, cond, not, ◌&&◌, ◌||◌, List, [], ◌∷◌, ◌++◌, map, filter, Option, Some, None, refl, sym, ap, ◌∙◌}
+use Rattle.std.proofs.Common.{◌≡◌, ℕ, zero, suc, ◌+◌, ◌-◌, Bool, true, false, cond, not, ◌&&◌, ◌||◌, List, [], ◌∷◌, ◌++◌, map, filter, Option, Some, None, eqb, refl, sym, ap, ◌∙◌, subst}
 use Rattle.std.proofs.lemmas.List.{map-append}
+use Rattle.std.proofs.lemmas.Bool.{true≢false}
+use Rattle.std.specs.Int.RustNames.{bit_and}
+use Rattle.std.specs.List.{list_any}
 use Rattle.std.specs.Option.{is_none, option_map}
+use Rattle.kq_model.specs.declared.filter.Filter.{Filter}
+use Rattle.kq_model.specs.declared.filter.Filter.TheVariants.{Read, Write, Vnode, Proc, Signal}
 use Rattle.kq_model.specs.declared.key.Key.{Key}
 use Rattle.kq_model.specs.declared.object.Hint.{Hint}
+use Rattle.kq_model.specs.declared.object.Hint.TheVariants.{Readable, Writable, Note, Delivered, Child}
 use Rattle.kq_model.specs.ChangedKnote.{activated}
 use Rattle.kq_model.specs.Clock.{Span, timers, expires_at, expired, waiting_of, kqueue_of_waiting, clock_from, clocked}
 use Rattle.kq_model.specs.Close.{Pair, is_closed, closed}
 use Rattle.kq_model.specs.Following.{Fork, process_key, follows, child_knote, heir, with_heir, heir_in, forks_in, followed_each, followed}
-use Rattle.kq_model.specs.Hearing.{Hearing, Expired, Told}
+use Rattle.kq_model.specs.Hearing.{Hearing}
 use Rattle.kq_model.specs.Hints.{takes, kept, is_exit, hints_for, added, after_hint, is_done, heard_by, hears_exit, unless_silent, noticed, if_there, knotes_noticing, queue_with, queue_noticing, queue_after_all, notified}
 use Rattle.kq_model.specs.Knote.{Knote, find_knote, has_nothing}
 use Rattle.kq_model.specs.Kqueue.{Kqueue}
@@ -18,10 +24,12 @@ use Rattle.kq_model.specs.Recast.{IsHearingMap, recast, recast_kqueue}
 use Rattle.kq_model.specs.Targets.{Posted}
 use Rattle.kq_model.specs.TimerWalk.{Waiting, rung_at, queue_at, moment_step, walked}
 use Rattle.kq_model.specs.Views.{Views}
+use Rattle.kq_model.proofs.HeardAlong.{AreTaken, taken-filter, added-filter, heard_by-key, after_hint-key, activated-key}
+use Rattle.kq_model.proofs.KnoteLaws.{by_test}
 use Rattle.kq_model.proofs.RecastKnote.{cond-map, filter-recast, find_knote-recast, activated-recast, look-recast}
 use Rattle.kq_model.proofs.RecastRegistration.{queue_for-recast}
 
-module _ {S T : Type 0} {h : Hearing S} {g : Hearing T} {f : S → T} (is : IsHearingMap h g f) where
+module _ {S T : Type 0} {h : Hearing S} {g : Hearing T} {f : Filter → S → T} (is : IsHearingMap h g f) where
   abbrev re : Knote h → Knote g
   re k = recast g f k
 
@@ -45,49 +53,105 @@ module _ {S T : Type 0} {h : Hearing S} {g : Hearing T} {f : S → T} (is : IsHe
   abbrev hearing : Knote g → T → Knote g
   hearing k s = record k { seen = s }
 
-  added-recast : (hint : Option Hint) (k : Knote h) → added hint (re k) ≡ re (added hint k)
-  unfolding added
-  added-recast None k = refl
-  added-recast (Some hint) k = ap (hearing (re k)) (sym (is.heard (Told hint) k.seen))
+  -- the filter takes what is kept of a hint
+  IfTaken : Filter → Option Hint → Type 0
+  IfTaken filter None = Unit {0}
+  IfTaken filter (Some hint) = takes filter hint ≡ true
+
+  takes-note : (filter : Filter) (bits other : ℕ) → takes filter (Note bits) ≡ takes filter (Note other)
+  unfolding takes
+  takes-note Vnode bits other = refl
+  takes-note Proc bits other = refl
+  takes-note Read bits other = refl
+  takes-note Write bits other = refl
+  takes-note Signal bits other = refl
+  takes-note _ bits other = refl
+
+  kept-taken : (filter : Filter) (wanted : ℕ) (hint : Hint) → takes filter hint ≡ true → IfTaken filter (kept wanted hint)
+  unfolding kept IfTaken
+  kept-taken filter wanted Readable taken = taken
+  kept-taken filter wanted Writable taken = taken
+  kept-taken filter wanted Delivered taken = taken
+  kept-taken filter wanted (Child pid) taken = tt
+  kept-taken filter wanted (Note bits) taken =
+      by_test (λ b. IfTaken filter (cond b None (Some (Note (bit_and bits wanted))))) (eqb (bit_and bits wanted) 0)
+      (λ _. tt) (λ _. takes-note filter (bit_and bits wanted) bits ∙ taken)
+
+  added-recast : (hint : Option Hint) (k : Knote h) → IfTaken k.key.filter hint → added hint (re k) ≡ re (added hint k)
+  unfolding added IfTaken
+  added-recast None k taken = refl
+  added-recast (Some hint) k taken = ap (hearing (re k)) (sym (is.told k.key.filter hint k.seen taken))
+
+  kept-recast : (hint : Hint) (k : Knote h) → takes k.key.filter hint ≡ true
+      → added (kept k.fflags hint) (re k) ≡ re (added (kept k.fflags hint) k)
+  kept-recast hint k taken = added-recast (kept k.fflags hint) k (kept-taken k.key.filter k.fflags hint taken)
 
   -- one hint alone
   pub after_hint-recast : (hint : Hint) (k : Knote h) → after_hint hint (re k) ≡ re (after_hint hint k)
   unfolding after_hint
   after_hint-recast hint k =
-      let oneshot = k.oneshot || is_exit k.key.filter hint in
-      ap (λ (n : Knote g). record (cond (takes k.key.filter hint) n (re k)) { oneshot = oneshot }) (added-recast (kept k.fflags hint) k)
-      ∙ ap (λ (n : Knote g). record n { oneshot = oneshot }) (sym (cond-map re (takes k.key.filter hint) (added (kept k.fflags hint) k) k))
+      ap (λ (n : Knote g). record n { oneshot = k.oneshot || is_exit k.key.filter hint })
+      (by_test (λ b. cond b (added (kept k.fflags hint) (re k)) (re k) ≡ re (cond b (added (kept k.fflags hint) k) k))
+      (takes k.key.filter hint) (kept-recast hint k) (λ _. refl))
+
+  -- a PROC knote has something to tell as before
+  nothing-recast : (k : Knote h) → k.key.filter ≡ Proc → has_nothing (re k) ≡ has_nothing k
+  nothing-recast k proc =
+      ap (λ b. is_none k.notice && b) (ap (λ filter. g.is_empty (f filter k.seen)) proc ∙ is.is_empty k.seen)
+
+  -- it alone hears of an exit
+  exit-proc : (filter : Filter) (hint : Hint) → is_exit filter hint ≡ true → filter ≡ Proc
+  unfolding is_exit
+  exit-proc Proc hint exits = refl
+  exit-proc _ hint exits = absurd (true≢false (sym exits))
+
+  exits-proc : (filter : Filter) (hints : List Hint) → list_any (is_exit filter) hints ≡ true → filter ≡ Proc
+  exits-proc filter [] exits = absurd (true≢false (sym exits))
+  exits-proc filter (hint ∷ hints) exits =
+      by_test (λ b. b || list_any (is_exit filter) hints ≡ true → filter ≡ Proc) (is_exit filter hint)
+      (λ here _. exit-proc filter hint here) (λ _ later. exits-proc filter hints later) exits
 
   pub is_done-recast : (hint : Hint) (k : Knote h) → is_done hint (re k) ≡ is_done hint k
   unfolding is_done
   is_done-recast hint k =
       let heard = after_hint hint k in
       ap (λ n. is_exit k.key.filter hint && has_nothing n) (after_hint-recast hint k)
-      ∙ ap (λ b. is_exit k.key.filter hint && (is_none heard.notice && b)) (is.is_empty heard.seen)
+      ∙ by_test (λ b. b && has_nothing (re heard) ≡ b && has_nothing heard) (is_exit k.key.filter hint)
+      (λ exits. nothing-recast heard (ap (λ (key : Key). key.filter) (after_hint-key hint k) ∙ exit-proc k.key.filter hint exits))
+      (λ _. refl)
 
-  heard_by-recast : (hints : List Hint) (k : Knote h) → heard_by hints (re k) ≡ re (heard_by hints k)
+  heard_by-recast : (hints : List Hint) (k : Knote h) → AreTaken k.key.filter hints → heard_by hints (re k) ≡ re (heard_by hints k)
   unfolding heard_by
-  heard_by-recast [] k = refl
-  heard_by-recast (hint ∷ hints) k =
-      ap (heard_by hints) (added-recast (kept k.fflags hint) k) ∙ heard_by-recast hints (added (kept k.fflags hint) k)
+  heard_by-recast [] k taken = refl
+  heard_by-recast (hint ∷ hints) k taken =
+      let same = added-filter (kept k.fflags hint) k in
+      ap (heard_by hints) (kept-recast hint k taken.0)
+      ∙ heard_by-recast hints (added (kept k.fflags hint) k) (subst (λ (filter : Filter). AreTaken filter hints) (sym same) taken.1)
 
-  unless_silent-recast : (exits : Bool) (k : Knote h) → unless_silent exits (re k) ≡ option_map re (unless_silent exits k)
+  unless_silent-recast : (exits : Bool) (k : Knote h) → (exits ≡ true → k.key.filter ≡ Proc) → unless_silent exits (re k) ≡ option_map re (unless_silent exits k)
   unfolding unless_silent
-  unless_silent-recast false k = refl
-  unless_silent-recast true k =
-      ap (λ b. cond (is_none k.notice && b) None (Some (re (record k { oneshot = true })))) (is.is_empty k.seen)
+  unless_silent-recast false k proc = refl
+  unless_silent-recast true k proc =
+      ap (λ b. cond b None (Some (re (record k { oneshot = true })))) (nothing-recast k (proc refl))
       ∙ sym (cond-map (option_map re) (has_nothing k) None (Some (record k { oneshot = true })))
 
-  noticed-recast : (views : Views) (hints : List Hint) (k : Knote h) → noticed views hints (re k) ≡ option_map re (noticed views hints k)
+  noticed-recast : (views : Views) (hints : List Hint) (k : Knote h) → AreTaken k.key.filter hints → noticed views hints (re k) ≡ option_map re (noticed views hints k)
   unfolding noticed
-  noticed-recast views [] k = refl
-  noticed-recast views (hint ∷ hints) k =
+  noticed-recast views [] k taken = refl
+  noticed-recast views (hint ∷ hints) k taken =
       let all = hint ∷ hints in
       let heard = heard_by all k in
-      ap (λ n. unless_silent (hears_exit all k) (activated (look views n) n)) (heard_by-recast all k)
-      ∙ ap (λ seen. unless_silent (hears_exit all k) (activated seen (re heard))) (look-recast is views heard)
-      ∙ ap (unless_silent (hears_exit all k)) (activated-recast is (look views heard) heard)
-      ∙ unless_silent-recast (hears_exit all k) (activated (look views heard) heard)
+      let exits = hears_exit all k in
+      let same : (activated (look views heard) heard).key.filter ≡ k.key.filter = ap (λ (key : Key). key.filter) (activated-key (look views heard) heard ∙ heard_by-key all k) in
+      ap (λ n. unless_silent exits (activated (look views n) n)) (heard_by-recast all k taken)
+      ∙ ap (λ seen. unless_silent exits (activated seen (re heard))) (look-recast is views heard)
+      ∙ ap (unless_silent exits) (activated-recast is (look views heard) heard)
+      ∙ unless_silent-recast exits (activated (look views heard) heard) (λ e. same ∙ exits-proc k.key.filter all e)
+
+  -- the hints for a knote are those that its filter takes
+  pub told-recast : (views : Views) (posted : List Posted) (k : Knote h)
+      → noticed views (hints_for k posted) (re k) ≡ option_map re (noticed views (hints_for k posted) k)
+  told-recast views posted k = noticed-recast views (hints_for k posted) k (taken-filter k.key.filter _)
 
   if_there-recast : (found : Option (Knote h)) → if_there (option_map re found) ≡ map re (if_there found)
   unfolding if_there
@@ -99,7 +163,7 @@ module _ {S T : Type 0} {h : Hearing S} {g : Hearing T} {f : S → T} (is : IsHe
   knotes_noticing-recast views posted [] = refl
   knotes_noticing-recast views posted (k ∷ ks) =
       let found = noticed views (hints_for k posted) k in
-      ap (λ n. if_there n ++ knotes_noticing views posted (map re ks)) (noticed-recast views (hints_for k posted) k)
+      ap (λ n. if_there n ++ knotes_noticing views posted (map re ks)) (told-recast views posted k)
       ∙ ap (λ n. n ++ knotes_noticing views posted (map re ks)) (if_there-recast found)
       ∙ ap (λ rest. map re (if_there found) ++ rest) (knotes_noticing-recast views posted ks)
       ∙ sym (map-append re (if_there found) (knotes_noticing views posted ks))
@@ -109,18 +173,20 @@ module _ {S T : Type 0} {h : Hearing S} {g : Hearing T} {f : S → T} (is : IsHe
   queue_with-recast key None queue = refl
   queue_with-recast key (Some k) queue = queue_for-recast is k queue
 
-  queue_noticing-recast : (views : Views) (hints : List Hint) (k : Knote h) (queue : List Key) → queue_noticing views hints (re k) queue ≡ queue_noticing views hints k queue
+  queue_noticing-recast : (views : Views) (hints : List Hint) (k : Knote h) (queue : List Key) → AreTaken k.key.filter hints
+      → queue_noticing views hints (re k) queue ≡ queue_noticing views hints k queue
   unfolding queue_noticing
-  queue_noticing-recast views [] k queue = refl
-  queue_noticing-recast views (hint ∷ hints) k queue =
-      ap (λ n. queue_with k.key n queue) (noticed-recast views (hint ∷ hints) k)
+  queue_noticing-recast views [] k queue taken = refl
+  queue_noticing-recast views (hint ∷ hints) k queue taken =
+      ap (λ n. queue_with k.key n queue) (noticed-recast views (hint ∷ hints) k taken)
       ∙ queue_with-recast k.key (noticed views (hint ∷ hints) k) queue
 
   queue_after_all-recast : (views : Views) (posted : List Posted) (ks : List (Knote h)) (queue : List Key) → queue_after_all views posted (map re ks) queue ≡ queue_after_all views posted ks queue
   unfolding queue_after_all
   queue_after_all-recast views posted [] queue = refl
   queue_after_all-recast views posted (k ∷ ks) queue =
-      ap (queue_after_all views posted (map re ks)) (queue_noticing-recast views (hints_for k posted) k queue)
+      ap (queue_after_all views posted (map re ks))
+      (queue_noticing-recast views (hints_for k posted) k queue (taken-filter k.key.filter _))
       ∙ queue_after_all-recast views posted ks (queue_noticing views (hints_for k posted) k queue)
 
   pub notified-recast : (views : Views) (posted : List Posted) (kq : Kqueue h) → notified views posted (re_kq kq) ≡ re_kq (notified views posted kq)
@@ -132,7 +198,7 @@ module _ {S T : Type 0} {h : Hearing S} {g : Hearing T} {f : S → T} (is : IsHe
   -- ---- children
 
   child_knote-recast : (f : Fork) (k : Knote h) → child_knote f (re k) ≡ re (child_knote f k)
-  child_knote-recast f k = ap (hearing (child_knote f (re k))) (sym is.empty)
+  child_knote-recast f k = ap (hearing (child_knote f (re k))) (sym (is.empty Proc))
 
   heir-recast : (f : Fork) (parent present : Option (Knote h)) → heir f (option_map re parent) (option_map re present) ≡ option_map re (heir f parent present)
   unfolding heir
@@ -169,7 +235,7 @@ module _ {S T : Type 0} {h : Hearing S} {g : Hearing T} {f : S → T} (is : IsHe
   -- ---- the clock
 
   expired-recast : (k : Knote h) → expired (re k) ≡ re (expired k)
-  expired-recast k = ap (hearing (record (re k) { active = true })) (sym (is.heard Expired k.seen))
+  expired-recast k = ap (hearing (record (re k) { active = true })) (sym (is.expired k.key.filter k.seen))
 
   rung_at-recast : (moment : ℕ) (ks : List (Knote h)) → map (rung_at timers moment) (map re ks) ≡ map re (map (rung_at timers moment) ks)
   rung_at-recast moment [] = refl

@@ -5,6 +5,7 @@ use Rattle.std.specs.Option.{option_map}
 use Rattle.kq_model.specs.declared.change.Change.{Change}
 use Rattle.kq_model.specs.declared.errno.Errno.{Errno}
 use Rattle.kq_model.specs.declared.errno.Errno.TheVariants.{ENOENT, EBADF, EINVAL}
+use Rattle.kq_model.specs.declared.filter.Filter.{Filter}
 use Rattle.kq_model.specs.declared.key.Key.{Key}
 use Rattle.kq_model.specs.Bits.{asks, add, delete}
 use Rattle.kq_model.specs.Caller.{Caller}
@@ -17,7 +18,7 @@ use Rattle.kq_model.specs.Refusals.{is_malformed, is_unopened, own_refusal}
 use Rattle.kq_model.specs.Registration.{Decision, Refuse, Remove, Make, Modify, Registered, unless_refused, decided, decision, queue_for, with_made, with_removed, with_modified, without_restarted, carried_out, register}
 use Rattle.kq_model.proofs.RecastKnote.{cond-map, find_knote-recast, with_knote-recast, without_knote-recast, made-recast, modified-recast}
 
-module _ {S T : Type 0} {h : Hearing S} {g : Hearing T} {f : S → T} (is : IsHearingMap h g f) where
+module _ {S T : Type 0} {h : Hearing S} {g : Hearing T} {f : Filter → S → T} (is : IsHearingMap h g f) where
   abbrev re : Knote h → Knote g
   re k = recast g f k
 

@@ -1,6 +1,7 @@
 -- A retrieval commutes with a change of how what was heard is kept, and gives the same events.
 use Rattle.std.proofs.Common.{◌≡◌, ℕ, zero, suc, false, cond, ◌||◌, List, [], ◌∷◌, ◌++◌, map, Option, Some, None, refl, sym, ap, ◌∙◌}
 use Rattle.std.specs.Option.{option_map}
+use Rattle.kq_model.specs.declared.filter.Filter.{Filter}
 use Rattle.kq_model.specs.declared.kevent.Kevent.{Kevent}
 use Rattle.kq_model.specs.declared.key.Key.{Key}
 use Rattle.kq_model.specs.Hearing.{Hearing}
@@ -12,7 +13,7 @@ use Rattle.kq_model.specs.Retrieval.{Retrieved, Turned, event_flags, event_of, r
 use Rattle.kq_model.specs.Views.{Views}
 use Rattle.kq_model.proofs.RecastKnote.{cond-map, find_knote-recast, with_knote-recast, without_knote-recast, look-recast}
 
-module _ {S T : Type 0} {h : Hearing S} {g : Hearing T} {f : S → T} (is : IsHearingMap h g f) where
+module _ {S T : Type 0} {h : Hearing S} {g : Hearing T} {f : Filter → S → T} (is : IsHearingMap h g f) where
   abbrev re : Knote h → Knote g
   re k = recast g f k
 
@@ -39,7 +40,7 @@ module _ {S T : Type 0} {h : Hearing S} {g : Hearing T} {f : S → T} (is : IsHe
   reset-recast : (k : Knote h) → reset (re k) ≡ re (reset k)
   unfolding reset
   reset-recast k =
-      ap (λ s. cond k.clear (record (re k) { seen = s; triggered = false }) (re k)) (sym is.empty)
+      ap (λ s. cond k.clear (record (re k) { seen = s; triggered = false }) (re k)) (sym (is.empty k.key.filter))
       ∙ sym (cond-map re k.clear (record k { seen = h.empty; triggered = false }) k)
 
   abbrev resting : Knote g → Knote g → Knote g

@@ -1,6 +1,7 @@
 -- The fold of a trace gives the same rows, however what was heard and the objects are kept.
 use Rattle.std.proofs.Common.{◌≡◌, ℕ, ◌+◌, cond, not, eqb, List, [], ◌∷◌, ◌++◌, map, filter, Option, Some, None, refl, sym, ap, ◌∙◌}
 use Rattle.std.proofs.lemmas.List.{map-append}
+use Rattle.kq_model.specs.declared.filter.Filter.{Filter}
 use Rattle.kq_model.specs.declared.event.Event.{Event}
 use Rattle.kq_model.specs.declared.reply.Reply.{Reply}
 use Rattle.kq_model.specs.Call.{Called, call}
@@ -24,7 +25,7 @@ use Rattle.kq_model.proofs.RecastTally.{tally_of-map}
 use Rattle.kq_model.proofs.CountedObjects.{CountsAll, listed-counts}
 use Rattle.kq_model.proofs.SeenWorld.{seen-again, seen-carried_out, moment-seen}
 
-module _ {S T : Type 0} {h : Hearing S} {g : Hearing T} {f : S → T} (is : IsHearingMap h g f) where
+module _ {S T : Type 0} {h : Hearing S} {g : Hearing T} {f : Filter → S → T} (is : IsHearingMap h g f) where
   abbrev re_kq : Kqueue h → Kqueue g
   re_kq kq = recast_kqueue g f kq
 
@@ -102,7 +103,7 @@ module _ {S T : Type 0} {h : Hearing S} {g : Hearing T} {f : S → T} (is : IsHe
 
 -- ---- steps
 
-module _ {S T A B C D : Type 0} {h : Hearing S} {g : Hearing T} {f : S → T} {k : Keeping A B C D} (is : IsHearingMap h g f) (counts : CountsAll k) where
+module _ {S T A B C D : Type 0} {h : Hearing S} {g : Hearing T} {f : Filter → S → T} {k : Keeping A B C D} (is : IsHearingMap h g f) (counts : CountsAll k) where
   abbrev re_system : System h k → System g counted
   re_system s = recast_system g f s
 

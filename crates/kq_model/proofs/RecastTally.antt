@@ -1,14 +1,18 @@
 -- A tally keeps of a list all that the definitions ask for.
-use Rattle.std.proofs.Common.{◌≡◌, ℕ, suc, ◌+◌, min, Bool, true, false, cond, not, ◌&&◌, ◌||◌, List, [], ◌∷◌, ◌++◌, filter, length, eqb, refl, ap, ◌∙◌, arith}
+use Rattle.std.proofs.Common.{◌≡◌, ℕ, suc, ◌+◌, min, Bool, true, false, cond, not, ◌&&◌, ◌||◌, List, [], ◌∷◌, ◌++◌, filter, length, eqb, refl, sym, ap, ◌∙◌, arith}
 use Rattle.std.proofs.lemmas.List.{length-append}
 use Rattle.std.proofs.lemmas.List.Elements.{filter-append}
 use Rattle.std.proofs.lemmas.List.Folds.{list_any-append}
 use Rattle.std.proofs.lemmas.List.Sums.{fold-append}
-use Rattle.std.proofs.lemmas.Bool.{and_right, or_right, ne_eqb}
+use Rattle.std.proofs.lemmas.Bool.{true≢false, and_right, ne_eqb}
 use Rattle.std.specs.Int.RustNames.{bit_or}
-use Rattle.std.specs.List.{list_any}
-use Rattle.kq_model.specs.Hearing.{Occurrence, Tally, listed, tallying, notes_of, is_counted, is_telling, counted_in, has_telling, is_silence, union, most_counted}
-use Rattle.kq_model.specs.Recast.{IsHearingMap, tally_of}
+use Rattle.kq_model.specs.declared.filter.Filter.{Filter}
+use Rattle.kq_model.specs.declared.filter.Filter.TheVariants.{Read, Write, Vnode, Proc, Signal}
+use Rattle.kq_model.specs.declared.object.Hint.{Hint}
+use Rattle.kq_model.specs.declared.object.Hint.TheVariants.{Readable, Writable, Note, Delivered}
+use Rattle.kq_model.specs.Hearing.{Occurrence, Told, Expired, Tally, listed, tallying, notes_of, is_counted, is_telling, counted_in, is_none_of, union, most_counted}
+use Rattle.kq_model.specs.Hints.{takes}
+use Rattle.kq_model.specs.Recast.{IsHearingMap, only_looks, has_other, tally_of}
 use Rattle.kq_model.proofs.KnoteLaws.{by_test}
 
 abbrev tally : ℕ → ℕ → Bool → Tally
@@ -34,41 +38,58 @@ counted-once n = omega arith
 union-more : (xs : List Occurrence) (x : Occurrence) → union (xs ++ x ∷ []) ≡ bit_or (union xs) (notes_of x)
 union-more xs x = fold-append (λ bits y. bit_or bits (notes_of y)) 0 xs (x ∷ [])
 
-told-more : (xs : List Occurrence) (x : Occurrence) → has_telling (xs ++ x ∷ []) ≡ is_telling x || has_telling xs
-told-more xs x =
-    list_any-append is_telling xs (x ∷ [])
-    ∙ by_test (λ b. has_telling xs || (b || false) ≡ b || has_telling xs) (is_telling x)
-    (λ _. or_right (has_telling xs) true refl) (λ _. or_false (has_telling xs))
+-- of what knotes other than READ and WRITE hear, what is not counted is kept as heard
+told-more : (looks : Bool) (xs : List Occurrence) (x : Occurrence) → not (is_counted x) && not looks ≡ is_telling x
+    → has_other (xs ++ x ∷ []) && not looks ≡ is_telling x || (has_other xs && not looks)
+told-more looks xs x kept =
+    ap (λ b. b && not looks) (list_any-append (λ y. not (is_counted y)) xs (x ∷ []))
+    ∙ either (has_other xs) (not (is_counted x)) (not looks)
+    ∙ ap (λ b. b || (has_other xs && not looks)) kept
   where
-    or_false : (b : Bool) → b || false ≡ b
-    or_false true = refl
-    or_false false = refl
+    either : (a b c : Bool) → (a || (b || false)) && c ≡ (b && c) || (a && c)
+    either true true true = refl
+    either true true false = refl
+    either true false c = refl
+    either false true true = refl
+    either false true false = refl
+    either false false c = refl
 
-heard-more : (x : Occurrence) (xs : List Occurrence) → tally_of (listed.heard x xs) ≡ tallying.heard x (tally_of xs)
-heard-more x xs =
+heard-more : (filter : Filter) (x : Occurrence) (xs : List Occurrence) → not (is_counted x) && not (only_looks filter) ≡ is_telling x
+    → tally_of filter (listed.heard x xs) ≡ tallying.heard x (tally_of filter xs)
+heard-more filter x xs kept =
     let more = xs ++ x ∷ [] in
     let count = count_with (is_counted x) (min (counted_in xs) most_counted) in
-    ap (λ n. tally n (union more) (has_telling more)) (count-more xs x)
-    ∙ ap (λ n. tally count n (has_telling more)) (union-more xs x)
-    ∙ ap (tally count (bit_or (union xs) (notes_of x))) (told-more xs x)
+    let told = has_other more && not (only_looks filter) in
+    ap (λ n. tally n (union more) told) (count-more xs x)
+    ∙ ap (λ n. tally count n told) (union-more xs x)
+    ∙ ap (tally count (bit_or (union xs) (notes_of x))) (told-more (only_looks filter) xs x kept)
 
-counts_none : (xs : List Occurrence) → eqb (min (counted_in xs) most_counted) 0 && not (has_telling xs) ≡ is_silence xs
+-- READ and WRITE hear Readable and Writable, of which nothing is kept, and no other filter hears these
+kept-told : (filter : Filter) (hint : Hint) → takes filter hint ≡ true
+    → not (is_counted (Told hint)) && not (only_looks filter) ≡ is_telling (Told hint)
+unfolding takes
+kept-told Read Readable taken = refl
+kept-told Write Writable taken = refl
+kept-told Vnode (Note bits) taken = refl
+kept-told Proc (Note bits) taken = refl
+kept-told Signal Delivered taken = refl
+kept-told _ _ taken = absurd (true≢false (sym taken))
+
+counts_none : (xs : List Occurrence) → eqb (min (counted_in xs) most_counted) 0 && not (has_other xs && true) ≡ is_none_of xs
 counts_none [] = refl
 counts_none (x ∷ xs) =
     let of = filter is_counted xs in
-    by_test (λ b. eqb (min (length (cond b (x ∷ of) of)) most_counted) 0 && not (is_telling x || has_telling xs)
-    ≡ not ((b || is_telling x) || list_any (λ y. is_counted y || is_telling y) xs)) (is_counted x)
-    (λ _. ap (λ b. b && not (is_telling x || has_telling xs)) (ne_eqb (min (suc (length of)) most_counted) 0 (λ e. omega arith)))
-    (λ _. by_test (λ b. eqb (min (length of) most_counted) 0 && not (b || has_telling xs)
-    ≡ not (b || list_any (λ y. is_counted y || is_telling y) xs)) (is_telling x)
+    by_test (λ b. eqb (min (length (cond b (x ∷ of) of)) most_counted) 0 && not ((not b || has_other xs) && true) ≡ false) (is_counted x)
+    (λ _. ap (λ b. b && not (has_other xs && true)) (ne_eqb (min (suc (length of)) most_counted) 0 (λ e. omega arith)))
     (λ _. and_right (eqb (min (length of) most_counted) 0) false refl)
-    (λ _. counts_none xs))
 
 pub tally_of-map : IsHearingMap listed tallying tally_of
 tally_of-map = record {
-  empty = refl;
-  heard = heard-more;
-  count = λ xs. counted-once (counted_in xs);
-  notes = λ xs. refl;
+  empty = λ filter. refl;
+  told = λ filter hint xs taken. heard-more filter (Told hint) xs (kept-told filter hint taken);
+  expired = λ filter xs. heard-more filter Expired xs refl;
+  deliveries = λ xs. counted-once (counted_in xs);
+  expirations = λ xs. counted-once (counted_in xs);
+  notes = λ filter xs. refl;
   is_empty = counts_none;
 }

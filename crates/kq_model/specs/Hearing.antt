@@ -4,7 +4,7 @@
 use Rattle.std.specs.Prelude.{ℕ, ◌+◌, ◌==◌, Bool, true, false, not, ◌&&◌, ◌||◌, List, []}
 use Rattle.std.specs.Prelude.{◌∷◌, ◌++◌, filter, length}
 use Rattle.std.specs.Prelude.{min, if◌then◌else◌}
-use Rattle.std.specs.List.{fold, list_any}
+use Rattle.std.specs.List.{fold}
 use Rattle.std.specs.Int.RustNames.{bit_or}
 use Rattle.kq_model.specs.declared.object.Hint.{Hint}
 use Rattle.kq_model.specs.declared.object.Hint.TheVariants.{Readable, Writable, Note, Delivered, Child}
@@ -32,16 +32,6 @@ is_counted (Told (Note bits)) = false
 is_counted (Told (Child pid)) = false
 is_counted Expired = true
 
--- Of what is not counted, it matters that it was heard. But Readable and Writable tell nothing: what READ and WRITE
--- return is what a look sees.
-abbrev pub is_telling : Occurrence → Bool
-is_telling (Told Delivered) = false
-is_telling (Told Readable) = false
-is_telling (Told Writable) = false
-is_telling (Told (Note bits)) = true
-is_telling (Told (Child pid)) = true
-is_telling Expired = false
-
 -- how often something is counted at most: 2^63 - 1, the greatest data of a kevent
 abbrev pub most_counted : ℕ
 most_counted = 9223372036854775807
@@ -56,7 +46,7 @@ pub record Hearing (S : Type 0) : Type 0 where
   pub count : S → ℕ
   -- the union of their notes
   pub notes : S → ℕ
-  -- nothing was heard but what tells nothing
+  -- nothing was heard
   pub is_empty : S → Bool
 
 -- ---- as a list, the latest last
@@ -68,13 +58,9 @@ union xs = fold (λ bits x. bit_or bits (notes_of x)) 0 xs
 abbrev pub counted_in : List Occurrence → ℕ
 counted_in xs = length (filter is_counted xs)
 
--- one of them tells something and is not counted
-abbrev pub has_telling : List Occurrence → Bool
-has_telling xs = list_any is_telling xs
-
--- none of them tells anything
-abbrev pub is_silence : List Occurrence → Bool
-is_silence xs = not (list_any (λ x. is_counted x || is_telling x) xs)
+abbrev pub is_none_of : List Occurrence → Bool
+is_none_of [] = true
+is_none_of (x ∷ xs) = false
 
 abbrev pub listed : Hearing (List Occurrence)
 listed = record {
@@ -82,15 +68,25 @@ listed = record {
   heard = λ x xs. xs ++ x ∷ [];
   count = λ xs. min (counted_in xs) most_counted;
   notes = union;
-  is_empty = is_silence;
+  is_empty = is_none_of;
 }
 
 -- ---- as a tally
 
+-- What is not counted and is kept as heard: a note and a child. READ and WRITE alone hear Readable and Writable, and
+-- what they return is what a look sees.
+abbrev pub is_telling : Occurrence → Bool
+is_telling (Told Delivered) = false
+is_telling (Told Readable) = false
+is_telling (Told Writable) = false
+is_telling (Told (Note bits)) = true
+is_telling (Told (Child pid)) = true
+is_telling Expired = false
+
 pub record Tally : Type 0 where
   pub count : ℕ
   pub notes : ℕ
-  -- something was heard that tells something and is not counted
+  -- a note or a child was heard
   pub told : Bool
 
 abbrev pub tallying : Hearing Tally

@@ -90,7 +90,7 @@ pub record Knote {S : Type 0} (h : Hearing S) : Type 0 where
   pub notice : Option ℕ
 
 module _ {S : Type 0} {h : Hearing S} where
-  -- there is nothing that it has to tell: it has no notice, and heard nothing that tells anything
+  -- there is nothing that it has to tell: it has no notice, and heard nothing
   abbrev pub has_nothing : Knote h → Bool
   has_nothing k = is_none k.notice && h.is_empty k.seen
 

@@ -1,10 +1,16 @@
 -- What was heard may be kept in more than one way. A map from one way to another that keeps all that the
--- definitions ask of it takes knotes and kqueues of the one way to those of the other, and systems too.
-use Rattle.std.specs.Prelude.{◌≡◌, List, map, min}
+-- definitions ask of a knote, by its filter, takes knotes and kqueues of the one way to those of the other, and systems
+-- too.
+use Rattle.std.specs.Prelude.{◌≡◌, Bool, true, false, not, ◌&&◌, List, map, min}
+use Rattle.std.specs.List.{list_any}
+use Rattle.kq_model.specs.declared.filter.Filter.{Filter}
+use Rattle.kq_model.specs.declared.filter.Filter.TheVariants.{Read, Write, Proc, Signal, Timer}
+use Rattle.kq_model.specs.declared.object.Hint.{Hint}
 use Rattle.kq_model.specs.declared.reply.Reply.{Reply}
 use Rattle.kq_model.specs.Call.{Called}
-use Rattle.kq_model.specs.Hearing.{Hearing, Occurrence, Tally, listed, tallying, counted_in, has_telling, union}
-use Rattle.kq_model.specs.Hearing.{most_counted}
+use Rattle.kq_model.specs.Hearing.{Hearing, Occurrence, Told, Expired, Tally, listed, tallying, is_counted, counted_in}
+use Rattle.kq_model.specs.Hearing.{union, most_counted}
+use Rattle.kq_model.specs.Hints.{takes}
 use Rattle.kq_model.specs.Knote.{Knote}
 use Rattle.kq_model.specs.Kqueue.{Kqueue}
 use Rattle.kq_model.specs.Objects as objects
@@ -12,14 +18,19 @@ use Rattle.kq_model.specs.Objects.{Keeping, counted}
 use Rattle.kq_model.specs.System.{Live, Stepped, System}
 use Rattle.kq_model.specs.World.{seen_world}
 
-pub record IsHearingMap {S T : Type 0} (h : Hearing S) (g : Hearing T) (f : S → T) : Type 0 where
-  pub empty : f h.empty ≡ g.empty
-  pub heard : (x : Occurrence) (s : S) → f (h.heard x s) ≡ g.heard x (f s)
-  pub count : (s : S) → g.count (f s) ≡ h.count s
-  pub notes : (s : S) → g.notes (f s) ≡ h.notes s
-  pub is_empty : (s : S) → g.is_empty (f s) ≡ h.is_empty s
+pub record IsHearingMap {S T : Type 0} (h : Hearing S) (g : Hearing T) (f : Filter → S → T) : Type 0 where
+  pub empty : (filter : Filter) → f filter h.empty ≡ g.empty
+  -- a knote hears those hints alone that its filter takes
+  pub told : (filter : Filter) (hint : Hint) (s : S) → takes filter hint ≡ true
+      → f filter (h.heard (Told hint) s) ≡ g.heard (Told hint) (f filter s)
+  pub expired : (filter : Filter) (s : S) → f filter (h.heard Expired s) ≡ g.heard Expired (f filter s)
+  -- SIGNAL and TIMER alone are asked how many, and PROC alone whether it heard nothing
+  pub deliveries : (s : S) → g.count (f Signal s) ≡ h.count s
+  pub expirations : (s : S) → g.count (f Timer s) ≡ h.count s
+  pub notes : (filter : Filter) (s : S) → g.notes (f filter s) ≡ h.notes s
+  pub is_empty : (s : S) → g.is_empty (f Proc s) ≡ h.is_empty s
 
-module _ {S T : Type 0} {h : Hearing S} (g : Hearing T) (f : S → T) where
+module _ {S T : Type 0} {h : Hearing S} (g : Hearing T) (f : Filter → S → T) where
   abbrev pub recast : Knote h → Knote g
   recast k = record {
     key = k.key;
@@ -32,7 +43,7 @@ module _ {S T : Type 0} {h : Hearing S} (g : Hearing T) (f : S → T) where
     dispatch = k.dispatch;
     enabled = k.enabled;
     active = k.active;
-    seen = f k.seen;
+    seen = f k.key.filter k.seen;
     start = k.start;
     period = k.period;
     bits = k.bits;
@@ -52,8 +63,23 @@ module _ {S T : Type 0} {h : Hearing S} (g : Hearing T) (f : S → T) where
 
 -- ---- from lists to tallies
 
-abbrev pub tally_of : List Occurrence → Tally
-tally_of xs = record { count = min (counted_in xs) most_counted; notes = union xs; told = has_telling xs }
+-- READ and WRITE return what a look sees: of the hints that they hear no tally keeps anything
+abbrev pub only_looks : Filter → Bool
+only_looks Read = true
+only_looks Write = true
+only_looks _ = false
+
+-- one of them is not counted
+abbrev pub has_other : List Occurrence → Bool
+has_other xs = list_any (λ x. not (is_counted x)) xs
+
+-- the tally of a knote of this filter that heard these
+abbrev pub tally_of : Filter → List Occurrence → Tally
+tally_of filter xs = record {
+  count = min (counted_in xs) most_counted;
+  notes = union xs;
+  told = has_other xs && not (only_looks filter);
+}
 
 abbrev pub tallied_knote : Knote listed → Knote tallying
 tallied_knote k = recast tallying tally_of k

@@ -2,6 +2,7 @@
 -- where they are counted.
 use Rattle.std.proofs.Common.{◌≡◌, ℕ, ◌+◌, List, [], ◌∷◌, ◌++◌, refl, sym, ap, ◌∙◌}
 use Rattle.kq_model.specs.declared.event.Event.{Event}
+use Rattle.kq_model.specs.declared.filter.Filter.{Filter}
 use Rattle.kq_model.specs.Hearing.{Hearing, listed, tallying}
 use Rattle.kq_model.specs.Moments.{plans_from}
 use Rattle.kq_model.specs.Objects as objects
@@ -33,7 +34,7 @@ module _ {S A B C D : Type 0} {h : Hearing S} {k : Keeping A B C D} where
       ap (λ w. owned_in place (step_by place q s) ++ owned_rows (place + 1) (step_by place q s).system (plans_from (place + 1) w es))
       (sym (step-world place q s))
 
-module _ {S T A B C D : Type 0} {h : Hearing S} {g : Hearing T} {f : S → T} {k : Keeping A B C D} (is : IsHearingMap h g f) (counts : CountsAll k) where
+module _ {S T A B C D : Type 0} {h : Hearing S} {g : Hearing T} {f : Filter → S → T} {k : Keeping A B C D} (is : IsHearingMap h g f) (counts : CountsAll k) where
   abbrev re_system : System h k → System g counted
   re_system s = recast_system g f s
 
@@ -47,8 +48,16 @@ module _ {S T A B C D : Type 0} {h : Hearing S} {g : Hearing T} {f : S → T} {k
       ∙ sym (step-owned place s e es)
 
 -- a tally is taken as it is
-same-map : IsHearingMap tallying tallying (λ tally. tally)
-same-map = record { empty = refl; heard = λ x tally. refl; count = λ tally. refl; notes = λ tally. refl; is_empty = λ tally. refl }
+same-map : IsHearingMap tallying tallying (λ filter tally. tally)
+same-map = record {
+  empty = λ filter. refl;
+  told = λ filter hint tally taken. refl;
+  expired = λ filter tally. refl;
+  deliveries = λ tally. refl;
+  expirations = λ tally. refl;
+  notes = λ filter tally. refl;
+  is_empty = λ tally. refl;
+}
 
 -- where objects are kept as lists, what knotes heard may be kept as lists or counted
 pub folded-tallied : (version : ℕ) (es : List Event) → folded objects.listed version listed es ≡ folded objects.listed version tallying es
