@@ -109,6 +109,7 @@ pub mod SilentPlans
 pub mod BornFirst
 pub mod Following
 pub mod Quiet
+pub mod VersionOneHearing
 pub mod VersionOneChanges
 pub mod VersionOneKqueues
 pub mod VersionOne

@@ -1,8 +1,8 @@
 -- The fold of a trace gives the same rows, however what was heard and the objects are kept.
 use Rattle.std.proofs.Common.{◌≡◌, ℕ, ◌+◌, cond, not, eqb, List, [], ◌∷◌, ◌++◌, map, filter, Option, Some, None, refl, sym, ap, ◌∙◌}
 use Rattle.std.proofs.lemmas.List.{map-append}
-use Rattle.kq_model.specs.declared.filter.Filter.{Filter}
 use Rattle.kq_model.specs.declared.event.Event.{Event}
+use Rattle.kq_model.specs.declared.filter.Filter.{Filter}
 use Rattle.kq_model.specs.declared.reply.Reply.{Reply}
 use Rattle.kq_model.specs.Call.{Called, call}
 use Rattle.kq_model.specs.Clock.{clocked}
@@ -13,7 +13,7 @@ use Rattle.kq_model.specs.Hints.{notified}
 use Rattle.kq_model.specs.Kqueue.{Kqueue}
 use Rattle.kq_model.specs.Moment.{Moment, moment_of, caller_at, happened, called_at, after_call, kqueue_step}
 use Rattle.kq_model.specs.Recast.{IsHearingMap, recast_kqueue, recast_live, recast_system, tallied_system, IsTalliedStep}
-use Rattle.kq_model.specs.System.{Live, System, Stepped, empty_system, stepped, lived, born, answer, reply_to, kqueue_of, step_by, step, row_of, rows_after, rows_by, rows}
+use Rattle.kq_model.specs.System.{Live, System, Stepped, empty_system, stepped, lived, born, answer, reply_to, kqueue_of, step_by, step, row_of, rows_after, rows_by, rows, system_after}
 use Rattle.kq_model.specs.Objects as objects
 use Rattle.kq_model.specs.Objects.{Keeping, counted}
 use Rattle.kq_model.specs.Plans.{plan}
@@ -134,6 +134,13 @@ module _ {S T A B C D : Type 0} {h : Hearing S} {g : Hearing T} {f : Filter → 
   step-recast place e s =
       ap (λ w. step_by place (plan place e w) (re_system s)) (seen-again counts s.world)
       ∙ step_by-recast place (plan place e (seen_world s.world)) s
+
+  pub system_after-recast : (place : ℕ) (s : System h k) (es : List Event) → system_after place (re_system s) es ≡ re_system (system_after place s es)
+  unfolding system_after
+  system_after-recast place s [] = refl
+  system_after-recast place s (e ∷ es) =
+      ap (λ (t : Stepped g counted). system_after (place + 1) t.system es) (step-recast place e s)
+      ∙ system_after-recast (place + 1) (step place e s).system es
 
   rows_after-recast : (place : ℕ) (s : System h k) (es : List Event) → rows_after place (re_system s) es ≡ rows_after place s es
   unfolding rows_after

@@ -19,20 +19,24 @@ abbrev tally : ℕ → ℕ → Bool → Tally
 tally count notes told = record { count = count; notes = notes; told = told }
 
 -- as many, and one more where that is counted
-abbrev count_with : Bool → ℕ → ℕ
-count_with counts n = cond counts (min (n + 1) most_counted) n
+abbrev pub count_with : Bool → ℕ → ℕ
+count_with counts n = cond counts (n + 1) n
 
--- one more, counted up to the most
-count-more : (xs : List Occurrence) (x : Occurrence) → min (counted_in (xs ++ x ∷ [])) most_counted
-    ≡ count_with (is_counted x) (min (counted_in xs) most_counted)
-count-more xs x =
+pub counted-more : (xs : List Occurrence) (x : Occurrence) → counted_in (xs ++ x ∷ []) ≡ count_with (is_counted x) (counted_in xs)
+counted-more xs x =
     let of = filter is_counted xs in
-    ap (λ ys. min (length ys) most_counted) (filter-append is_counted xs (x ∷ []))
-    ∙ by_test (λ b. min (length (of ++ cond b (x ∷ []) [])) most_counted ≡ count_with b (min (length of) most_counted)) (is_counted x)
-    (λ _. omega (arith, length-append of (x ∷ []))) (λ _. omega (arith, length-append {A = Occurrence} of []))
+    ap length (filter-append is_counted xs (x ∷ []))
+    ∙ by_test (λ b. length (of ++ cond b (x ∷ []) []) ≡ count_with b (length of)) (is_counted x)
+    (λ _. length-append of (x ∷ [])) (λ _. omega (arith, length-append {A = Occurrence} of []))
+
+-- up to the most
+most-more : (counts : Bool) (n : ℕ)
+    → min (count_with counts n) most_counted ≡ cond counts (min (min n most_counted + 1) most_counted) (min n most_counted)
+most-more true n = omega arith
+most-more false n = refl
 
 -- what is counted up to the most is within it
-counted-once : (n : ℕ) → min (min n most_counted) most_counted ≡ min n most_counted
+pub counted-once : (n : ℕ) → min (min n most_counted) most_counted ≡ min n most_counted
 counted-once n = omega arith
 
 union-more : (xs : List Occurrence) (x : Occurrence) → union (xs ++ x ∷ []) ≡ bit_or (union xs) (notes_of x)
@@ -54,18 +58,23 @@ told-more looks xs x kept =
     either false true false = refl
     either false false c = refl
 
-heard-more : (filter : Filter) (x : Occurrence) (xs : List Occurrence) → not (is_counted x) && not (only_looks filter) ≡ is_telling x
-    → tally_of filter (listed.heard x xs) ≡ tallying.heard x (tally_of filter xs)
-heard-more filter x xs kept =
+-- the tally of a knote of this filter, where so many are counted
+abbrev pub tally_by : (List Occurrence → ℕ) → Filter → List Occurrence → Tally
+tally_by number filter xs = record (tally_of filter xs) { count = min (number xs) most_counted }
+
+pub heard-more : (number : List Occurrence → ℕ) (filter : Filter) (x : Occurrence) (xs : List Occurrence)
+    → number (xs ++ x ∷ []) ≡ count_with (is_counted x) (number xs) → not (is_counted x) && not (only_looks filter) ≡ is_telling x
+    → tally_by number filter (xs ++ x ∷ []) ≡ tallying.heard x (tally_by number filter xs)
+heard-more number filter x xs counted kept =
     let more = xs ++ x ∷ [] in
-    let count = count_with (is_counted x) (min (counted_in xs) most_counted) in
+    let count = (tallying.heard x (tally_by number filter xs)).count in
     let told = has_other more && not (only_looks filter) in
-    ap (λ n. tally n (union more) told) (count-more xs x)
+    ap (λ n. tally n (union more) told) (ap (λ n. min n most_counted) counted ∙ most-more (is_counted x) (number xs))
     ∙ ap (λ n. tally count n told) (union-more xs x)
     ∙ ap (tally count (bit_or (union xs) (notes_of x))) (told-more (only_looks filter) xs x kept)
 
 -- READ and WRITE hear Readable and Writable, of which nothing is kept, and no other filter hears these
-kept-told : (filter : Filter) (hint : Hint) → takes filter hint ≡ true
+pub kept-told : (filter : Filter) (hint : Hint) → takes filter hint ≡ true
     → not (is_counted (Told hint)) && not (only_looks filter) ≡ is_telling (Told hint)
 unfolding takes
 kept-told Read Readable taken = refl
@@ -75,7 +84,7 @@ kept-told Proc (Note bits) taken = refl
 kept-told Signal Delivered taken = refl
 kept-told _ _ taken = absurd (true≢false (sym taken))
 
-counts_none : (xs : List Occurrence) → eqb (min (counted_in xs) most_counted) 0 && not (has_other xs && true) ≡ is_none_of xs
+pub counts_none : (xs : List Occurrence) → eqb (min (counted_in xs) most_counted) 0 && not (has_other xs && true) ≡ is_none_of xs
 counts_none [] = refl
 counts_none (x ∷ xs) =
     let of = filter is_counted xs in
@@ -86,8 +95,8 @@ counts_none (x ∷ xs) =
 pub tally_of-map : IsHearingMap listed tallying tally_of
 tally_of-map = record {
   empty = λ filter. refl;
-  told = λ filter hint xs taken. heard-more filter (Told hint) xs (kept-told filter hint taken);
-  expired = λ filter xs. heard-more filter Expired xs refl;
+  told = λ filter hint xs taken. heard-more counted_in filter (Told hint) xs (counted-more xs (Told hint)) (kept-told filter hint taken);
+  expired = λ filter xs. heard-more counted_in filter Expired xs (counted-more xs Expired) refl;
   deliveries = λ xs. counted-once (counted_in xs);
   expirations = λ xs. counted-once (counted_in xs);
   notes = λ filter xs. refl;

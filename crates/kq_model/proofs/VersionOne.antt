@@ -1,5 +1,5 @@
 -- On version 1 of the trace's format nothing has changed: the fold gives each trace the rows that it gave.
-use Rattle.std.proofs.Common.{◌≡◌, ℕ, ◌+◌, Bool, true, false, cond, not, List, [], ◌∷◌, ◌++◌, map, filter, Some, None, refl, sym, ap, ap₂, ◌∙◌}
+use Rattle.std.proofs.Common.{◌≡◌, ℕ, ◌+◌, Bool, true, false, cond, not, List, [], ◌∷◌, ◌++◌, length, map, filter, Some, None, refl, sym, ap, ap₂, ◌∙◌}
 use Rattle.std.proofs.lemmas.List.Elements.{All-nil}
 use Rattle.kq_model.specs.declared.event.Event.{Event}
 use Rattle.kq_model.specs.declared.event.Event.TheVariants as event
@@ -7,13 +7,14 @@ use Rattle.kq_model.specs.declared.filter.Filter.{Filter}
 use Rattle.kq_model.specs.declared.filter.Filter.TheVariants.{Read, Write, Vnode, Proc, Signal}
 use Rattle.kq_model.specs.declared.object.Hint.TheVariants as hint
 use Rattle.kq_model.specs.declared.object.Target.TheVariants as target
+use Rattle.kq_model.specs.declared.reply.Reply.{Reply}
 use Rattle.kq_model.specs.declared.reply.Reply.TheVariants as reply
 use Rattle.kq_model.specs.declared.why.Why.TheVariants.{NoProcess, UsedPid}
 use Rattle.kq_model.specs.Bits.{fork_note}
 use Rattle.kq_model.specs.declared.key.Key.{Key}
 use Rattle.kq_model.specs.Close.{closed, has_pair}
 use Rattle.kq_model.specs.Hints.{takes, hints_for, if_there}
-use Rattle.kq_model.specs.Hearing.{Hearing, listed}
+use Rattle.kq_model.specs.Hearing.{Hearing, Tally, listed, tallying}
 use Rattle.kq_model.specs.Knote.{Knote}
 use Rattle.kq_model.specs.Kqueue.{Kqueue}
 use Rattle.kq_model.specs.Moment.{Moment, moment_of}
@@ -22,13 +23,19 @@ use Rattle.kq_model.specs.Objects.{Keeping}
 use Rattle.kq_model.specs.Plans.{plan}
 use Rattle.kq_model.specs.Processes.{was_used, is_live, process_of, ignored_by}
 use Rattle.kq_model.specs.ProcessPlans.{inherited, names_of, hold_all, noted, forked, plan_fork}
+use Rattle.kq_model.specs.Recast.{IsHearingMap}
+use Rattle.kq_model.specs.Report.{report, report_of}
 use Rattle.kq_model.specs.System.{Live, System, Stepped, empty_system, born, kqueue_of, step_by, step, row_of, rows_after, rows_by, rows, system_after}
 use Rattle.kq_model.specs.Targets.{Posted, is_target}
 use Rattle.kq_model.specs.VersionOne as one
 use Rattle.kq_model.specs.World as world
 use Rattle.kq_model.specs.Views.{Views}
 use Rattle.kq_model.specs.World.{World, Call, Plan, Planned, Impossible, Possible, idle, seen_world}
+use Rattle.kq_model.proofs.CountedObjects.{listed-counts}
 use Rattle.kq_model.proofs.Quiet.{IsLiveQuiet, AreLiveQuiet, step_by-quiet}
+use Rattle.kq_model.proofs.RecastSystem.{step-recast, system_after-recast, rows_by-recast, rows-tallied}
+use Rattle.kq_model.proofs.RecastTally.{tally_of-map}
+use Rattle.kq_model.proofs.VersionOneHearing.{one-map}
 use Rattle.kq_model.proofs.VersionOneKqueues.{lived-one, reply_to-one}
 
 -- ---- nobody takes the hint of a child
@@ -186,18 +193,49 @@ module _ {S A B C D : Type 0} {h : Hearing S} {k : Keeping A B C D} where
       let q = plan place e (seen_world s.world) in
       reached-one (place + 1) (step place e s).system es (version-kept place q s ∙ is) (step_by-quiet place q s is quiet) at last
 
--- The law: of a trace the systems that it leaves are the same, each record does the same with them and is answered the
--- same, and the rows are the same.
-abbrev opening : System listed objects.listed
-opening = empty_system 1
+-- The law: of a trace the systems that it leaves are the same, however what was heard and the objects are kept, and each
+-- record does the same with them.
+module _ {S A B C D : Type 0} (h : Hearing S) (k : Keeping A B C D) where
+  abbrev opening : System h k
+  opening = empty_system 1
 
-pub system-version_one : (events : List Event) → system_after 1 opening events ≡ one.system_after 1 opening events
-system-version_one events = system_after-one 1 opening events refl (All-nil IsLiveQuiet)
+  pub system-version_one : (events : List Event) → system_after 1 opening events ≡ one.system_after 1 opening events
+  system-version_one events = system_after-one 1 opening events refl (All-nil IsLiveQuiet)
 
-pub step-version_one : (events : List Event) (place : ℕ) (e : Event)
-    → step place e (system_after 1 opening events) ≡ one.step place e (system_after 1 opening events)
-step-version_one events place e = reached-one 1 opening events refl (All-nil IsLiveQuiet) place e
+  pub step-version_one : (events : List Event) (place : ℕ) (e : Event)
+      → step place e (system_after 1 opening events) ≡ one.step place e (system_after 1 opening events)
+  step-version_one events place e = reached-one 1 opening events refl (All-nil IsLiveQuiet) place e
+
+-- Each record is answered the same, and the rows are the same, as where all that was heard is kept and asked for as it
+-- was then.
+abbrev Answered : {S A B C D : Type 0} → Hearing S → Keeping A B C D → List Event → ℕ → Event → Reply
+Answered h k events place e = (step place e (system_after 1 (empty_system {h = h} {k = k} 1) events)).reply
+
+answered-tallied : {S : Type 0} {h : Hearing S} {f : Filter → S → Tally} → IsHearingMap h tallying f
+    → (events : List Event) (place : ℕ) (e : Event)
+    → Answered h objects.listed events place e ≡ Answered tallying objects.counted events place e
+answered-tallied {h = h} is events place e =
+    let left = system_after 1 (empty_system {h = h} {k = objects.listed} 1) events in
+    ap (λ t. t.reply) (sym (step-recast is listed-counts place e left))
+    ∙ ap (λ s. (step place e s).reply) (sym (system_after-recast is listed-counts 1 (empty_system 1) events))
+
+pub answer-version_one : (events : List Event) (place : ℕ) (e : Event)
+    → (step place e (system_after 1 (empty_system {h = listed} {k = objects.listed} 1) events)).reply
+    ≡ (one.step place e (one.system_after 1 (empty_system {h = one.listed} {k = objects.listed} 1) events)).reply
+answer-version_one events place e =
+    answered-tallied tally_of-map events place e
+    ∙ sym (answered-tallied one-map events place e)
+    ∙ ap (λ t. t.reply) (step-version_one one.listed objects.listed events place e)
+    ∙ ap (λ s. (one.step place e s).reply) (system-version_one one.listed objects.listed events)
 
 pub rows-version_one : (events : List Event) → rows 1 events ≡ one.rows 1 events
-unfolding rows one.rows rows_by one.rows_by
-rows-version_one events = rows_after-one 1 (empty_system {h = listed} {k = objects.listed} 1) events refl (All-nil IsLiveQuiet)
+unfolding one.rows rows_by one.rows_by
+rows-version_one events =
+    rows-tallied 1 events
+    ∙ sym (rows_by-recast one-map listed-counts 1 events)
+    ∙ rows_after-one 1 (empty_system {h = one.listed} {k = objects.listed} 1) events refl (All-nil IsLiveQuiet)
+
+-- and so is the report
+pub report-version_one : (events : List Event) → report_of 1 events ≡ report (one.rows 1 events) (length events)
+unfolding report_of
+report-version_one events = ap (λ rs. report rs (length events)) (rows-version_one events)

@@ -3,9 +3,11 @@
 -- hint `Child`, which no filter takes, and that a knote has a notice, which a new one has not. Each name is that of the
 -- definition whose place it had.
 use Rattle.std.specs.Prelude.{ℕ, ◌+◌, ◌-◌, ◌==◌, nat_lt, ◌&&◌, Bool, true, false, not}
-use Rattle.std.specs.Prelude.{◌||◌, List, [], ◌∷◌, ◌++◌, map}
+use Rattle.std.specs.Prelude.{◌||◌, List, [], ◌∷◌, ◌++◌, map, length, min}
 use Rattle.std.specs.Prelude.{filter, Option, Some}
 use Rattle.std.specs.Prelude.{None, zero, suc, option_and_then, if◌then◌else◌}
+use Rattle.std.specs.Int.RustNames.{bit_or}
+use Rattle.std.specs.List.{fold}
 use Rattle.std.specs.Option.{is_none}
 use Rattle.kq_model.specs.declared.change.Change.{Change}
 use Rattle.kq_model.specs.declared.errno.Errno.{Errno}
@@ -25,10 +27,11 @@ use Rattle.kq_model.specs.Caller.{Caller}
 use Rattle.kq_model.specs.ChangedKnote.{key_of, fresh, replaced, changed, switched, activated}
 use Rattle.kq_model.specs.declared.key.Key.{Key}
 use Rattle.kq_model.specs.declared.object.Hint.{Hint}
+use Rattle.kq_model.specs.declared.object.Hint.TheVariants.{Readable, Writable, Note, Delivered, Child}
 use Rattle.kq_model.specs.Clock.{Span, ticking, expired, waiting_of, kqueue_of_waiting}
 use Rattle.kq_model.specs.Close.{closed, has_pair}
 use Rattle.kq_model.specs.Hints.{hints_for, heard_by, hears_exit, if_there, queue_with}
-use Rattle.kq_model.specs.Hearing.{Hearing, listed}
+use Rattle.kq_model.specs.Hearing.{Hearing, Occurrence, Told, Expired}
 use Rattle.kq_model.specs.Knote.{Knote, find_knote, is_timer, key_eq}
 use Rattle.kq_model.specs.Kqueue.{Kqueue}
 use Rattle.kq_model.specs.Limits.{most_signal}
@@ -51,6 +54,39 @@ use Rattle.kq_model.specs.TimerWalk.{Alarms, walked}
 use Rattle.kq_model.specs.World as world
 use Rattle.kq_model.specs.Views.{Views}
 use Rattle.kq_model.specs.World.{World, Call, Planned, Impossible, Possible, idle, seen_world}
+
+-- ---- what was heard, as a list, the latest last
+
+-- the notes of one occurrence
+unfoldable pub notes_of : Occurrence → ℕ
+notes_of (Told (Note bits)) = bits
+notes_of (Told Readable) = 0
+notes_of (Told Writable) = 0
+notes_of (Told Delivered) = 0
+notes_of (Told (Child pid)) = 0
+notes_of Expired = 0
+
+-- how often something is counted at most
+abbrev pub most_counted : ℕ
+most_counted = 9223372036854775807
+
+-- the union of their notes
+abbrev pub union : List Occurrence → ℕ
+union xs = fold (λ bits x. bit_or bits (notes_of x)) 0 xs
+
+unfoldable pub is_none_of : List Occurrence → Bool
+is_none_of [] = true
+is_none_of (x ∷ xs) = false
+
+-- `count` is how many were heard, whatever they are
+abbrev pub listed : Hearing (List Occurrence)
+listed = record {
+  empty = [];
+  heard = λ x xs. xs ++ x ∷ [];
+  count = λ xs. min (length xs) most_counted;
+  notes = union;
+  is_empty = is_none_of;
+}
 
 -- ---- when a timer expires
 
