@@ -221,7 +221,7 @@ answered-tallied {h = h} is events place e =
 
 pub answer-version_one : (events : List Event) (place : ℕ) (e : Event)
     → (step place e (system_after 1 (empty_system {h = listed} {k = objects.listed} 1) events)).reply
-    ≡ (one.step place e (one.system_after 1 (empty_system {h = one.listed} {k = objects.listed} 1) events)).reply
+    ≡ one.reply_after events place e
 answer-version_one events place e =
     answered-tallied tally_of-map events place e
     ∙ sym (answered-tallied one-map events place e)

@@ -354,3 +354,8 @@ rows_by h k version events = rows_after 1 (empty_system {h = h} {k = k} version)
 
 unfoldable pub rows : ℕ → List Event → List Row
 rows version events = rows_by listed objects.listed version events
+
+-- the reply to a record at a place, after a system carried out these and no others
+abbrev pub reply_after : List Event → ℕ → Event → Reply
+reply_after events place e =
+    (step place e (system_after 1 (empty_system {h = listed} {k = objects.listed} 1) events)).reply

@@ -1,5 +1,5 @@
 ghost use Rattle.std.specs.Prelude.{◌≡◌, ◌+◌, ◌-◌, ◌^◌, ◌<◌, ℕ, Bool, true, false, Option, None, Some, IfOk};
-ghost use Rattle.std.specs.Prelude.{IfSome, IsOk, OnErr, OnOk};
+ghost use Rattle.std.specs.Prelude.{IfSome, IsOk, List, OnErr, OnOk};
 ghost use Rattle.kq_model.specs.declared.object.Named.TheVariants as named_as;
 ghost use Rattle.kq_process.specs.World.{world_of};
 
@@ -97,6 +97,7 @@ fn clock_of(world: &World) -> u64
 }
 
 impl System {
+    ghost use Rattle.kq_model.specs.declared.event.Event.{Event};
     ghost use Rattle.kq_model.specs.declared.event.Event.TheVariants as event_of;
     ghost use Rattle.kq_model.specs.ClosedNumbers.{ClosesAll};
     ghost use Rattle.kq_model.specs.DescriptorPlans.{plan_kqueue};
@@ -105,7 +106,8 @@ impl System {
     ghost use Rattle.kq_model.specs.Plans.{plan};
     ghost use Rattle.kq_model.specs.Recast.{IsTalliedStep, tallied_system};
     ghost use Rattle.kq_model.specs.System as model;
-    ghost use Rattle.kq_model.specs.System.{step};
+    ghost use Rattle.kq_model.specs.System.{empty_system, step, system_after};
+    ghost use Rattle.kq_model.specs.VersionOne as one;
     ghost use Rattle.kq_model.specs.WatchedNumbers.{AllWatchTheirNumbers};
     ghost use Rattle.kq_model.specs.World.{Plan, Possible};
     ghost use Rattle.kq_process.specs.Effects.{IsPossible};
@@ -125,6 +127,11 @@ impl System {
         ensures model { IfOk result (λ reply. (m : model.System listed objects.listed)
             → system_of self.old ≡ tallied_system m
             → IsTalliedStep (system_of self.new) reply (step (self.old.applied + 1) event.now m)) }
+
+        // In version 1 of the trace's format this is the reply that it gave while it had no other.
+        ensures version_one { IfOk result (λ reply. (events : List Event)
+            → system_of self.old ≡ tallied_system (system_after 1 (empty_system {k = objects.listed} 1) events)
+            → reply ≡ one.reply_after events (self.old.applied + 1) event.now) }
 
         // No kqueue keeps a knote of a number that was closed, also where a duplicate stays open.
         ensures closed { OnOk result
