@@ -1,4 +1,6 @@
-/*
+/* SPDX-License-Identifier: BSD-2-Clause
+ * Copyright (c) 2026, The kqsim authors
+ *
  * kqsim: a simulated FreeBSD kqueue, for C99 and C++.
  *
  * A `struct kqsim` is a system of processes with descriptors and kqueues. Each function below but the first and the
