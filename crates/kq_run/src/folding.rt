@@ -67,6 +67,10 @@ impl Sink for Folder {
         self.fold = Some(fold.after_alone(self.alloc, pieces.as_slice())?);
         Ok(())
     }
+
+    fn spare_threads(&self) -> u32 {
+        0
+    }
 }
 
 /// The report of the trace that a source has, by one fold of the whole system over it on the calling thread, which

@@ -49,56 +49,9 @@ impl SharedFold {
         })
     }
 
-    /// After these pieces of records more, each share but the first on a thread of its own. Their rows wait; where
-    /// another thread may write the lines of those that waited, it does so beside, and else the calling one before.
-    ///
-    /// Memory comes where that thread does not start, too.
+    /// After these pieces of records more, each share but the first on a thread of its own. Their rows wait, and one
+    /// more thread writes the lines of those that waited. Memory comes where that one does not start, too.
     pub fn after<R: AllocGlobal + Threads + Wait>(
-        self,
-        rt: &R,
-        beside: bool,
-        pieces: &[Vec<Event>],
-    ) -> Result<Self, ShareFault>
-        requires { (version : ℕ) × (before : List Event) × IsShared version self before
-            × (length before + length (flat_map (λ piece. piece.items) pieces.now) < 2 ^ 31) }
-        ensures { IfOk result (λ fold. (version : ℕ) (before : List Event) → IsShared version self before
-            → IsShared version fold (before ++ flat_map (λ piece. piece.items) pieces.now)) }
-    {
-        if beside {
-            self.after_beside(rt, pieces)
-        } else {
-            self.after_alone(rt, pieces)
-        }
-    }
-
-    fn after_alone<R: AllocGlobal + Threads + Wait>(
-        self,
-        rt: &R,
-        pieces: &[Vec<Event>],
-    ) -> Result<Self, ShareFault>
-        requires { (version : ℕ) × (before : List Event) × IsShared version self before
-            × (length before + length (flat_map (λ piece. piece.items) pieces.now) < 2 ^ 31) }
-        ensures { IfOk result (λ fold. (version : ℕ) (before : List Event) → IsShared version self before
-            → IsShared version fold (before ++ flat_map (λ piece. piece.items) pieces.now)) }
-    {
-        let alloc = rt.alloc();
-        let SharedFold {
-            shares,
-            records,
-            text,
-            waiting,
-        } = self;
-        let text = with_lists(alloc, text, waiting)?;
-        let after = shares.after(rt, alloc, pieces)?;
-        Ok(SharedFold {
-            shares: after.shares,
-            records: records + count(pieces),
-            text,
-            waiting: after.lists,
-        })
-    }
-
-    fn after_beside<R: AllocGlobal + Threads + Wait>(
         self,
         rt: &R,
         pieces: &[Vec<Event>],

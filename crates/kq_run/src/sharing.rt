@@ -55,7 +55,7 @@ impl Folding {
             Folding::New => unreachable!(),
             Folding::Begun { version } => begun(rt, version, workers, pieces),
             Folding::Whole(fold) => Ok(Folding::Whole(fold.after_beside(rt, pieces)?)),
-            Folding::Shared(fold) => shared(rt, workers, fold, pieces),
+            Folding::Shared(fold) => shared(rt, fold, pieces),
             Folding::Refused => Ok(Folding::Refused),
         }
     }
@@ -97,7 +97,7 @@ fn begun<R: AllocGlobal + Threads + Wait>(
         return Ok(Folding::Whole(fold.after_beside(rt, pieces)?));
     }
     let fold = SharedFold::new(alloc, version, dealing_for(births.as_slice(), shares))?;
-    shared(rt, workers, fold, pieces)
+    shared(rt, fold, pieces)
 }
 
 /// The places of kqueues that the first of these records make, where the trace begins with them.
@@ -112,8 +112,8 @@ fn first_births(alloc: Global, pieces: &[Vec<Event>]) -> Result<Vec<u64>, Memory
     }
 }
 
-/// How many shares pay where so many kqueues are made first. By three workers and more, another thread writes lines
-/// beside them.
+/// How many shares pay where so many kqueues are made first. A thread writes lines beside them and, by three workers
+/// and more, one reads ahead.
 fn shares_for(workers: u32, births: usize) -> u32
     ensures most { result ≤ MOST_SHARES }
     ensures births { result ≤ births }
@@ -130,7 +130,6 @@ fn shares_for(workers: u32, births: usize) -> u32
 /// The same by shares, of which there are two or more.
 fn shared<R: AllocGlobal + Threads + Wait>(
     rt: &R,
-    workers: u32,
     fold: SharedFold,
     pieces: &[Vec<Event>],
 ) -> Result<Folding, Memory>
@@ -140,7 +139,7 @@ fn shared<R: AllocGlobal + Threads + Wait>(
         → HasKqueues version (before ++ flat_map (λ piece. piece.items) pieces.now)
         → Folds version next (before ++ flat_map (λ piece. piece.items) pieces.now)) }
 {
-    match fold.after(rt, workers >= 3, pieces) {
+    match fold.after(rt, pieces) {
         Ok(fold) => Ok(Folding::Shared(fold)),
         Err(ShareFault::Spawn) => Ok(Folding::Refused),
         Err(ShareFault::Memory) => Err(Memory),
@@ -179,11 +178,18 @@ impl Sink for Sharer {
         self.folding = folding.after(rt, self.workers, pieces.as_slice())?;
         Ok(())
     }
+
+    fn spare_threads(&self) -> u32 {
+        match &self.folding {
+            Folding::Whole(_) => READERS,
+            _ => self.workers.saturating_sub(2),
+        }
+    }
 }
 
 /// The report of the trace that a source has, by so many workers, two or more: of as many threads as that at a time,
-/// the calling one aside, one reads and decodes what comes behind, one writes the lines of the rows before, where
-/// there are three, and each other one folds a share of the kqueues beside the calling one.
+/// the calling one aside, one writes the lines of the rows before, one reads and decodes what comes behind, where it is
+/// not the last, and each other one folds a share of the kqueues beside the calling one.
 pub fn fold_by_shares<R: AllocGlobal + Threads + Wait + Sync, I: Source + Send>(
     rt: &R,
     source: &mut I,

@@ -30,7 +30,7 @@ use std::thread::Threads;
 /// Reads the trace that a source has, while it comes, and gives its records to the sink: the version that its header
 /// names. By two threads and more the calling one has the sink take a part of the records, while another decodes what
 /// came behind it, helped by as many as are asked for but two, and then reads on; so no more of the text is held than
-/// two blocks of it. By 0 and 1 the calling one does all.
+/// two blocks of it. By 0 and 1 the calling one does all, and so it does where the sink leaves no thread.
 ///
 /// [`InputError::Read`]: a read failed, whatever is wrong with what came before. `Bad`: the first line that has a
 /// fault, once all was read. `Memory` also comes where the sink answered it, and where the thread beside the calling
@@ -135,8 +135,8 @@ fn read_blocks<R: AllocGlobal + Threads + Wait + Sync, S: Source + Send, K: Sink
     Ok(version)
 }
 
-/// Reads the next block, decodes the one that came, and has the sink take the records of the one before: by two threads
-/// and more at the same time, by 0 and 1 one after the other.
+/// Reads the next block, decodes the one that came, and has the sink take the records of the one before: at the same
+/// time where there is another thread for it, and else one after the other.
 fn round<R: AllocGlobal + Threads + Wait + Sync, S: Source + Send, K: Sink>(
     rt: &R,
     source: &mut S,
@@ -173,7 +173,7 @@ fn round<R: AllocGlobal + Threads + Wait + Sync, S: Source + Send, K: Sink>(
         block,
         next,
     } = text;
-    let decoders = threads.saturating_sub(1);
+    let decoders = threads.saturating_sub(1).min(sink.spare_threads());
     let mut prepare = ||
         requires { IsSync R.row × (number ≤ 1000002) × EndsWith coming.now (S.ahead source.now) }
         ensures part { IfOk result.1 (AreRecordsFrom number (lines_behind block.entry.now.items)) }
@@ -193,7 +193,7 @@ fn round<R: AllocGlobal + Threads + Wait + Sync, S: Source + Send, K: Sink>(
             → K.took version sink.entry.now so_far
             → K.took version sink.exit.now (so_far ++ flat_map (λ piece. piece.items) pieces.entry.items)) }
     { sink.accept(rt, before, replace(&mut pieces, Vec::new(alloc))) };
-    if threads < 2 {
+    if decoders == 0 {
         // Each takes what was made last, so that it still stands in the cache.
         let taken = take();
         let (read, part) = prepare();

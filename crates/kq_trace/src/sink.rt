@@ -38,6 +38,9 @@ pub trait Sink {
         ensures { OnOk result ((version : ℕ) (so_far : List Event) → length so_far ≡ before
             → took version self.old so_far
             → took version self.new (so_far ++ flat_map (λ piece. piece.items) pieces.items)) };
+
+    /// How many threads it leaves to others while it takes the next part. Where it leaves none, nobody reads ahead then.
+    fn spare_threads(&self) -> u32;
 }
 
 /// Keeps the records.
@@ -87,5 +90,9 @@ impl Sink for Kept {
             self.events.append(&mut piece)?;
         }
         Ok(())
+    }
+
+    fn spare_threads(&self) -> u32 {
+        u32::MAX
     }
 }

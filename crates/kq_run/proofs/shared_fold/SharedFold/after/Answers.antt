@@ -9,7 +9,7 @@ use Rattle.kq_shares.specs.Going.{events_in}
 use Rattle.kq_shares.specs.Whole.{AreRowsOf, AreSharesOf}
 use Rattle.kq_run.specs.declared.shared_fold.SharedFold.{SharedFold}
 use Rattle.kq_run.proofs.SharedLemmas.{shared-more, states_in}
-use Rattle.kq_run.proofs.shared_fold.SharedFold.after_beside.Goals as goal
+use Rattle.kq_run.proofs.shared_fold.SharedFold.after.Goals as goal
 
 pub returns : goal.returns
 returns g c =
