@@ -10,6 +10,7 @@
 #include <stdlib.h>
 #include <string.h>
 #include <sys/eventfd.h>
+#include <sys/pidfd.h>
 #include <sys/socket.h>
 #include <sys/stat.h>
 #include <sys/wait.h>
@@ -278,6 +279,17 @@ static void interrupted(void) {
     close(ends[1]);
 }
 
+/* (valgrind has no pidfd_open) */
+static int has_processes(void) {
+    int fd = pidfd_open(getpid(), 0);
+    if (fd < 0) {
+        printf("rows: no pidfd_open: not tried\n");
+        return 0;
+    }
+    close(fd);
+    return 1;
+}
+
 static void processes(void) {
     const struct timespec none = {0, 0};
     fflush(stdout);
@@ -438,7 +450,9 @@ int main(void) {
     signal(SIGUSR2, SIG_IGN);
     pipes(), full_pipe(), listeners(), sockets(), connections(), datagrams(), counters(), terminals();
     timers(), timers_unseen(), user_events(), user_from_a_thread();
-    signals(), interrupted(), processes(), pids_again();
+    signals(), interrupted();
+    if (has_processes())
+        processes(), pids_again();
     files(), files_of_two(), directories();
     errors(), receipts(), many_changes(), numbers();
     WANT(close(kq) == 0 && take(kq, 0) == -1 && errno == EBADF);

@@ -101,6 +101,7 @@ struct kevent {
 extern "C" {
 #endif
 
+struct timespec;
 int kqueue(void);
 /* `flags` is O_CLOEXEC or 0; a kqueue is close-on-exec with both. */
 int kqueue1(int flags);
