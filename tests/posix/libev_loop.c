@@ -129,12 +129,21 @@ static void on_tick(struct ev_loop *of, ev_timer *watcher, int events) {
     }
 }
 
-static void on_signal(struct ev_loop *of, ev_signal *watcher, int events) { (void)of, (void)watcher, (void)events; signals_seen++; }
-static void on_async(struct ev_loop *of, ev_async *watcher, int events) { (void)of, (void)watcher, (void)events; asyncs_seen++; }
+static void on_signal(struct ev_loop *of, ev_signal *watcher, int events) {
+    (void)of, (void)watcher, (void)events;
+    signals_seen++;
+}
+
+static void on_async(struct ev_loop *of, ev_async *watcher, int events) {
+    (void)of, (void)watcher, (void)events;
+    asyncs_seen++;
+}
+
 static void on_stat(struct ev_loop *of, ev_stat *watcher, int events) {
     (void)of, (void)events;
     stats_seen += watcher->attr.st_size == 4 && watcher->prev.st_size == 0;
 }
+
 static void on_child(struct ev_loop *of, ev_child *watcher, int events) {
     (void)of, (void)events;
     children_seen += WIFEXITED(watcher->rstatus) && WEXITSTATUS(watcher->rstatus) == 7;

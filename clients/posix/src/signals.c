@@ -38,25 +38,31 @@ static bool has_handler(const struct sigaction *action) {
     return action->sa_flags & SA_SIGINFO || (action->sa_handler != SIG_DFL && action->sa_handler != SIG_IGN);
 }
 
+/* What the signal does by the program's own will. */
+static void pass_on(int number, siginfo_t *info, void *context) {
+    struct sigaction to = programs[number];
+    if (has_handler(&to)) {
+        handled++;
+        if (to.sa_flags & (int)SA_RESETHAND)
+            programs[number] = (struct sigaction){.sa_handler = SIG_DFL};
+        if (to.sa_flags & SA_SIGINFO)
+            to.sa_sigaction(number, info, context);
+        else
+            to.sa_handler(number);
+    } else if (to.sa_handler == SIG_DFL && !is_ignored_by_default(number)) {
+        real_sigaction(number, &to, NULL);
+        raise(number);
+    }
+}
+
 static void on_signal(int number, siginfo_t *info, void *context) {
-    const struct sigaction *to = &programs[number];
     const uint64_t one = 1;
     int kept = errno;
     pending[number]++;
     heard++;
     if (write(bell, &one, sizeof one) != sizeof one)
         errno = kept; /* (it rings already) */
-    if (has_handler(to))
-        handled++;
-    if (to->sa_flags & SA_SIGINFO)
-        to->sa_sigaction(number, info, context);
-    else if (has_handler(to))
-        to->sa_handler(number);
-    else if (to->sa_handler == SIG_DFL && !is_ignored_by_default(number)) {
-        /* what it does without a handler */
-        real_sigaction(number, to, NULL);
-        raise(number);
-    }
+    pass_on(number, info, context);
     errno = kept;
 }
 
@@ -84,6 +90,8 @@ void signal_unwatch(int number) {
 
 int signal_action(int number, const struct sigaction *action, struct sigaction *former) {
     int result = 0;
+    if (!world_is_here())
+        return real_sigaction(number, action, former);
     lock();
     if (number <= 0 || number >= SIGNALS || watched[number] == 0)
         result = real_sigaction(number, action, former);

@@ -48,16 +48,10 @@ int watch_source(int epoll, int fd, enum source source, uint32_t number, uint32_
     return epoll_ctl(epoll, EPOLL_CTL_MOD, fd, &what) == 0 ? 0 : errno;
 }
 
-static int make_out(struct watches *watches) {
+int watches_begin(struct watches *watches, int in) {
+    watches->in = in;
     watches->out = own_keep(epoll_create1(EPOLL_CLOEXEC));
-    if (watches->out < 0)
-        return errno;
-    int error = watch_source(watches->in, watches->out, FROM_OUT, 0, EPOLLIN | EPOLLET);
-    if (error != 0) {
-        own_close(watches->out);
-        watches->out = -1;
-    }
-    return error;
+    return watches->out < 0 ? errno : watch_source(in, watches->out, FROM_OUT, 0, EPOLLIN | EPOLLET);
 }
 
 int watch_begin(struct watches *watches, int fd, unsigned char bit) {
@@ -69,11 +63,9 @@ int watch_begin(struct watches *watches, int fd, unsigned char bit) {
     /* (what has no inode of its own may have been closed, and nobody said so) */
     if (*is_there && thing != NULL && thing->kind != OTHER)
         return 0;
-    int error = is_writing && watches->out < 0 ? make_out(watches) : 0;
-    if (error != 0)
-        return error;
-    error = is_writing ? watch_source(watches->out, fd, FROM_DESCRIPTOR, (uint32_t)fd, EPOLLOUT | EPOLLET)
-                       : watch_source(watches->in, fd, FROM_DESCRIPTOR, (uint32_t)fd, EPOLLIN | EPOLLRDHUP | EPOLLET);
+    int error = is_writing
+                    ? watch_source(watches->out, fd, FROM_DESCRIPTOR, (uint32_t)fd, EPOLLOUT | EPOLLET)
+                    : watch_source(watches->in, fd, FROM_DESCRIPTOR, (uint32_t)fd, EPOLLIN | EPOLLRDHUP | EPOLLET);
     *is_there = error == 0;
     return error == EPERM ? 0 : error; /* (a device that is always ready has no edges) */
 }

@@ -22,7 +22,7 @@
 enum source { FROM_DESCRIPTOR, FROM_OUT, FROM_WAKE, FROM_SIGNALS, FROM_FILES, FROM_PROCESS, FROM_PENDING };
 
 struct watches {
-    int in, out; /* the epolls; `out` is -1 until it is needed */
+    int in, out; /* the epolls */
     struct watch *all;
     size_t room;
     int *hot;
@@ -33,6 +33,8 @@ struct watches {
 
 /* Sets the bits of a source in an epoll: 0, or an errno. */
 int watch_source(int epoll, int fd, enum source source, uint32_t number, uint32_t events);
+/* `in` is the kqueue's own descriptor: 0, or an errno. */
+int watches_begin(struct watches *watches, int in);
 /* Begins to watch an open descriptor for a filter: 0, or an errno. */
 int watch_begin(struct watches *watches, int fd, unsigned char bit);
 /* A change of the filter, or its event with EV_CLEAR or EV_DISPATCH, was made. */

@@ -65,7 +65,7 @@ void unlock(void) {
 
 bool is_inside_call(void) { return is_inside > 0; }
 
-static bool is_of_this_process(void) { return is_begun && owner == getpid(); }
+bool world_is_here(void) { return is_begun && owner == getpid(); }
 
 /* ---- the clock */
 
@@ -89,8 +89,6 @@ void world_tell_clock(void) {
 
 struct kqueue *kqueue_at(int fd) {
     struct kqueue *kqueue = kqueues;
-    if (!is_of_this_process())
-        return NULL;
     while (kqueue != NULL && kqueue->fd != fd)
         kqueue = kqueue->next;
     return kqueue;
@@ -151,9 +149,9 @@ static void kqueue_end(struct kqueue *kqueue) {
 /* What stands in the epoll of each kqueue: 0, or an errno. */
 static int fill(struct kqueue *kqueue) {
     kqueue->wake = own_keep(eventfd(0, EFD_CLOEXEC | EFD_NONBLOCK));
-    if (kqueue->wake < 0)
-        return errno;
-    int error = watch_source(kqueue->fd, kqueue->wake, FROM_WAKE, 0, EPOLLIN | EPOLLET);
+    int error = kqueue->wake < 0 ? errno : watches_begin(&kqueue->watches, kqueue->fd);
+    if (error == 0)
+        error = watch_source(kqueue->fd, kqueue->wake, FROM_WAKE, 0, EPOLLIN | EPOLLET);
     if (error != 0 || getenv("KQSIM_POLLABLE") == NULL)
         return error;
     kqueue->pending = own_keep(eventfd(0, EFD_CLOEXEC | EFD_NONBLOCK));
@@ -198,13 +196,14 @@ static int make(void) {
     if (kqueue == NULL)
         return -1;
     kqueue->wake = kqueue->pending = kqueue->watches.out = -1;
-    kqueue->watches.in = kqueue->fd = epoll_create1(EPOLL_CLOEXEC);
+    kqueue->fd = epoll_create1(EPOLL_CLOEXEC);
     int error = kqueue->fd < 0 ? errno : 0;
     if (error == 0) {
         lock();
         error = add(kqueue);
         if (error != 0) {
             own_close(kqueue->pending);
+            own_close(kqueue->watches.out);
             own_close(kqueue->wake);
             real_close(kqueue->fd);
         }
@@ -250,7 +249,7 @@ void world_drop(int fd) {
 
 bool world_closing(int fd) {
     int kept = errno;
-    if (!is_of_this_process() || fd < 0)
+    if (!world_is_here() || fd < 0)
         return true;
     if (is_inside > 0) {
         if (late_count < MOST_LATE) {
@@ -269,7 +268,7 @@ bool world_closing(int fd) {
 }
 
 unsigned world_numbers(void) {
-    if (!is_of_this_process() || is_inside > 0)
+    if (!world_is_here() || is_inside > 0)
         return 0;
     lock();
     size_t numbers = things_room() > own_room() ? things_room() : own_room();
@@ -281,7 +280,7 @@ unsigned world_numbers(void) {
 }
 
 void world_shut(int fd) {
-    if (!is_of_this_process() || is_inside > 0)
+    if (!world_is_here() || is_inside > 0)
         return;
     lock();
     sample_shut_writing(fd);
@@ -323,7 +322,7 @@ static void in_child(void) {
 }
 
 void world_end(void) {
-    if (!is_of_this_process())
+    if (!world_is_here())
         return;
     lock();
     log_end();

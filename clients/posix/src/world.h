@@ -49,6 +49,8 @@ void world_tell_clock(void);
 
 /* ---- without the lock */
 
+/* Whether this process has a system; a child of vfork, which has its parent's memory, has none. */
+bool world_is_here(void);
 /* A number is about to be closed: false where it is the library's own. */
 bool world_closing(int fd);
 /* One more than the greatest number that the library knows. */
