@@ -2,11 +2,12 @@
 #ifndef CHECK_H
 #define CHECK_H
 
+#include <stdatomic.h>
 #include <stdio.h>
 #include <sys/event.h>
 #include <time.h>
 
-static int wanted, failed;
+static atomic_int wanted, failed; /* (threads want too) */
 
 #define WANT(holds) want((holds), #holds, __FILE__, __LINE__)
 

@@ -7,6 +7,8 @@
 #include <fcntl.h>
 #include <pthread.h>
 #include <signal.h>
+#include <stdatomic.h>
+#include <stdbool.h>
 #include <stdlib.h>
 #include <string.h>
 #include <sys/eventfd.h>
@@ -69,13 +71,23 @@ static int connected(const struct sockaddr_in *name) {
     return fd;
 }
 
+/* Whether so many are told, once all that is on its way has come. */
+static int comes_to(int64_t data) {
+    for (int i = 0; i < SOON; i++) {
+        if (take(kq, SOON) == 1 && got[0].data >= data)
+            return got[0].data == data;
+        usleep(1000);
+    }
+    return 0;
+}
+
 static void listeners(void) {
     struct sockaddr_in name;
     int listener = listening(&name), ends[3], accepted[3];
     WANT(change(kq, listener, EVFILT_READ, EV_ADD, 0, 0) == 0 && take(kq, 0) == 0);
     for (int i = 0; i < 3; i++) {
         ends[i] = connected(&name);
-        WANT(take(kq, SOON) == 1 && got[0].ident == (uintptr_t)listener && got[0].data == i + 1);
+        WANT(comes_to(i + 1) && got[0].ident == (uintptr_t)listener);
     }
     for (int i = 0; i < 3; i++) {
         accepted[i] = accept(listener, NULL, NULL);
@@ -173,7 +185,7 @@ static void terminals(void) {
 
 static void timers(void) {
     struct timespec day;
-    WANT(change(kq, 1, EVFILT_TIMER, EV_ADD, NOTE_MSECONDS, 5) == 0 && take(kq, 0) == 0);
+    WANT(change(kq, 1, EVFILT_TIMER, EV_ADD, NOTE_MSECONDS, 5) == 0);
     WANT(take(kq, SOON) == 1 && got[0].data >= 1 && got[0].ident == 1);
     usleep(30000);
     WANT(take(kq, 0) == 1 && got[0].data >= 4);
@@ -187,7 +199,7 @@ static void timers(void) {
     clock_gettime(CLOCK_REALTIME, &day);
     int64_t moment = (int64_t)day.tv_sec * 1000 + day.tv_nsec / 1000000 + 100;
     WANT(change(kq, 5, EVFILT_TIMER, EV_ADD | EV_ONESHOT, NOTE_MSECONDS | NOTE_ABSTIME, moment) == 0);
-    WANT(take(kq, 0) == 0 && take(kq, SOON) == 1 && got[0].ident == 5);
+    WANT(take(kq, SOON) == 1 && got[0].ident == 5);
     clock_gettime(CLOCK_REALTIME, &day);
     WANT((int64_t)day.tv_sec * 1000 + day.tv_nsec / 1000000 >= moment);
 }
@@ -195,12 +207,14 @@ static void timers(void) {
 /* A timer that expires while another kqueue is called, or this one without room, is not lost. */
 static void timers_unseen(void) {
     int other = kqueue();
-    WANT(change(other, 1, EVFILT_TIMER, EV_ADD | EV_ONESHOT, NOTE_MSECONDS, 5) == 0 && take(other, 0) == 0);
-    usleep(10000);
-    WANT(take(kq, 0) == 0 && take(other, SOON) == 1);
-    WANT(change(other, 1, EVFILT_TIMER, EV_ADD | EV_ONESHOT, NOTE_MSECONDS, 5) == 0 && take(other, 0) == 0);
-    usleep(10000);
-    WANT(kevent(other, NULL, 0, NULL, 0, NULL) == 0 && take(other, SOON) == 1);
+    for (int round = 0; round < 2; round++) {
+        WANT(change(other, 1, EVFILT_TIMER, EV_ADD | EV_ONESHOT, NOTE_MSECONDS, 50) == 0);
+        if (take(other, 0) > 0)
+            continue; /* (this machine is slow) */
+        usleep(60000);
+        WANT(round == 0 ? take(kq, 0) == 0 : kevent(other, NULL, 0, NULL, 0, NULL) == 0);
+        WANT(take(other, SOON) == 1 && got[0].data == 1);
+    }
     close(other);
 }
 
@@ -236,9 +250,11 @@ static void user_from_a_thread(void) {
 
 static volatile sig_atomic_t handled, to_close = -1;
 static void on_signal(int number) {
+    int kept = errno;
     handled += number == SIGUSR1;
     if (to_close >= 0)
         close(to_close);
+    errno = kept;
 }
 
 static void signals(void) {
@@ -255,9 +271,14 @@ static void signals(void) {
     WANT(signal(SIGUSR1, SIG_DFL) == on_signal);
 }
 
+static atomic_bool is_interrupted;
+
+/* (again and again: the first may come before the call waits) */
 static void *interrupt(void *argument) {
-    usleep(20000);
-    pthread_kill(*(pthread_t *)argument, SIGUSR1);
+    while (!is_interrupted) {
+        usleep(20000);
+        pthread_kill(*(pthread_t *)argument, SIGUSR1);
+    }
     return NULL;
 }
 
@@ -272,6 +293,7 @@ static void interrupted(void) {
     signal(SIGUSR1, on_signal);
     WANT(pthread_create(&thread, NULL, interrupt, &self) == 0);
     WANT(take(kq, SOON) == -1 && errno == EINTR);
+    is_interrupted = true;
     pthread_join(thread, NULL);
     WANT(change(kq, ends[0], EVFILT_READ, EV_ENABLE, 0, 0) == -1 && errno == EBADF);
     signal(SIGUSR1, SIG_DFL);
@@ -292,14 +314,21 @@ static int has_processes(void) {
 
 static void processes(void) {
     const struct timespec none = {0, 0};
+    int gate[2];
+    char one;
+    WANT(pipe(gate) == 0);
     fflush(stdout);
     pid_t child = fork();
     if (child == 0) {
-        usleep(20000);
+        if (read(gate[0], &one, 1) != 1)
+            _exit(5);
         /* no kqueue in a child */
         _exit(kevent(kq, NULL, 0, got, 1, &none) == -1 && errno == EBADF ? 3 : 4);
     }
     WANT(change(kq, (uintptr_t)child, EVFILT_PROC, EV_ADD, NOTE_EXIT, 0) == 0 && take(kq, 0) == 0);
+    WANT(write(gate[1], "x", 1) == 1);
+    close(gate[0]);
+    close(gate[1]);
     WANT(take(kq, SOON) == 1 && got[0].ident == (uintptr_t)child && got[0].fflags == NOTE_EXIT);
     WANT(got[0].data == 3 << 8 && got[0].flags & EV_EOF && take(kq, 0) == 0);
     WANT(change(kq, (uintptr_t)child, EVFILT_PROC, EV_ADD, NOTE_EXIT, 0) == -1 && errno == ESRCH);

@@ -18,7 +18,7 @@
 #include <sys/wait.h>
 #include <unistd.h>
 
-enum { EVENTS = 32, LINE = 64, SILENT_MS = 5000, TICK = 0, TICK_MS = 10 };
+enum { EVENTS = 32, LINE = 64, SILENT_MS = 30000, TICK = 0, TICK_MS = 10 };
 
 /* What it has done. */
 static struct {
