@@ -31,15 +31,25 @@ static inline int change(int kq, uintptr_t ident, int filter, int flags, unsigne
     return kevent(kq, &it, 1, NULL, 0, NULL);
 }
 
-/* What comes within so many milliseconds. */
+/* Long enough, in milliseconds, for what is on its way. */
+enum { SOON = 10000 };
+
+static inline int64_t milliseconds_now(void) {
+    struct timespec at;
+    clock_gettime(CLOCK_MONOTONIC, &at);
+    return (int64_t)at.tv_sec * 1000 + at.tv_nsec / 1000000;
+}
+
+/* What comes within so many milliseconds. What comes only with the end of a long wait was lost until then. */
 enum { ROOM = 16 };
 static struct kevent got[ROOM];
 static inline int take(int kq, int milliseconds) {
     struct timespec left = {milliseconds / 1000, milliseconds % 1000 * 1000000};
-    return kevent(kq, NULL, 0, got, ROOM, &left);
+    int64_t start = milliseconds_now();
+    int count = kevent(kq, NULL, 0, got, ROOM, &left);
+    if (milliseconds == SOON && count > 0)
+        WANT(milliseconds_now() - start < SOON);
+    return count;
 }
-
-/* Long enough for what is on its way. */
-enum { SOON = 10000 };
 
 #endif

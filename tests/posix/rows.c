@@ -312,6 +312,42 @@ static int has_processes(void) {
     return 1;
 }
 
+static volatile sig_atomic_t storms;
+static void on_storm(int number) {
+    int kept = errno;
+    (void)number;
+    close(dup(0));
+    storms = storms + 1;
+    errno = kept;
+}
+
+static void *storm(void *argument) {
+    while (!is_interrupted)
+        pthread_kill(*(pthread_t *)argument, SIGUSR1);
+    return NULL;
+}
+
+/* A handler that closes numbers may come at any moment of a call. */
+static void storms_of_signals(void) {
+    pthread_t thread, self = pthread_self();
+    int ends[2];
+    WANT(pipe(ends) == 0 && change(kq, ends[0], EVFILT_READ, EV_ADD, 0, 0) == 0);
+    signal(SIGUSR1, on_storm);
+    is_interrupted = false;
+    WANT(pthread_create(&thread, NULL, storm, &self) == 0);
+    for (int i = 0; i < 300 || (storms < 100 && i < 100000); i++) {
+        char one;
+        int count = write(ends[1], "x", 1) == 1 ? take(kq, 0) : 0;
+        WANT(count == 1 && got[0].data == 1 && read(ends[0], &one, 1) == 1);
+    }
+    is_interrupted = true;
+    pthread_join(thread, NULL);
+    signal(SIGUSR1, SIG_DFL);
+    WANT(storms >= 100 && take(kq, 0) == 0);
+    close(ends[0]);
+    close(ends[1]);
+}
+
 static void processes(void) {
     const struct timespec none = {0, 0};
     int gate[2];
@@ -479,7 +515,7 @@ int main(void) {
     signal(SIGUSR2, SIG_IGN);
     pipes(), full_pipe(), listeners(), sockets(), connections(), datagrams(), counters(), terminals();
     timers(), timers_unseen(), user_events(), user_from_a_thread();
-    signals(), interrupted();
+    signals(), interrupted(), storms_of_signals();
     if (has_processes())
         processes(), pids_again();
     files(), files_of_two(), directories();
