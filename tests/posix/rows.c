@@ -123,6 +123,23 @@ static void sockets(void) {
     close(listener);
 }
 
+/* Two kqueues with EV_CLEAR tell of each arrival once, each. */
+static void sockets_of_two(void) {
+    int ends[2], other = kqueue();
+    char text[8];
+    WANT(socketpair(AF_UNIX, SOCK_STREAM, 0, ends) == 0);
+    WANT(change(kq, ends[0], EVFILT_READ, EV_ADD | EV_CLEAR, 0, 0) == 0 && take(kq, 0) == 0);
+    WANT(change(other, ends[0], EVFILT_READ, EV_ADD | EV_CLEAR, 0, 0) == 0 && take(other, 0) == 0);
+    for (int i = 0; i < 3; i++) {
+        WANT(write(ends[1], "12345", 5) == 5);
+        WANT(take(kq, SOON) == 1 && got[0].data == 5 && take(other, SOON) == 1 && got[0].data == 5);
+        WANT(take(kq, 0) == 0 && take(other, 0) == 0 && read(ends[0], text, 5) == 5);
+    }
+    close(other);
+    close(ends[0]);
+    close(ends[1]);
+}
+
 static void connections(void) {
     struct sockaddr_in name;
     int listener = listening(&name), a = socket(AF_INET, SOCK_STREAM | SOCK_NONBLOCK, 0), b;
@@ -513,7 +530,7 @@ int main(void) {
     kq = kqueue();
     WANT(kq >= 0);
     signal(SIGUSR2, SIG_IGN);
-    pipes(), full_pipe(), listeners(), sockets(), connections(), datagrams(), counters(), terminals();
+    pipes(), full_pipe(), listeners(), sockets(), sockets_of_two(), connections(), datagrams(), counters(), terminals();
     timers(), timers_unseen(), user_events(), user_from_a_thread();
     signals(), interrupted(), storms_of_signals();
     if (has_processes())

@@ -81,7 +81,7 @@ static void tell_entries(const struct thing *thing, uint32_t mask) {
 
 static void tell_change(struct thing *thing) {
     int64_t before = thing->file_size;
-    sample(thing, 0, 0, true);
+    sample(thing, 0, 0, EDGE);
     if (thing->file_size == before)
         record_write_of(OTHERS, thing->file, 0); /* (within what was there) */
 }

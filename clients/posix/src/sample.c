@@ -15,8 +15,8 @@
 /* Whether an edge has to be told though there is not more than before: with EV_CLEAR the program was told of what
  * waited, took it, and as much or less has come since. Without this rule a program that reads just `data` bytes of
  * each event would wait for ever. */
-static bool is_taken_and_more(const struct thing *thing, uint32_t now, bool is_edge) {
-    return is_edge && thing->was_delivered && now > 0 && now <= thing->waiting;
+static bool is_taken_and_more(const struct thing *thing, uint32_t now, enum edge edge) {
+    return edge == EDGE_AFTER_EVENT && now > 0 && now <= thing->waiting;
 }
 
 /* ---- sockets, and what is played as one */
@@ -52,7 +52,7 @@ static uint32_t bytes(const struct thing *thing, unsigned found) {
     return thing->kind == OTHER || !thing->is_stream ? 1 : 0; /* (an empty datagram; of a stream it is the end) */
 }
 
-static void sample_in(struct thing *thing, unsigned found, bool is_edge) {
+static void sample_in(struct thing *thing, unsigned found, enum edge edge) {
     uint32_t now = bytes(thing, found), fd = (uint32_t)thing->fd;
     if (thing->is_shut[KQSIM_SIDE_READ]) {
         /* (no more comes) */
@@ -62,24 +62,24 @@ static void sample_in(struct thing *thing, unsigned found, bool is_edge) {
         }
         return;
     }
-    if (is_taken_and_more(thing, now, is_edge)) {
+    if (is_taken_and_more(thing, now, edge)) {
         record_read(fd, thing->waiting);
         thing->waiting = 0;
     } else if (now < thing->waiting)
         record_read(fd, thing->waiting - now);
     if (now > thing->waiting) {
         record_rx(fd, now - thing->waiting);
-        thing->was_delivered = false;
+        thing->arrivals++;
     }
     thing->waiting = now;
 }
 
 /* All of the send buffer is free, or nothing. */
-static void sample_out(struct thing *thing, unsigned found, bool is_edge) {
+static void sample_out(struct thing *thing, unsigned found, enum edge edge) {
     bool is_free = found & (POLLOUT | POLLERR | POLLHUP);
     if (thing->is_shut[KQSIM_SIDE_WRITE])
         return;
-    if (!thing->is_full && (!is_free || (is_edge && found & POLLOUT))) {
+    if (!thing->is_full && (!is_free || (edge != NO_EDGE && found & POLLOUT))) {
         /* (an edge: it was full between two samples) */
         record_write((uint32_t)thing->fd, thing->size);
         thing->is_full = true;
@@ -120,15 +120,15 @@ static void sample_connection(struct thing *thing, unsigned found) {
     }
 }
 
-static void sample_socket(struct thing *thing, unsigned found, unsigned asked, bool is_edge) {
+static void sample_socket(struct thing *thing, unsigned found, unsigned asked, enum edge edge) {
     if (!thing->is_connected)
         sample_connection(thing, found);
     if (!thing->is_connected)
         return;
     if (asked & POLLIN)
-        sample_in(thing, found, is_edge);
+        sample_in(thing, found, edge);
     if (asked & POLLOUT)
-        sample_out(thing, found, is_edge);
+        sample_out(thing, found, edge);
     sample_ends(thing, found);
 }
 
@@ -145,27 +145,27 @@ static uint32_t connections(const struct thing *thing, unsigned found) {
     return info.tcpi_unacked > 0 ? info.tcpi_unacked : 1;
 }
 
-static void sample_listener(struct thing *thing, unsigned found, bool is_edge) {
+static void sample_listener(struct thing *thing, unsigned found, enum edge edge) {
     uint32_t now = connections(thing, found), fd = (uint32_t)thing->fd;
-    uint32_t kept = is_taken_and_more(thing, now, is_edge) ? now - 1 : now;
+    uint32_t kept = is_taken_and_more(thing, now, edge) ? now - 1 : now;
     for (; thing->waiting > kept; thing->waiting--) {
         record_accept(fd, FAR_END + fd);
         record_close(FAR_END + fd);
     }
     for (; thing->waiting < now; thing->waiting++) {
         record_arrive(fd);
-        thing->was_delivered = false;
+        thing->arrivals++;
     }
 }
 
 /* ---- pipes */
 
-static void sample_reader(struct thing *thing, unsigned found, bool is_edge) {
+static void sample_reader(struct thing *thing, unsigned found, enum edge edge) {
     uint32_t self = (uint32_t)thing->fd, now = 0;
     int count = 0;
     if (found & POLLIN && ioctl(thing->fd, FIONREAD, &count) == 0 && count > 0)
         now = (uint32_t)count < thing->size ? (uint32_t)count : thing->size;
-    if (thing->has_far_end && is_taken_and_more(thing, now, is_edge)) {
+    if (thing->has_far_end && is_taken_and_more(thing, now, edge)) {
         record_read(self, thing->waiting);
         thing->waiting = 0;
     } else if (now < thing->waiting) {
@@ -175,15 +175,15 @@ static void sample_reader(struct thing *thing, unsigned found, bool is_edge) {
     if (thing->has_far_end && now > thing->waiting) {
         record_write(FAR_END + self, now - thing->waiting);
         thing->waiting = now;
-        thing->was_delivered = false;
+        thing->arrivals++;
     }
 }
 
 /* All of the pipe is free, or nothing. */
-static void sample_writer(struct thing *thing, unsigned found, bool is_edge) {
+static void sample_writer(struct thing *thing, unsigned found, enum edge edge) {
     uint32_t self = (uint32_t)thing->fd;
     bool is_free = found & (POLLOUT | POLLERR);
-    if (thing->waiting == 0 && (!is_free || is_edge)) {
+    if (thing->waiting == 0 && (!is_free || edge != NO_EDGE)) {
         record_write(self, thing->size);
         thing->waiting = thing->size;
     }
@@ -193,11 +193,11 @@ static void sample_writer(struct thing *thing, unsigned found, bool is_edge) {
     }
 }
 
-static void sample_pipe(struct thing *thing, unsigned found, unsigned asked, bool is_edge) {
+static void sample_pipe(struct thing *thing, unsigned found, unsigned asked, enum edge edge) {
     if (thing->is_reader && asked & POLLIN)
-        sample_reader(thing, found, is_edge);
+        sample_reader(thing, found, edge);
     if (!thing->is_reader && asked & POLLOUT && thing->has_far_end)
-        sample_writer(thing, found, is_edge);
+        sample_writer(thing, found, edge);
     if (found & (POLLHUP | POLLERR) && thing->has_far_end) {
         record_close(FAR_END + (uint32_t)thing->fd);
         thing->has_far_end = false;
@@ -233,19 +233,19 @@ static void sample_file(struct thing *thing) {
 
 /* ---- all */
 
-void sample(struct thing *thing, unsigned found, unsigned asked, bool is_edge) {
+void sample(struct thing *thing, unsigned found, unsigned asked, enum edge edge) {
     if (thing->kind == SOCKET && !thing->is_connected && is_listening(thing->fd)) {
         record_listen((uint32_t)thing->fd, MOST_SIZE);
         thing->kind = LISTENER;
     }
     switch (thing->kind) {
     case SOCKET:
-    case OTHER: sample_socket(thing, found, asked, is_edge); break;
+    case OTHER: sample_socket(thing, found, asked, edge); break;
     case LISTENER:
         if (asked & POLLIN)
-            sample_listener(thing, found, is_edge);
+            sample_listener(thing, found, edge);
         break;
-    case PIPE: sample_pipe(thing, found, asked, is_edge); break;
+    case PIPE: sample_pipe(thing, found, asked, edge); break;
     case REGULAR: sample_file(thing); break;
     }
 }
@@ -262,7 +262,7 @@ void sample_alone(struct thing *thing) {
     struct pollfd one = {.fd = thing->fd, .events = POLLIN | POLLRDHUP | POLLOUT};
     if (thing->kind != REGULAR && poll_now(&one, 1) < 0)
         return;
-    sample(thing, (unsigned)one.revents, (unsigned)one.events, false);
+    sample(thing, (unsigned)one.revents, (unsigned)one.events, NO_EDGE);
 }
 
 void sample_shut_writing(int fd) {

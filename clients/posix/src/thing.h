@@ -29,11 +29,11 @@ struct thing {
     uint32_t size;    /* of the send buffer, or the pipe */
     uint32_t waiting; /* bytes, or connections */
     bool is_stream, is_internet, is_connected, is_full;
-    bool is_shut[2];    /* by enum kqsim_side */
-    bool is_reader;     /* of a pipe */
-    bool has_far_end;   /* of a pipe */
-    bool was_delivered; /* READ with EV_CLEAR, and nothing has come since */
-    uint32_t file;      /* the system's number of it */
+    bool is_shut[2];   /* by enum kqsim_side */
+    bool is_reader;    /* of a pipe */
+    bool has_far_end;  /* of a pipe */
+    uint32_t arrivals; /* how often it was told that something came */
+    uint32_t file;     /* the system's number of it */
     int64_t file_size, offset;
     nlink_t links;
     bool is_directory, is_deleted;
@@ -52,8 +52,10 @@ void things_forget_all(void);
 
 /* ---- sample.c: tells the system what the kernel says of a thing since before */
 
-/* `found` is of poll(2), and `asked` what it was asked for; is_edge: epoll has reported it. */
-void sample(struct thing *thing, unsigned found, unsigned asked, bool is_edge);
+/* Whether epoll has reported it, and whether after a READ event with EV_CLEAR, since which nothing was told to come. */
+enum edge { NO_EDGE, EDGE, EDGE_AFTER_EVENT };
+/* `found` is of poll(2), and `asked` what it was asked for. */
+void sample(struct thing *thing, unsigned found, unsigned asked, enum edge edge);
 /* poll(2) that does not wait, and is not interrupted. */
 int poll_now(struct pollfd *asked, nfds_t count);
 /* Asks poll(2) by itself. */

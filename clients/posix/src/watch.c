@@ -18,6 +18,8 @@ struct watch {
     unsigned char cold; /* filters whose event was given and reset, and of which nothing was heard since */
     int place;          /* in the list of hot ones, from 1; or 0 */
     unsigned round;
+    bool was_given;    /* READ with EV_CLEAR, when */
+    uint32_t given_at; /* so many arrivals were told */
 };
 
 static struct watch *watch_at(const struct watches *watches, int fd) {
@@ -141,14 +143,16 @@ void watch_changed(struct watches *watches, const struct shadow *shadow, int fd,
 
 void watch_given(struct watches *watches, const struct shadow *shadow, const struct kevent *event, unsigned char bit) {
     int fd = (int)event->ident;
-    struct thing *thing = thing_at(event->ident);
+    const struct thing *thing = thing_at(event->ident);
     struct watch *watch = watch_at(watches, fd);
     if (thing == NULL || watch == NULL)
         return;
     if (event->flags & (EV_CLEAR | EV_DISPATCH))
         watch->cold |= bit;
-    if (event->flags & EV_CLEAR && bit == READ_FILTER)
-        thing->was_delivered = true;
+    if (event->flags & EV_CLEAR && bit == READ_FILTER) {
+        watch->was_given = true;
+        watch->given_at = thing->arrivals;
+    }
     heat(watches, shadow, fd);
 }
 
@@ -167,7 +171,8 @@ static void take(struct watches *watches, const struct shadow *shadow, int fd, u
     watch->cold &= (unsigned char)~(asked & POLLOUT ? WRITE_FILTER : READ_FILTER | VNODE_FILTER);
     if (!(filters & WRITE_FILTER) || asked & POLLOUT)
         watch->round = watches->round; /* (else the other side is still to be asked) */
-    sample(thing, found, asked, true);
+    bool is_after_event = watch->was_given && watch->given_at == thing->arrivals;
+    sample(thing, found, asked, is_after_event ? EDGE_AFTER_EVENT : EDGE);
     heat(watches, shadow, fd);
 }
 
@@ -210,7 +215,7 @@ void watch_sample_hot(struct watches *watches, const struct shadow *shadow) {
         if (one.revents & POLLNVAL)
             world_drop(one.fd);
         else if (thing != NULL) {
-            sample(thing, (unsigned)one.revents, (unsigned)one.events, false);
+            sample(thing, (unsigned)one.revents, (unsigned)one.events, NO_EDGE);
             heat(watches, shadow, one.fd);
         }
     }
@@ -228,7 +233,7 @@ void watch_end(struct watches *watches, const struct shadow *shadow, int fd) {
     if (watch->is_out)
         epoll_ctl(watches->out, EPOLL_CTL_DEL, fd, NULL);
     watch->cold = 0;
-    watch->is_in = watch->is_out = false;
+    watch->is_in = watch->is_out = watch->was_given = false;
     heat(watches, shadow, fd);
 }
 
