@@ -367,7 +367,7 @@ static int enter(struct call *call, int kq, const struct kevent *changelist, siz
 __attribute__((visibility("default")))
 int kevent(int kq, const struct kevent *changelist, int nchanges, struct kevent *eventlist, int nevents,
            const struct timespec *timeout) {
-    struct call call = {.events = eventlist};
+    struct call call;
     if (nchanges < 0 || nevents < 0 || !is_time(timeout)) {
         errno = EINVAL;
         return -1;
@@ -381,6 +381,9 @@ int kevent(int kq, const struct kevent *changelist, int nchanges, struct kevent 
         return -1;
     }
     lock();
+    call.copy = call.few;
+    call.events = eventlist;
+    call.given = 0;
     call.room = nevents > MOST_ROOM ? MOST_ROOM : (size_t)nevents;
     call.end = end_of(timeout);
     int error = enter(&call, kq, changelist, (size_t)nchanges);

@@ -109,6 +109,10 @@ int signal_action(int number, const struct sigaction *action, struct sigaction *
 }
 
 void signals_sample(void) {
+    static unsigned long sampled;
+    if (sampled == heard)
+        return;
+    sampled = heard;
     for (int number = 1; number < SIGNALS; number++)
         if (watched[number] > 0)
             for (unsigned n = atomic_exchange(&pending[number], 0); n > 0; n--)
