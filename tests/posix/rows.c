@@ -5,6 +5,7 @@
 #include <arpa/inet.h>
 #include <errno.h>
 #include <fcntl.h>
+#include <poll.h>
 #include <pthread.h>
 #include <signal.h>
 #include <stdatomic.h>
@@ -509,6 +510,29 @@ static void many_changes(void) {
     WANT(take(kq, 0) == 0);
 }
 
+static int is_readable(int fd) {
+    struct pollfd one = {.fd = fd, .events = POLLIN};
+    return poll(&one, 1, 0) == 1;
+}
+
+/* With KQSIM_POLLABLE a kqueue is readable while events may wait. */
+static void pollable(void) {
+    int ends[2], own;
+    char text[8];
+    WANT(setenv("KQSIM_POLLABLE", "1", 1) == 0);
+    own = kqueue();
+    WANT(own >= 0 && unsetenv("KQSIM_POLLABLE") == 0 && pipe(ends) == 0);
+    WANT(change(own, ends[0], EVFILT_READ, EV_ADD, 0, 0) == 0 && take(own, 0) == 0 && !is_readable(own));
+    WANT(write(ends[1], "x", 1) == 1 && is_readable(own));
+    WANT(take(own, 0) == 1 && is_readable(own) && take(own, 0) == 1);
+    WANT(read(ends[0], text, 1) == 1 && take(own, 0) == 0 && !is_readable(own));
+    WANT(change(own, 1, EVFILT_USER, EV_ADD | EV_CLEAR, NOTE_TRIGGER, 0) == 0 && is_readable(own));
+    WANT(take(own, 0) == 1 && !is_readable(own));
+    close(own);
+    close(ends[0]);
+    close(ends[1]);
+}
+
 /* A program may close every number it knows; the library's own stay. */
 static void numbers(void) {
     int ends[2], kept = kqueue1(O_CLOEXEC);
@@ -536,7 +560,7 @@ int main(void) {
     if (has_processes())
         processes(), pids_again();
     files(), files_of_two(), directories();
-    errors(), receipts(), many_changes(), numbers();
+    errors(), receipts(), many_changes(), pollable(), numbers();
     WANT(close(kq) == 0 && take(kq, 0) == -1 && errno == EBADF);
     return check_end("rows");
 }
