@@ -35,15 +35,29 @@ static unsigned long drops;
 
 /* ---- the lock */
 
-/* Of this thread: it has the lock, or is about to; the numbers that a signal's handler closed meanwhile. */
+/* Of this thread: it has the lock, or is about to; and the numbers that a signal's handler closed meanwhile. */
 enum { MOST_LATE = 16 };
-static _Thread_local volatile sig_atomic_t is_inside, late_count;
+static _Thread_local volatile sig_atomic_t is_inside;
+static _Thread_local atomic_int late_count;
 static _Thread_local volatile int late[MOST_LATE];
 
+/* By a handler, which another may interrupt. */
+static void drop_later(int fd) {
+    int place = atomic_fetch_add(&late_count, 1);
+    if (place < MOST_LATE)
+        late[place] = fd;
+    else
+        late_count--; /* (the next change of this number finds it) */
+}
+
 static void drop_late(void) {
-    while (late_count > 0) {
-        late_count = late_count - 1;
-        world_drop(late[late_count]);
+    int count = late_count;
+    while (count > 0) {
+        int fd = late[count - 1];
+        if (!atomic_compare_exchange_strong(&late_count, &count, count - 1))
+            continue; /* (a handler came) */
+        world_drop(fd);
+        count = late_count;
     }
 }
 
@@ -252,10 +266,7 @@ bool world_closing(int fd) {
     if (!world_is_here() || fd < 0)
         return true;
     if (is_inside > 0) {
-        if (late_count < MOST_LATE) {
-            late[late_count] = fd;
-            late_count = late_count + 1;
-        }
+        drop_later(fd);
         return true;
     }
     lock();
