@@ -1,5 +1,5 @@
 -- The rows of a trace whose kqueues were replayed alone, and the faults of its report.
-use Rattle.std.proofs.Common.{◌≡◌, ℕ, ◌≤◌, ◌<◌, ◌⊎◌, List, length, Option, Some, Result, Ok, Err, IfOk, MatchResult, refl, subst, arith, ⊎_elim}
+use Rattle.std.proofs.Common.{◌≡◌, ℕ, ◌≤◌, ◌<◌, ◌⊎◌, List, length, Option, Some, Result, Ok, Err, IfOk, MatchResult, refl, sym, ap₂, ◌∙◌, subst, arith, ⊎_elim}
 use Rattle.std.proofs.lemmas.List.{length-map}
 use Rattle.kq_model.specs.declared.event.Event.{Event}
 use Rattle.kq_model.specs.declared.row.Row.{Row}
@@ -7,6 +7,7 @@ use Rattle.kq_model.specs.Births.{Birth}
 use Rattle.kq_model.specs.Reading.{Good, reading}
 use Rattle.kq_model.specs.Report.{report, report_of}
 use Rattle.kq_model.specs.System.{rows}
+use Rattle.kq_model.proofs.VersionOne.{report-version_one}
 use Rattle.kq_history.specs.Traced.{Traced, births_of, places_of}
 use Rattle.kq_trace.specs.declared.fault.TraceError.{TraceError}
 use Rattle.kq_trace.specs.declared.fault.TraceError.TheVariants as error
@@ -16,7 +17,7 @@ use Rattle.kq_trace.specs.Source.{Ahead, Had as HadAhead}
 use Rattle.kq_trace.specs.declared.input_error.InputError.{InputError}
 use Rattle.kq_trace.specs.declared.input_error.InputError.TheVariants as input
 use Rattle.kq_run.specs.Fault.{fault_of, input_fault_of}
-use Rattle.kq_run.specs.Replay.{IsFault, IsInputFault, IsReplayFault, IsSourceFault}
+use Rattle.kq_run.specs.Replay.{IsFault, IsFirstReport, IsInputFault, IsReplayFault, IsReport, IsSourceFault}
 use Rattle.kq_run.specs.Workers.{IsWorkerCount}
 use Rattle.kq_run.specs.declared.fault.Fault.{Fault}
 use Rattle.kq_run.specs.declared.fault.Fault.TheVariants.{Usage, Read, Trace, Memory, Spawn, Write}
@@ -36,6 +37,14 @@ pub report_is : (version records : ℕ) (events : List Event) (found : List Row)
     → found ≡ rows version events → text ≡ report found records → text ≡ report_of version events
 unfolding report_of
 report_is version records events found text counts are is = rw (is, counts, are) refl
+
+-- of version 1 it is that of its own definitions
+pub first-report : (bytes text : List ℕ) → IsReport bytes text → IsFirstReport bytes text
+first-report bytes text (version, es, good, is) events first =
+    let both : Good version es ≡ Good 1 events = sym good ∙ first in
+    let same_version : version ≡ 1 = cc in
+    let same_events : es ≡ events = cc in
+    is ∙ ap₂ report_of same_version same_events ∙ report-version_one events
 
 -- ---- the faults
 

@@ -3,7 +3,8 @@
 use Rattle.std.specs.Prelude.{◌≡◌, ◌≤◌, ℕ, List, length, Option}
 use Rattle.kq_model.specs.declared.event.Event.{Event}
 use Rattle.kq_model.specs.Reading.{Good, Bad, reading}
-use Rattle.kq_model.specs.Report.{report_of}
+use Rattle.kq_model.specs.Report.{report, report_of}
+use Rattle.kq_model.specs.VersionOne as one
 use Rattle.kq_history.specs.Traced.{births_of}
 use Rattle.kq_trace.specs.Source.{Ahead, WereGiven, Had as HadAhead}
 use Rattle.kq_run.specs.Workers.{IsWorkerCount}
@@ -19,6 +20,11 @@ abbrev pub IsReport : List ℕ → List ℕ → Type 0
 IsReport bytes text =
     (version : ℕ) × (events : List Event) × (reading bytes ≡ Good version events)
     × (text ≡ report_of version events)
+
+-- where these bytes are a trace of version 1, the text is its report by the definitions of that version
+abbrev pub IsFirstReport : List ℕ → List ℕ → Type 0
+IsFirstReport bytes text =
+    (events : List Event) → reading bytes ≡ Good 1 events → text ≡ report (one.rows 1 events) (length events)
 
 -- the text is the report of this trace
 abbrev pub IsReportOf : ℕ → List Event → List ℕ → Type 0

@@ -1,5 +1,5 @@
 ghost use Rattle.std.specs.Prelude.{◌↔◌, IfErr, IfOk, IsErrOf, OnOk};
-ghost use Rattle.kq_run.specs.Replay.{IsFault, IsInputFault, IsReport, IsReportFrom, IsReportIn, IsSourceFault};
+ghost use Rattle.kq_run.specs.Replay.{IsFault, IsFirstReport, IsInputFault, IsReport, IsReportFrom, IsReportIn, IsSourceFault};
 ghost use Rattle.kq_run.specs.Workers.{IsWorkerCount};
 ghost use Rattle.kq_run.specs.Written.{Leaves, Writes};
 
@@ -32,6 +32,9 @@ pub fn replay<R: AllocGlobal + Threads + Wait + Sync>(
 ) -> Result<Vec<u8>, Fault>
     ensures workers { IsErrOf result Fault.Usage ↔ ¬ IsWorkerCount workers }
     ensures report { IfOk result (λ text. IsReport bytes.now text.items) }
+
+    // A trace of version 1 has the report that it had while the format had no other version.
+    ensures version_one { IfOk result (λ text. IsFirstReport bytes.now text.items) }
     ensures fault { IfErr result (IsFault bytes.now workers) }
 {
     if !is_worker_count(workers) {
