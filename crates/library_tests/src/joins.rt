@@ -23,7 +23,10 @@ fn meets(come: &AtomicU64) -> bool {
 fn two_calls_are_made_at_once(rt: HostRuntime) {
     let come = AtomicU64::new(0);
     let joined = join(&rt, || meets(&come), || meets(&come));
-    assert_eq!(rt; (joined.first, joined.second, joined.has_started), (true, true, true));
+    assert_eq!(rt;
+        (joined.first, joined.second, joined.has_started),
+        (true, true, true)
+    );
 }
 
 #[test]
@@ -41,6 +44,9 @@ fn lent_calls_are_made_at_once(rt: HostRuntime) {
             meets(&come)
         },
     );
-    assert_eq!(rt; (joined.first, joined.second, joined.has_started), (true, true, true));
+    assert_eq!(rt;
+        (joined.first, joined.second, joined.has_started),
+        (true, true, true)
+    );
     assert_eq!(rt; (a, b), (10, 20));
 }
