@@ -1,3 +1,5 @@
+//! The report of a trace, by any number of workers.
+
 ghost use Rattle.std.specs.Prelude.{◌↔◌, IfErr, IfOk, IsErrOf, OnOk};
 ghost use Rattle.kq_run.specs.Replay.{IsFault, IsFirstReport, IsInputFault, IsReport, IsReportFrom, IsReportIn, IsSourceFault};
 ghost use Rattle.kq_run.specs.Workers.{IsWorkerCount};

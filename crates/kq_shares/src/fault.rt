@@ -1,3 +1,5 @@
+//! Why shares did not go over some records.
+
 ghost use Rattle.std.specs.Prelude.{◌≡◌};
 
 use kq_model::Memory;

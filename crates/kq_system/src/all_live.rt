@@ -1,4 +1,4 @@
-// What a record does to all live kqueues.
+//! What a record does to all live kqueues.
 ghost use Rattle.std.specs.Prelude.{◌≡◌, ◌++◌, ◌<◌, ◌≤◌, ℕ, [], map, true, nat_eq, None};
 ghost use Rattle.std.specs.Prelude.{Some, All, IfOk, IfSome};
 ghost use Rattle.std.specs.Prelude.{OnErr, OnOk};

@@ -1,4 +1,4 @@
-// What is done with one live kqueue: a call of it begins, and its queue gets another order.
+//! What is done with one live kqueue: a call of it begins, and its queue gets another order.
 ghost use Rattle.std.specs.Prelude.{◌≡◌, [], None, Some, IfOk, MatchOption, OnErr, map, nat_eq};
 ghost use Rattle.std.specs.Map.{lookup};
 ghost use Rattle.kq_kevent.specs.Arranged.{arranged};

@@ -1,3 +1,5 @@
+//! The simulated system, and its step for each record.
+
 ghost use Rattle.std.specs.Prelude.{◌≡◌, ◌+◌, ◌-◌, ◌^◌, ◌<◌, ℕ, Bool, true, false, Option, None, Some, IfOk};
 ghost use Rattle.std.specs.Prelude.{IfSome, IsOk, List, OnErr, OnOk};
 ghost use Rattle.kq_model.specs.declared.object.Named.TheVariants as named_as;
