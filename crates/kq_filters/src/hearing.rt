@@ -1,6 +1,7 @@
 ghost use Rattle.std.specs.Prelude.{◌≡◌, if◌then◌else◌};
 ghost use Rattle.kq_model.specs.Hearing.{listed};
-ghost use Rattle.kq_model.specs.Hints.{takes, kept, is_exit, added, after_hint, is_done};
+ghost use Rattle.kq_model.specs.Hints.{takes, kept, is_exit, added};
+ghost use Rattle.kq_model.specs.Alerting.{after_hint, is_done};
 ghost use Rattle.kq_model.specs.Knote as model;
 ghost use Rattle.kq_model.specs.Recast.{tallied_knote};
 

@@ -16,7 +16,8 @@ use Rattle.kq_model.specs.declared.side.Side.TheVariants as side
 use Rattle.kq_model.specs.CountedWorld.{IsCountedWorld}
 use Rattle.kq_model.specs.Descriptors.{Descriptor}
 use Rattle.kq_model.specs.Files.{DescriptionState, description_after, is_description_held}
-use Rattle.kq_model.specs.Holding.{all_held, description_holders, hold, hold_doings, holders_of, readers, socket_holders, times, writers, IsCounted, IsNamed}
+use Rattle.kq_model.specs.Holding.{hold_doings, readers, writers}
+use Rattle.kq_model.specs.Holders.{all_held, description_holders, hold, holders_of, socket_holders, times, IsCounted, IsNamed}
 use Rattle.kq_model.specs.Objects.{Objects, counted, all_done, description_view, done, kept, told_of, view_of}
 use Rattle.kq_model.specs.Pipes.{PipeState, is_pipe_held, pipe_after, pipe_view}
 use Rattle.kq_model.specs.ProcessPlans.{hold_all, inherited, names_of}

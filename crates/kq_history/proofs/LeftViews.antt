@@ -20,7 +20,8 @@ use Rattle.kq_model.specs.declared.object.Target.TheVariants as target
 use Rattle.kq_model.specs.declared.object.View.TheVariants as view
 use Rattle.kq_model.specs.declared.side.Side.TheVariants as side
 use Rattle.kq_model.specs.Files.{DescriptionState, FileState, description_after, file_after, is_description_held, may_write}
-use Rattle.kq_model.specs.Holding.{all_released, close_hint, end_hint, is_last, leaving, left, option_list, readers, release, release_all, release_doings, release_hint, release_hints, writers}
+use Rattle.kq_model.specs.Holding.{close_hint, end_hint, is_last, leaving, left, option_list, readers, release, release_all, release_doings, release_hint, release_hints, writers}
+use Rattle.kq_model.specs.Holders.{all_released}
 use Rattle.kq_model.specs.NoteBits.{note_close, note_close_write}
 use Rattle.kq_model.specs.Objects.{Objects, counted, all_done, description_view, done, kept, size_of, told_of, view_of}
 use Rattle.kq_model.specs.Pipes.{PipeState, is_pipe_held, pipe_after, pipe_view}

@@ -5,7 +5,7 @@ use Rattle.kq_model.specs.declared.filter.Filter.TheVariants.{User}
 use Rattle.kq_model.specs.declared.kevent.Kevent.{Kevent}
 use Rattle.kq_model.specs.declared.key.Key.{Key}
 use Rattle.kq_model.specs.Bits.{clear}
-use Rattle.kq_model.specs.Hearing.{tallying}
+use Rattle.kq_model.specs.Tallying.{tallying}
 use Rattle.kq_model.specs.Knote.{key_eq, has_key, find_knote}
 use Rattle.kq_model.specs.Kqueue.{is_waiting, IsSound}
 use Rattle.kq_model.specs.Tallied.{Knote, Kqueue}

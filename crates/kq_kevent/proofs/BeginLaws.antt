@@ -9,7 +9,8 @@ use Rattle.kq_model.specs.declared.reply.Reply.{Reply}
 use Rattle.kq_model.specs.Call.{Processed, entry_of, is_answered, ended, after, process, by_entries, by_answer, concluded, call}
 use Rattle.kq_model.specs.CallLaws.{kqueue_after_changes}
 use Rattle.kq_model.specs.Caller.{Caller}
-use Rattle.kq_model.specs.Hearing.{Hearing, listed, tallying}
+use Rattle.kq_model.specs.Hearing.{Hearing, listed}
+use Rattle.kq_model.specs.Tallying.{tallying}
 use Rattle.kq_model.specs.Kqueue.{Kqueue}
 use Rattle.kq_model.specs.Recast.{tallied}
 use Rattle.kq_model.specs.Registration.{register}

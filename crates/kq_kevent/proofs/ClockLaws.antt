@@ -6,12 +6,13 @@ use Rattle.std.specs.List.{AllByRecursion}
 use Rattle.std.specs.Option.{option_map}
 use Rattle.kq_model.specs.declared.key.Key.{Key}
 use Rattle.kq_model.specs.Clock.{expires_at, timers, clock_from, clocked}
-use Rattle.kq_model.specs.Hearing.{tallying}
+use Rattle.kq_model.specs.Tallying.{tallying}
 use Rattle.kq_model.specs.Knote.{key_eq, has_key, find_knote}
 use Rattle.kq_model.specs.Kqueue.{IsSound, HaveOwnKeys, is_waiting}
 use Rattle.kq_model.specs.Tallied.{Knote, Kqueue}
 use Rattle.kq_model.specs.Ticks.{last_moment}
-use Rattle.kq_model.specs.TimerWalk.{in_order, is_fresh}
+use Rattle.kq_model.specs.TimerWalk.{is_fresh}
+use Rattle.kq_model.specs.WalkedAtOnce.{in_order}
 use Rattle.kq_model.proofs.ClockLaw.{clock_from-at_once}
 use Rattle.kq_model.proofs.KeyLaws.{key_eq-sym}
 use Rattle.kq_model.proofs.KnoteLaws.{by_test}

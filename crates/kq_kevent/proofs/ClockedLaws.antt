@@ -2,7 +2,8 @@
 use Rattle.std.proofs.Common.{◌≡◌, ℤ, pos, negsuc, ◌≤ℤ◌, unsigned_abs, FitsSigned, w64, to_z, of_z, ℕ, zero, suc, ◌+◌, ◌-◌, ◌≤◌, List, [], ◌∷◌, Some, ◌⊎◌, inl, inr, sym, ap, ◌∙◌, subst, arith}
 use Rattle.std.proofs.lemmas.Int.{ints, to_z-of_z}
 use Rattle.kq_model.specs.Clock.{timers, waiting_of, kqueue_of_waiting, clock_from, clocked}
-use Rattle.kq_model.specs.Hearing.{listed, tallying}
+use Rattle.kq_model.specs.Hearing.{listed}
+use Rattle.kq_model.specs.Tallying.{tallying}
 use Rattle.kq_model.specs.Kqueue as kqueues
 use Rattle.kq_model.specs.NamedTargets.{IsNamed}
 use Rattle.kq_model.specs.Recast as recast

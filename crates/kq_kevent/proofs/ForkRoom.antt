@@ -7,7 +7,7 @@ use Rattle.kq_model.specs.declared.object.Target.TheVariants.{Process}
 use Rattle.kq_model.specs.Bits.{has_note, track_note}
 use Rattle.kq_model.specs.ChangedKnote.{activated}
 use Rattle.kq_model.specs.Following.{Fork, all_forks, forks_of, follows, followed_each, child_knote, heir, is_follower, process_key, tracks, with_heir}
-use Rattle.kq_model.specs.Hints.{added, heard_by, hears_exit, hints_for, kept, noticed, notified, unless_silent}
+use Rattle.kq_model.specs.Hints.{added, heard_by, hears_exit, hints_for, kept, alerted, notified, unless_silent}
 use Rattle.kq_model.specs.Knote.{find_knote, has_nothing}
 use Rattle.kq_model.specs.Kqueue.{HaveOwnKeys}
 use Rattle.kq_model.specs.Look.{Seen, look}
@@ -16,7 +16,7 @@ use Rattle.kq_model.specs.Tallied.{Knote, Kqueue}
 use Rattle.kq_model.specs.Targets.{Posted, is_target}
 use Rattle.kq_model.specs.Views.{Views}
 use Rattle.kq_model.proofs.Following.{heir-one, notified-most}
-use Rattle.kq_model.proofs.HintLaws.{find_knote-noticing}
+use Rattle.kq_model.proofs.HintLaws.{find_knote-alerting}
 use Rattle.kq_model.proofs.KnoteLaws.{by_test}
 use Rattle.kq_kevent.specs.Owned.{HasRoomToFollow, OwnedKqueue, limit}
 
@@ -48,10 +48,10 @@ silent-keeps false k x keeps = keeps
 silent-keeps true k x keeps = cond_both (has_nothing x) _ _ (Keeps k) (λ _. tt) (λ _. keeps)
 
 module _ (views : Views) where
-  noticed-keeps : (hints : List Hint) (k : Knote) → Keeps k (noticed views hints k)
-  unfolding noticed
-  noticed-keeps [] k = (refl, refl)
-  noticed-keeps (hint ∷ hints) k =
+  alerted-keeps : (hints : List Hint) (k : Knote) → Keeps k (alerted views hints k)
+  unfolding alerted
+  alerted-keeps [] k = (refl, refl)
+  alerted-keeps (hint ∷ hints) k =
       let heard = heard_by (hint ∷ hints) k in
       silent-keeps (hears_exit (hint ∷ hints) k) k (activated (look views heard) heard)
       (activated-keeps (look views heard) k heard (heard-keeps (hint ∷ hints) k))
@@ -63,18 +63,18 @@ module _ (views : Views) where
       ap₂ (λ t n. is_target t (Process pid) && has_note n track_note) (sym keeps.0) (sym keeps.1) ∙ does
 
   found-follows : (posted : List Posted) (pid : ℕ) (found : Option Knote)
-      → is_follower pid (option_and_then (λ (k : Knote). noticed views (hints_for k posted) k) found) ≡ true → is_follower pid found ≡ true
+      → is_follower pid (option_and_then (λ (k : Knote). alerted views (hints_for k posted) k) found) ≡ true → is_follower pid found ≡ true
   unfolding is_follower
   found-follows posted pid None does = does
   found-follows posted pid (Some k) does =
-      still-follows pid k (noticed views (hints_for k posted) k) (noticed-keeps (hints_for k posted) k) does
+      still-follows pid k (alerted views (hints_for k posted) k) (alerted-keeps (hints_for k posted) k) does
 
   pub tracks-before : (posted : List Posted) (pid : ℕ) (kq : Kqueue) → HaveOwnKeys kq.knotes
       → tracks pid (notified views posted kq) ≡ true → tracks pid kq ≡ true
   unfolding notified
   tracks-before posted pid kq own does =
       found-follows posted pid (find_knote (process_key pid) kq.knotes)
-      (sym (ap (is_follower pid) (find_knote-noticing views posted (process_key pid) kq.knotes own)) ∙ does)
+      (sym (ap (is_follower pid) (find_knote-alerting views posted (process_key pid) kq.knotes own)) ∙ does)
 
   room-for-heir : (f : Fork) (parent present : Option Knote) (q : Kqueue) (most : ℕ) (room : ℕ) → length q.knotes + room ≤ most
       → (is_follower f.parent parent ≡ true → 0 < room) → length (with_heir (heir f parent present) q).knotes ≤ most

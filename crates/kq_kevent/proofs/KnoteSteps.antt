@@ -9,7 +9,7 @@ use Rattle.kq_model.specs.Bits.{asks, add}
 use Rattle.kq_model.specs.Look.{Seen, look}
 use Rattle.kq_model.specs.Views.{Views}
 use Rattle.kq_model.specs.ChangedKnote.{started, replaced, restarted, changed, switched, activated, attended, modified}
-use Rattle.kq_model.specs.Hearing.{tallying}
+use Rattle.kq_model.specs.Tallying.{tallying}
 use Rattle.kq_model.specs.Knote.{is_timer}
 use Rattle.kq_model.specs.Registration.{is_restart}
 use Rattle.kq_model.specs.Tallied.{Knote}

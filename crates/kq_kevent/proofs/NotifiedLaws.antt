@@ -1,7 +1,8 @@
 -- What a kqueue that heard the hints of a record promises.
 use Rattle.std.proofs.Common.{◌≡◌, ℕ, List, [], sym, ◌∙◌, subst}
 use Rattle.kq_model.specs.Following.{followed}
-use Rattle.kq_model.specs.Hearing.{listed, tallying}
+use Rattle.kq_model.specs.Hearing.{listed}
+use Rattle.kq_model.specs.Tallying.{tallying}
 use Rattle.kq_model.specs.HintLaws.{IsNotified}
 use Rattle.kq_model.specs.Hints.{notified}
 use Rattle.kq_model.specs.Kqueue as kqueues

@@ -5,16 +5,16 @@ use Rattle.std.proofs.lemmas.Option.{none-some, same_Some}
 use Rattle.std.specs.List.{list_any}
 use Rattle.kq_model.specs.declared.key.Key.{Key}
 use Rattle.kq_model.specs.declared.object.Hint.{Hint}
-use Rattle.kq_model.specs.Hints.{takes, hints_for, noticed, if_there, knotes_noticing, queue_with, queue_noticing, queue_after_all, notified}
+use Rattle.kq_model.specs.Hints.{takes, hints_for, alerted, if_there, knotes_alerted, queue_with, queue_alerted, queue_after_all, notified}
 use Rattle.kq_model.specs.Knote.{find_knote, with_knote, without_knote}
 use Rattle.kq_model.specs.Kqueue.{HaveOwnKeys}
-use Rattle.kq_model.specs.Noticing.{with_noticed, noticed_in, noticed_at}
+use Rattle.kq_model.specs.Alerting.{with_alerted, alerted_in, alerted_at}
 use Rattle.kq_model.specs.Tallied.{Knote, Kqueue}
 use Rattle.kq_model.specs.Targets.{Posted, is_target}
 use Rattle.kq_model.specs.Views.{Views}
 use Rattle.kq_model.proofs.KeyLaws.{key_eq-refl}
 use Rattle.kq_model.proofs.KnoteLaws.{by_test, find_knote-head, find_knote-tail}
-use Rattle.kq_model.proofs.KnoteMiddle.{apart-middle, found-middle, with-middle, without-middle, HasKey, noticed-key}
+use Rattle.kq_model.proofs.KnoteMiddle.{apart-middle, found-middle, with-middle, without-middle, HasKey, alerted-key}
 use Rattle.kq_knote.specs.Index.{behind, first_hinted, hinted_keys, is_hinted, IsHinted}
 use Rattle.kq_knote.proofs.IndexLaws.{with_key, keys-cons}
 use Rattle.kq_knote.proofs.WalkLaws.{after, after-middle, first-cons, nothing_left, walk-none}
@@ -35,25 +35,25 @@ silent posted k none =
     ap (λ ps. filter (takes k.key.filter) (map (λ (p : Posted). p.1) ps)) (unhinted (λ (p : Posted). is_target k.target p.0) posted none)
 
 module _ (views : Views) (posted : List Posted) where
-  abbrev noticing : List Knote → List Knote
-  noticing ks = knotes_noticing views posted ks
+  abbrev alerting : List Knote → List Knote
+  alerting ks = knotes_alerted views posted ks
 
   abbrev queue_after : List Knote → List Key → List Key
   queue_after ks queue = queue_after_all views posted ks queue
 
-  skip-knotes : (k : Knote) (ks : List Knote) → is_hinted posted k ≡ false → noticing (k ∷ ks) ≡ k ∷ noticing ks
-  unfolding knotes_noticing noticed if_there
-  skip-knotes k ks none = ap (λ hints. if_there (noticed views hints k) ++ noticing ks) (silent posted k none)
+  skip-knotes : (k : Knote) (ks : List Knote) → is_hinted posted k ≡ false → alerting (k ∷ ks) ≡ k ∷ alerting ks
+  unfolding knotes_alerted alerted if_there
+  skip-knotes k ks none = ap (λ hints. if_there (alerted views hints k) ++ alerting ks) (silent posted k none)
 
   skip-queue : (k : Knote) (ks : List Knote) (queue : List Key) → is_hinted posted k ≡ false → queue_after (k ∷ ks) queue ≡ queue_after ks queue
-  unfolding queue_after_all queue_noticing
-  skip-queue k ks queue none = ap (λ hints. queue_after ks (queue_noticing views hints k queue)) (silent posted k none)
+  unfolding queue_after_all queue_alerted
+  skip-queue k ks queue none = ap (λ hints. queue_after ks (queue_alerted views hints k queue)) (silent posted k none)
 
-  quiet : (ks : List Knote) (queue : List Key) → None ≡ first_hinted posted ks → (noticing ks ≡ ks) × (queue_after ks queue ≡ queue)
-  unfolding knotes_noticing queue_after_all
+  quiet : (ks : List Knote) (queue : List Key) → None ≡ first_hinted posted ks → (alerting ks ≡ ks) × (queue_after ks queue ≡ queue)
+  unfolding knotes_alerted queue_after_all
   quiet [] queue none = (refl, refl)
   quiet (k ∷ ks) queue none =
-      by_test (λ b. is_hinted posted k ≡ b → None ≡ cond b (Some k.key) (first_hinted posted ks) → (noticing (k ∷ ks) ≡ k ∷ ks) × (queue_after (k ∷ ks) queue ≡ queue)) (is_hinted posted k)
+      by_test (λ b. is_hinted posted k ≡ b → None ≡ cond b (Some k.key) (first_hinted posted ks) → (alerting (k ∷ ks) ≡ k ∷ ks) × (queue_after (k ∷ ks) queue ≡ queue)) (is_hinted posted k)
       (λ _ _ e. absurd (none-some k.key e))
       (λ _ off e. let rest = quiet ks queue e in
       (skip-knotes k ks off ∙ ap (λ more. k ∷ more) rest.0, skip-queue k ks queue off ∙ rest.1))
@@ -68,7 +68,7 @@ module _ (views : Views) (posted : List Posted) where
     parts : ahead ≡ skipped ++ here ∷ rest
     hinted : is_hinted posted here ≡ true
     key_is : key ≡ here.key
-    knotes : noticing ahead ≡ skipped ++ noticing (here ∷ rest)
+    knotes : alerting ahead ≡ skipped ++ alerting (here ∷ rest)
     queue : (q : List Key) → queue_after ahead q ≡ queue_after (here ∷ rest) q
     keys : hinted_keys posted ahead ≡ key ∷ hinted_keys posted rest
     shorter : length rest < length ahead
@@ -111,7 +111,7 @@ module _ (views : Views) (posted : List Posted) where
   pub record IsBefore (wanted : Kqueue) (ahead : List Knote) (kq : Kqueue) : Type 0 where
     pub past : List Knote
     pub knotes : kq.knotes ≡ past ++ ahead
-    pub all_knotes : past ++ noticing ahead ≡ wanted.knotes
+    pub all_knotes : past ++ alerting ahead ≡ wanted.knotes
     pub all_queue : queue_after ahead kq.queue ≡ wanted.queue
 
   -- this is the first hinted knote of those ahead
@@ -178,36 +178,36 @@ module _ (views : Views) (posted : List Posted) where
 
   module _ (wanted : Kqueue) (all past : List Knote) (k : Knote) (ks : List Knote) (queue : List Key) (parts : all ≡ past ++ k ∷ ks)
       (gone : find_knote k.key past ≡ None) (absent : find_knote k.key ks ≡ None) where
-    after-noticed : (o : Option Knote) → HasKey k.key o → past ++ (if_there o ++ noticing ks) ≡ wanted.knotes → queue_after ks (queue_with k.key o queue) ≡ wanted.queue
-        → IsBefore wanted ks (with_noticed k o (kqueue_of all queue))
-    unfolding with_noticed queue_with if_there
-    after-noticed None same knotes queues = record {
+    after-alerted : (o : Option Knote) → HasKey k.key o → past ++ (if_there o ++ alerting ks) ≡ wanted.knotes → queue_after ks (queue_with k.key o queue) ≡ wanted.queue
+        → IsBefore wanted ks (with_alerted k o (kqueue_of all queue))
+    unfolding with_alerted queue_with if_there
+    after-alerted None same knotes queues = record {
       past = past;
       knotes = ap (without_knote k.key) parts ∙ without-middle past k ks gone absent;
       all_knotes = knotes;
       all_queue = queues;
     }
-    after-noticed (Some n) same knotes queues = record {
+    after-alerted (Some n) same knotes queues = record {
       past = past ++ n ∷ [];
       knotes = ap (with_knote n) parts ∙ with-middle past k n ks same gone absent ∙ sym (append_assoc past (n ∷ []) ks);
-      all_knotes = append_assoc past (n ∷ []) (noticing ks) ∙ knotes;
+      all_knotes = append_assoc past (n ∷ []) (alerting ks) ∙ knotes;
       all_queue = queues;
     }
 
-    after-hints : (hints : List Hint) → past ++ (if_there (noticed views hints k) ++ noticing ks) ≡ wanted.knotes → queue_after ks (queue_noticing views hints k queue) ≡ wanted.queue
-        → IsBefore wanted ks (noticed_in views hints k (kqueue_of all queue))
-    unfolding noticed_in queue_noticing noticed if_there
+    after-hints : (hints : List Hint) → past ++ (if_there (alerted views hints k) ++ alerting ks) ≡ wanted.knotes → queue_after ks (queue_alerted views hints k queue) ≡ wanted.queue
+        → IsBefore wanted ks (alerted_in views hints k (kqueue_of all queue))
+    unfolding alerted_in queue_alerted alerted if_there
     after-hints [] knotes queues = record {
       past = past ++ k ∷ [];
       knotes = parts ∙ sym (append_assoc past (k ∷ []) ks);
-      all_knotes = append_assoc past (k ∷ []) (noticing ks) ∙ knotes;
+      all_knotes = append_assoc past (k ∷ []) (alerting ks) ∙ knotes;
       all_queue = queues;
     }
-    after-hints (hint ∷ hints) knotes queues = after-noticed (noticed views (hint ∷ hints) k) (noticed-key views (hint ∷ hints) k) knotes queues
+    after-hints (hint ∷ hints) knotes queues = after-alerted (alerted views (hint ∷ hints) k) (alerted-key views (hint ∷ hints) k) knotes queues
 
-    after-knote : past ++ noticing (k ∷ ks) ≡ wanted.knotes → queue_after (k ∷ ks) queue ≡ wanted.queue
-        → IsBefore wanted ks (noticed_in views (hints_for k posted) k (kqueue_of all queue))
-    unfolding knotes_noticing queue_after_all
+    after-knote : past ++ alerting (k ∷ ks) ≡ wanted.knotes → queue_after (k ∷ ks) queue ≡ wanted.queue
+        → IsBefore wanted ks (alerted_in views (hints_for k posted) k (kqueue_of all queue))
+    unfolding knotes_alerted queue_after_all
     after-knote knotes queues = after-hints (hints_for k posted) knotes queues
 
   module _ (wanted : Kqueue) (key : Key) (kq : Kqueue) (own : HaveOwnKeys kq.knotes) (ahead : List Knote) (at : IsBefore wanted ahead kq) (is_next : Some key ≡ first_hinted posted ahead) where
@@ -236,19 +236,19 @@ module _ (views : Views) (posted : List Posted) where
     hinted-here : IsHinted posted key kq.knotes
     hinted-here k here = ap (is_hinted posted) (same_Some k next_one.here (sym here ∙ found)) ∙ next_one.hinted
 
-    goes : (after : Kqueue) → after ≡ noticed_at views posted (find_knote key kq.knotes) kq → IsBefore wanted next_one.rest after
-    unfolding noticed_at
+    goes : (after : Kqueue) → after ≡ alerted_at views posted (find_knote key kq.knotes) kq → IsBefore wanted next_one.rest after
+    unfolding alerted_at
     goes after became =
-        subst (λ (q : Kqueue). IsBefore wanted next_one.rest q) (sym (became ∙ ap (λ o. noticed_at views posted o kq) found))
+        subst (λ (q : Kqueue). IsBefore wanted next_one.rest q) (sym (became ∙ ap (λ o. alerted_at views posted o kq) found))
         (after-knote wanted kq.knotes before next_one.here next_one.rest kq.queue parts apart.0 apart.1
-        (append_assoc at.past next_one.skipped (noticing (next_one.here ∷ next_one.rest)) ∙ ap (λ more. at.past ++ more) (sym next_one.knotes) ∙ at.all_knotes)
+        (append_assoc at.past next_one.skipped (alerting (next_one.here ∷ next_one.rest)) ∙ ap (λ more. at.past ++ more) (sym next_one.knotes) ∙ at.all_knotes)
         (sym (next_one.queue kq.queue) ∙ at.all_queue))
 
   pub walk-hinted : (wanted : Kqueue) (key : Key) (left : ℕ) (kq : Kqueue) → HaveOwnKeys kq.knotes → IsAt wanted (Some key) left kq → IsHinted posted key kq.knotes
   walk-hinted wanted key left kq own at = hinted-here wanted key kq own at.ahead at.before at.next_is
 
   pub walk-goes : (wanted : Kqueue) (key : Key) (left : ℕ) (kq : Kqueue) → HaveOwnKeys kq.knotes → IsAt wanted (Some key) left kq → (next : Option Key) (fewer : ℕ) (after : Kqueue) → left ≤ fewer + 1
-      → next ≡ first_hinted posted (behind key kq.knotes) → after ≡ noticed_at views posted (find_knote key kq.knotes) kq → IsAt wanted next fewer after
+      → next ≡ first_hinted posted (behind key kq.knotes) → after ≡ alerted_at views posted (find_knote key kq.knotes) kq → IsAt wanted next fewer after
   walk-goes wanted key left kq own at next fewer after less is became =
       let one = split-next key at.ahead at.next_is in
       record {
@@ -259,8 +259,8 @@ module _ (views : Views) (posted : List Posted) where
       }
 
   pub over-goes : (wanted : Kqueue) (k : Knote) (left : ℕ) (kq : Kqueue) → HaveOwnKeys kq.knotes → IsOver wanted (Some k) left kq → (next : Option Knote) (fewer : ℕ) (became : Kqueue) → left ≤ fewer + 1
-      → next ≡ after k.key kq.knotes → became ≡ noticed_at views posted (find_knote k.key kq.knotes) kq → IsOver wanted next fewer became
-  unfolding noticed_at
+      → next ≡ after k.key kq.knotes → became ≡ alerted_at views posted (find_knote k.key kq.knotes) kq → IsOver wanted next fewer became
+  unfolding alerted_at
   over-goes wanted k left kq own over next fewer became less goes is =
       let split = split_ahead over.ahead k over.next_is in
       let past = over.before.past in
@@ -269,9 +269,9 @@ module _ (views : Views) (posted : List Posted) where
       let found = ap (find_knote k.key) parts ∙ found-middle past k split.rest apart.0 in
       record {
         ahead = split.rest;
-        before = subst (λ (q : Kqueue). IsBefore wanted split.rest q) (sym (is ∙ ap (λ o. noticed_at views posted o kq) found))
+        before = subst (λ (q : Kqueue). IsBefore wanted split.rest q) (sym (is ∙ ap (λ o. alerted_at views posted o kq) found))
             (after-knote wanted kq.knotes past k split.rest kq.queue parts apart.0 apart.1
-            (ap (λ ks. past ++ noticing ks) (sym split.is) ∙ over.before.all_knotes) (ap (λ ks. queue_after ks kq.queue) (sym split.is) ∙ over.before.all_queue));
+            (ap (λ ks. past ++ alerting ks) (sym split.is) ∙ over.before.all_knotes) (ap (λ ks. queue_after ks kq.queue) (sym split.is) ∙ over.before.all_queue));
         next_is = goes ∙ ap (after k.key) parts ∙ after-middle past k split.rest apart.0;
         few = omega (arith, over.few, less, ap (length {A = Knote}) split.is);
       }
@@ -281,7 +281,7 @@ module _ (views : Views) (posted : List Posted) where
   behind_first (key ∷ keys) = keys
 
   pub keys-go : (wanted : Kqueue) (key : Key) (keys : List Key) (kq : Kqueue) → HaveOwnKeys kq.knotes → IsAmong wanted (key ∷ keys) kq
-      → (after : Kqueue) → after ≡ noticed_at views posted (find_knote key kq.knotes) kq → IsAmong wanted keys after
+      → (after : Kqueue) → after ≡ alerted_at views posted (find_knote key kq.knotes) kq → IsAmong wanted keys after
   keys-go wanted key keys kq own among after became =
       let first : Some key ≡ first_hinted posted among.ahead = ap (λ ks. slice_get ks 0) among.keys_are in
       let one = split-next key among.ahead first in

@@ -8,7 +8,7 @@ use Rattle.kq_model.specs.Knote.{find_knote}
 use Rattle.kq_model.specs.Kqueue.{IsSound, HaveOwnKeys}
 use Rattle.kq_model.specs.Tallied.{Knote, Kqueue}
 use Rattle.kq_model.specs.Ticks.{last_moment}
-use Rattle.kq_model.specs.TimerWalk.{in_order}
+use Rattle.kq_model.specs.WalkedAtOnce.{in_order}
 use Rattle.kq_model.proofs.KnoteLaws.{HaveOwnKeys-with}
 use Rattle.kq_knote.specs.Expiring.{expiring}
 use Rattle.kq_kevent.specs.Ringing.{first_of, rung, with_rung, rung_each}

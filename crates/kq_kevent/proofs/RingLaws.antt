@@ -6,12 +6,12 @@ use Rattle.std.proofs.lemmas.Option.{none-some, same_Some}
 use Rattle.std.specs.List.{AllByRecursion}
 use Rattle.kq_model.specs.declared.key.Key.{Key}
 use Rattle.kq_model.specs.Clock.{timers}
-use Rattle.kq_model.specs.Hearing.{tallying}
+use Rattle.kq_model.specs.Tallying.{tallying}
 use Rattle.kq_model.specs.Knote.{key_eq, has_key, without_key, find_knote, with_knote}
 use Rattle.kq_model.specs.Kqueue.{HaveOwnKeys}
 use Rattle.kq_model.specs.Registration.{queue_for}
 use Rattle.kq_model.specs.Tallied.{Knote, Kqueue}
-use Rattle.kq_model.specs.TimerWalk.{rung_times}
+use Rattle.kq_model.specs.WalkedAtOnce.{rung_times}
 use Rattle.kq_model.proofs.KeyLaws.{same_key, key_eq-refl, key_eq-sym}
 use Rattle.kq_model.proofs.KnoteLaws.{by_test, find_knote-here, find_knote-later, find_knote-with_other, HaveOwnKeys-with}
 use Rattle.kq_model.proofs.TimerWalkQueue.{filter-agree, All-like, All-both}

@@ -6,12 +6,14 @@ use Rattle.kq_model.specs.declared.filter.Filter.{Filter}
 use Rattle.kq_model.specs.declared.filter.Filter.TheVariants.{Read, Write, Vnode, Proc, Signal, Timer, User, Aio, Lio, Fs, Procdesc, Sendfile, Empty}
 use Rattle.kq_model.specs.declared.object.Hint.{Hint}
 use Rattle.kq_model.specs.declared.object.Hint.TheVariants.{Readable, Writable, Note, Delivered, Child}
-use Rattle.kq_model.specs.Hearing.{Told, Tally, tallying, notes_of}
-use Rattle.kq_model.specs.Hints.{takes, kept, is_exit, added, after_hint, is_done, hints_for, notified}
+use Rattle.kq_model.specs.Hearing.{Told, notes_of}
+use Rattle.kq_model.specs.Tallying.{Tally, tallying}
+use Rattle.kq_model.specs.Hints.{takes, kept, is_exit, added, hints_for, notified}
+use Rattle.kq_model.specs.Alerting.{after_hint, is_done}
 use Rattle.kq_model.specs.Knote.{has_nothing, find_knote}
 use Rattle.kq_model.specs.Kqueue.{IsSound}
 use Rattle.kq_model.specs.Look.{look}
-use Rattle.kq_model.specs.Noticing.{is_for, left_by, with_noticed, noticed_in, noticed_at}
+use Rattle.kq_model.specs.Alerting.{is_for, left_by, with_alerted, alerted_in, alerted_at}
 use Rattle.kq_model.specs.Tallied.{Knote, Kqueue}
 use Rattle.kq_model.specs.Targets.{Posted}
 use Rattle.kq_model.specs.Views.{Views}
@@ -21,7 +23,7 @@ use Rattle.kq_kevent.specs.declared.notify.Telling.{Telling}
 use Rattle.kq_kevent.specs.Telling.{is_plain, told_one, told_all, AreLeft}
 use Rattle.kq_kevent.proofs.NotifyLaws.{keys-start, keys-go, keys-end}
 use Rattle.kq_kevent.proofs.SoundLaws.{kept-queue}
-use Rattle.kq_kevent.proofs.TellLaws.{activated-already, telling, told-noticed, untold-noticed}
+use Rattle.kq_kevent.proofs.TellLaws.{activated-already, telling, told-alerted, untold-alerted}
 use Rattle.kq_kevent.proofs.TurnLaws.{kqueue_of}
 
 or_false : (b : Bool) → b || false ≡ b
@@ -99,25 +101,25 @@ told-left (p ∷ posted) k a d left =
     (λ _ _. told-left posted k a d left.1) refl
 
 pub settled : (views : Views) (posted : List Posted) (kq : Kqueue) (k : Knote) → IsSound kq → find_knote k.key kq.knotes ≡ Some k
-    → k.active ≡ true → AreLeft k posted → noticed_in views (hints_for k posted) k kq ≡ kq
-unfolding with_noticed
+    → k.active ≡ true → AreLeft k posted → alerted_in views (hints_for k posted) k kq ≡ kq
+unfolding with_alerted
 settled views posted kq k sound there active left =
     let t = told_all posted (telling k false false) in
     let parts = told-left posted k false false left in
-    let stays : with_noticed t.knote (left_by views t.done t.knote) kq ≡ kq =
-    ap₂ (λ (n : Knote) b. with_noticed n (left_by views b n) kq) parts.0 parts.1
-    ∙ ap (λ (n : Knote). with_noticed k (Some n) kq) (activated-already (look views k) k active)
+    let stays : with_alerted t.knote (left_by views t.done t.knote) kq ≡ kq =
+    ap₂ (λ (n : Knote) b. with_alerted n (left_by views b n) kq) parts.0 parts.1
+    ∙ ap (λ (n : Knote). with_alerted k (Some n) kq) (activated-already (look views k) k active)
     ∙ ap₂ kqueue_of (with_knote-own k kq.knotes sound.own_keys there) (kept-queue kq k k sound there active refl) in
-    by_test (λ b. t.any ≡ b → noticed_in views (hints_for k posted) k kq ≡ kq) t.any
-    (λ _ any. sym (told-noticed views posted kq k t refl any) ∙ stays)
-    (λ _ none. sym (untold-noticed views posted kq k t refl none)) refl
+    by_test (λ b. t.any ≡ b → alerted_in views (hints_for k posted) k kq ≡ kq) t.any
+    (λ _ any. sym (told-alerted views posted kq k t refl any) ∙ stays)
+    (λ _ none. sym (untold-alerted views posted kq k t refl none)) refl
 
 -- where it is the one knote that hints are for, so does the kqueue as a whole
 pub settled-lone : (views : Views) (posted : List Posted) (kq : Kqueue) (k : Knote) → IsSound kq → find_knote k.key kq.knotes ≡ Some k
     → hinted_keys posted kq.knotes ≡ k.key ∷ [] → k.active ≡ true → AreLeft k posted → notified views posted kq ≡ kq
-unfolding noticed_at
+unfolding alerted_at
 settled-lone views posted kq k sound there lone active left =
     let wanted = notified views posted kq in
-    let stays = ap (λ o. noticed_at views posted o kq) there ∙ settled views posted kq k sound there active left in
+    let stays = ap (λ o. alerted_at views posted o kq) there ∙ settled views posted kq k sound there active left in
     sym (keys-end views posted wanted kq
     (keys-go views posted wanted k.key [] kq sound.own_keys (keys-start views posted kq (k.key ∷ []) (sym lone)) kq (sym stays)))

@@ -6,15 +6,16 @@ use Rattle.kq_model.specs.declared.object.Hint.{Hint}
 use Rattle.kq_model.specs.declared.key.Key.{Key}
 use Rattle.kq_model.specs.declared.object.Target.{Target}
 use Rattle.kq_model.specs.ChangedKnote.{activated}
-use Rattle.kq_model.specs.Hints.{takes, kept, is_exit, added, after_hint, is_done, hints_for}
+use Rattle.kq_model.specs.Hints.{takes, kept, is_exit, added, hints_for}
+use Rattle.kq_model.specs.Alerting.{after_hint, is_done}
 use Rattle.kq_model.specs.Knote.{has_nothing, find_knote, with_knote}
 use Rattle.kq_model.specs.Look.{Seen, look}
-use Rattle.kq_model.specs.Noticing.{is_for, heard_along, is_done_along, left_by, with_noticed, noticed_in}
+use Rattle.kq_model.specs.Alerting.{is_for, heard_along, is_done_along, left_by, with_alerted, alerted_in}
 use Rattle.kq_model.specs.Registration.{queue_for, with_removed}
 use Rattle.kq_model.specs.Tallied.{Knote, Kqueue}
 use Rattle.kq_model.specs.Targets.{Posted, is_target}
 use Rattle.kq_model.specs.Views.{Views}
-use Rattle.kq_model.proofs.HeardAlong.{after_hint-key, after_hint-target, heard_along-key, heard_along-target, activated-key, activated-target, noticed-told, tally-hears}
+use Rattle.kq_model.proofs.HeardAlong.{after_hint-key, after_hint-target, heard_along-key, heard_along-target, activated-key, activated-target, alerted-told, tally-hears}
 use Rattle.kq_model.proofs.KnoteLaws.{by_test, find_knote-key}
 use Rattle.kq_kevent.specs.declared.notify.Telling.{Telling}
 use Rattle.kq_kevent.specs.Telling.{told_one, told_all, HeardMore, StandsFor}
@@ -80,31 +81,31 @@ told-all (p ∷ posted) k a d =
 
 -- ---- what becomes of it
 
-with-same : (k next : Knote) (o : Option Knote) (kq : Kqueue) → next.key ≡ k.key → with_noticed k o kq ≡ with_noticed next o kq
-unfolding with_noticed
-with-same k next None kq same = ap (λ key. with_noticed (record k { key = key }) None kq) (sym same)
+with-same : (k next : Knote) (o : Option Knote) (kq : Kqueue) → next.key ≡ k.key → with_alerted k o kq ≡ with_alerted next o kq
+unfolding with_alerted
+with-same k next None kq same = ap (λ key. with_alerted (record k { key = key }) None kq) (sym same)
 with-same k next (Some n) kq same = refl
 
 -- where it was told something, what became of it; else nothing
-pub told-noticed : (views : Views) (posted : List Posted) (kq : Kqueue) (k : Knote) (t : Telling) → t ≡ told_all posted (telling k false false) → t.any ≡ true
-    → with_noticed t.knote (left_by views t.done t.knote) kq ≡ noticed_in views (hints_for k posted) k kq
-unfolding noticed_in
-told-noticed views posted kq k t is any = by (hints_for k posted) refl (is ∙ told-all posted k false false)
+pub told-alerted : (views : Views) (posted : List Posted) (kq : Kqueue) (k : Knote) (t : Telling) → t ≡ told_all posted (telling k false false) → t.any ≡ true
+    → with_alerted t.knote (left_by views t.done t.knote) kq ≡ alerted_in views (hints_for k posted) k kq
+unfolding alerted_in
+told-alerted views posted kq k t is any = by (hints_for k posted) refl (is ∙ told-all posted k false false)
   where
     by : (hints : List Hint) → hints_for k posted ≡ hints → t ≡ told hints k false false
-        → with_noticed t.knote (left_by views t.done t.knote) kq ≡ noticed_in views hints k kq
+        → with_alerted t.knote (left_by views t.done t.knote) kq ≡ alerted_in views hints k kq
     by [] are at = absurd (true≢false (sym any ∙ ap (λ (x : Telling). x.any) at))
     by (hint ∷ hints) are at =
-        ap (λ (x : Telling). with_noticed x.knote (left_by views x.done x.knote) kq) at
+        ap (λ (x : Telling). with_alerted x.knote (left_by views x.done x.knote) kq) at
         ∙ sym (with-same k (heard_along (hint ∷ hints) k) (left_by views (is_done_along (hint ∷ hints) k) (heard_along (hint ∷ hints) k)) kq (heard_along-key (hint ∷ hints) k))
-        ∙ ap (λ o. with_noticed k o kq) (sym (noticed-told tally-hears views posted k hint hints are))
+        ∙ ap (λ o. with_alerted k o kq) (sym (alerted-told tally-hears views posted k hint hints are))
 
-pub untold-noticed : (views : Views) (posted : List Posted) (kq : Kqueue) (k : Knote) (t : Telling) → t ≡ told_all posted (telling k false false) → t.any ≡ false
-    → kq ≡ noticed_in views (hints_for k posted) k kq
-unfolding noticed_in
-untold-noticed views posted kq k t is none = by (hints_for k posted) (is ∙ told-all posted k false false)
+pub untold-alerted : (views : Views) (posted : List Posted) (kq : Kqueue) (k : Knote) (t : Telling) → t ≡ told_all posted (telling k false false) → t.any ≡ false
+    → kq ≡ alerted_in views (hints_for k posted) k kq
+unfolding alerted_in
+untold-alerted views posted kq k t is none = by (hints_for k posted) (is ∙ told-all posted k false false)
   where
-    by : (hints : List Hint) → t ≡ told hints k false false → kq ≡ noticed_in views hints k kq
+    by : (hints : List Hint) → t ≡ told hints k false false → kq ≡ alerted_in views hints k kq
     by [] at = refl
     by (hint ∷ hints) at = absurd (true≢false (sym (ap (λ (x : Telling). x.any) at) ∙ none))
 
@@ -179,15 +180,15 @@ activated-already None k is = refl
 activated-already (Some seen) k is = ap (λ a. record k { active = a }) (sym is)
 
 pub leave-gone : (views : Views) (done : Bool) (told : Knote) (kq : Kqueue) → done ≡ true → has_nothing told ≡ true
-    → with_removed told.key kq ≡ with_noticed told (left_by views done told) kq
-unfolding with_noticed
+    → with_removed told.key kq ≡ with_alerted told (left_by views done told) kq
+unfolding with_alerted
 leave-gone views done told kq is empty =
-    ap₂ (λ a b. with_noticed told (cond (a && b) None (Some (activated (look views told) told))) kq) (sym is) (sym empty)
+    ap₂ (λ a b. with_alerted told (cond (a && b) None (Some (activated (look views told) told))) kq) (sym is) (sym empty)
 
 pub leave-stays : (views : Views) (done : Bool) (told next : Knote) (kq : Kqueue) → done && has_nothing told ≡ false
     → next ≡ activated (look views told) told
-    → kqueue_of (with_knote next kq.knotes) (queue_for next kq.queue) ≡ with_noticed told (left_by views done told) kq
-unfolding with_noticed
+    → kqueue_of (with_knote next kq.knotes) (queue_for next kq.queue) ≡ with_alerted told (left_by views done told) kq
+unfolding with_alerted
 leave-stays views done told next kq stays is =
     ap (λ (n : Knote). kqueue_of (with_knote n kq.knotes) (queue_for n kq.queue)) is
-    ∙ ap (λ b. with_noticed told (cond b None (Some (activated (look views told) told))) kq) (sym stays)
+    ∙ ap (λ b. with_alerted told (cond b None (Some (activated (look views told) told))) kq) (sym stays)

@@ -3,7 +3,7 @@ use Rattle.std.proofs.Common.{◌≡◌, ℕ, Option, Bool, true, false, cond, n
 use Rattle.std.proofs.lemmas.Bool.{true≢false, or_left}
 use Rattle.std.specs.Option.{option_map}
 use Rattle.kq_model.specs.declared.key.Key.{Key}
-use Rattle.kq_model.specs.Hearing.{tallying}
+use Rattle.kq_model.specs.Tallying.{tallying}
 use Rattle.kq_model.specs.Knote.{key_eq, has_key, find_knote, with_knote, without_knote}
 use Rattle.kq_model.specs.Kqueue.{HaveOwnKeys, is_waiting, IsSound}
 use Rattle.kq_model.specs.Look.{Seen, look}

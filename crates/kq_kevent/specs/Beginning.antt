@@ -7,7 +7,8 @@ use Rattle.kq_model.specs.declared.reply.Reply.{Reply}
 use Rattle.kq_model.specs.declared.reply.Reply.TheVariants.{Events}
 use Rattle.kq_model.specs.Call.{Called, call, process, returned}
 use Rattle.kq_model.specs.Caller.{Caller}
-use Rattle.kq_model.specs.Hearing.{Hearing, listed, tallying}
+use Rattle.kq_model.specs.Hearing.{Hearing, listed}
+use Rattle.kq_model.specs.Tallying.{tallying}
 use Rattle.kq_model.specs.Kqueue.{Kqueue}
 use Rattle.kq_model.specs.Recast.{tallied}
 use Rattle.kq_model.specs.Retrieval.{retrieval}

@@ -7,8 +7,8 @@ use Rattle.kq_model.specs.Clock.{expires_at, timers}
 use Rattle.kq_model.specs.Knote.{find_knote, with_knote}
 use Rattle.kq_model.specs.Registration.{queue_for}
 use Rattle.kq_model.specs.Tallied.{Knote, Kqueue}
-use Rattle.kq_model.specs.Ticks.{ticks_between, next_tick}
-use Rattle.kq_model.specs.TimerWalk.{rung_times}
+use Rattle.kq_model.specs.NextTicks.{ticks_between, next_tick}
+use Rattle.kq_model.specs.WalkedAtOnce.{rung_times}
 
 -- when a knote expires first after a moment; past the last moment of the clock where it does not
 abbrev pub first_of : ℕ → Knote → ℕ

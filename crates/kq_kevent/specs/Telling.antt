@@ -4,9 +4,9 @@ use Rattle.std.specs.Prelude.{None, if◌then◌else◌}
 use Rattle.kq_model.specs.declared.object.Hint.{Hint}
 use Rattle.kq_model.specs.declared.object.Hint.TheVariants.{Readable, Writable, Note, Delivered, Child}
 use Rattle.kq_model.specs.Following.{Fork}
-use Rattle.kq_model.specs.Hints.{after_hint, is_done}
+use Rattle.kq_model.specs.Alerting.{after_hint, is_done}
 use Rattle.kq_model.specs.Knote.{find_knote, with_knote}
-use Rattle.kq_model.specs.Noticing.{is_for}
+use Rattle.kq_model.specs.Alerting.{is_for}
 use Rattle.kq_model.specs.Registration.{queue_for}
 use Rattle.kq_model.specs.Tallied.{Knote, Kqueue}
 use Rattle.kq_model.specs.Targets.{Posted}

@@ -7,7 +7,7 @@ ghost use Rattle.kq_model.specs.Hints.{notified};
 ghost use Rattle.kq_model.specs.Kqueue.{HaveOwnKeys, IsSound, Kqueue};
 ghost use Rattle.kq_model.specs.Knote.{find_knote, with_knote};
 ghost use Rattle.kq_model.specs.Look.{look};
-ghost use Rattle.kq_model.specs.Noticing.{is_for, left_by, with_noticed, noticed_at};
+ghost use Rattle.kq_model.specs.Alerting.{is_for, left_by, with_alerted, alerted_at};
 ghost use Rattle.kq_model.specs.Recast as recast;
 ghost use Rattle.kq_model.specs.Registration.{queue_for};
 ghost use Rattle.kq_model.specs.Views as world;
@@ -261,7 +261,7 @@ impl Kq {
     /// leave it as it is, that is all.
     fn notice<V: Views>(&mut self, guess: Place, key: Key, hints: &[(Target, Hint)], views: &V)
         ensures kq { self.new.kq
-            ≡ noticed_at (V.sees views.now) hints.now (find_knote key self.old.kq.knotes) self.old.kq }
+            ≡ alerted_at (V.sees views.now) hints.now (find_knote key self.old.kq.knotes) self.old.kq }
         // Of every kqueue.
         ensures own_keys { HaveOwnKeys self.old.kq.knotes }
         ensures owner { self.new.owner ≡ self.old.owner }
@@ -278,7 +278,7 @@ impl Kq {
     /// Whether the knote of a key is active, and the hints are known to leave it as it is.
     fn is_settled(&self, guess: Place, key: Key, hints: &[(Target, Hint)]) -> bool
         ensures settled { result ≡ true → (seen : world.Views)
-            → noticed_at seen hints.now (find_knote key self.now.kq.knotes) self.now.kq ≡ self.now.kq }
+            → alerted_at seen hints.now (find_knote key self.now.kq.knotes) self.now.kq ≡ self.now.kq }
         // Of every kqueue.
         ensures own_keys { HaveOwnKeys self.now.kq.knotes }
     {
@@ -291,7 +291,7 @@ impl Kq {
     /// The knote of a key hears the hints for it, is looked at and goes where it belongs.
     fn tell_at<V: Views>(&mut self, guess: Place, key: Key, hints: &[(Target, Hint)], views: &V)
         ensures kq { self.new.kq
-            ≡ noticed_at (V.sees views.now) hints.now (find_knote key self.old.kq.knotes) self.old.kq }
+            ≡ alerted_at (V.sees views.now) hints.now (find_knote key self.old.kq.knotes) self.old.kq }
         ensures owner { self.new.owner ≡ self.old.owner }
         ensures version { self.new.version ≡ self.old.version }
         ensures room { self.old.room ≤ self.new.room }
@@ -311,7 +311,7 @@ impl Kq {
     fn leave<V: Views>(&mut self, found: &Placed<Knote>, told: Knote, done: bool, views: &V)
         requires stands { StandsFor found.now.row told self.old.kq.knotes }
         requires more { HeardMore found.now.row told }
-        ensures kq { self.new.kq ≡ with_noticed told (left_by (V.sees views.now) done told) self.old.kq }
+        ensures kq { self.new.kq ≡ with_alerted told (left_by (V.sees views.now) done told) self.old.kq }
         ensures owner { self.new.owner ≡ self.old.owner }
         ensures version { self.new.version ≡ self.old.version }
         ensures room { self.old.room ≤ self.new.room }

@@ -12,12 +12,13 @@ use Rattle.kq_model.specs.declared.filter.Filter.{Filter}
 use Rattle.kq_model.specs.declared.filter.Filter.TheVariants.{Timer}
 use Rattle.kq_model.specs.declared.key.Key.{Key}
 use Rattle.kq_model.specs.Clock.{expires_at, ticking}
-use Rattle.kq_model.specs.Hearing.{tallying}
+use Rattle.kq_model.specs.Tallying.{tallying}
 use Rattle.kq_model.specs.Knote.{key_eq, find_knote, with_knote, without_knote, is_timer}
 use Rattle.kq_model.specs.Kqueue.{HaveOwnKeys}
 use Rattle.kq_model.specs.Tallied.{Knote}
-use Rattle.kq_model.specs.Ticks.{last_moment, expires, first_passing, next_tick}
-use Rattle.kq_model.specs.TimerWalk.{IsFirstPassing}
+use Rattle.kq_model.specs.Ticks.{last_moment, expires}
+use Rattle.kq_model.specs.NextTicks.{first_passing, next_tick}
+use Rattle.kq_model.specs.WalkedAtOnce.{IsFirstPassing}
 use Rattle.kq_model.proofs.KeyLaws.{same_key, key_eq-refl}
 use Rattle.kq_model.proofs.KnoteLaws.{by_test, find_knote-none, find_knote-here, find_knote-later}
 use Rattle.kq_model.proofs.TicksFirst.{next_tick-is}

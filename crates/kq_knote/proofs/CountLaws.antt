@@ -7,7 +7,7 @@ use Rattle.std.proofs.lemmas.Bool.{or_right, or_left, true≢false}
 use Rattle.kq_model.specs.declared.key.Key.{Key}
 use Rattle.kq_model.specs.Knote.{key_eq, has_key, find_knote, without_knote, with_knote}
 use Rattle.kq_model.specs.Kqueue.{AreOnce, HaveOwnKeys}
-use Rattle.kq_model.specs.Hearing.{tallying}
+use Rattle.kq_model.specs.Tallying.{tallying}
 use Rattle.kq_model.specs.Tallied.{Knote}
 use Rattle.kq_model.proofs.KeyLaws.{same_key, key_eq-refl}
 use Rattle.kq_model.proofs.KnoteLaws.{by_test, find_knote-none, find_knote-later, find_knote-without_other, without_knote-absent}

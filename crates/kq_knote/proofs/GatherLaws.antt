@@ -5,7 +5,7 @@ use Rattle.std.proofs.lemmas.Option.{none-some, same_Some}
 use Rattle.std.specs.List.{list_any}
 use Rattle.kq_model.specs.declared.key.Key.{Key}
 use Rattle.kq_model.specs.declared.object.Target.{Target}
-use Rattle.kq_model.specs.Hearing.{tallying}
+use Rattle.kq_model.specs.Tallying.{tallying}
 use Rattle.kq_model.specs.Knote.{key_eq, find_knote}
 use Rattle.kq_model.specs.Kqueue.{HaveOwnKeys}
 use Rattle.kq_model.specs.Tallied.{Knote}

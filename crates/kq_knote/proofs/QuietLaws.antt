@@ -5,8 +5,9 @@ use Rattle.kq_model.specs.declared.key.Key.{Key}
 use Rattle.kq_model.specs.Clock.{expires_at}
 use Rattle.kq_model.specs.Knote.{key_eq, with_knote, without_knote}
 use Rattle.kq_model.specs.Tallied.{Knote}
-use Rattle.kq_model.specs.Ticks.{last_moment, next_tick}
-use Rattle.kq_model.specs.TimerWalk.{IsFirstPassing}
+use Rattle.kq_model.specs.Ticks.{last_moment}
+use Rattle.kq_model.specs.NextTicks.{next_tick}
+use Rattle.kq_model.specs.WalkedAtOnce.{IsFirstPassing}
 use Rattle.kq_model.proofs.TicksFirst.{next_tick-is}
 use Rattle.kq_model.proofs.TimerWalkQueue.{All-like}
 use Rattle.kq_knote.specs.Quiet.{AreQuiet, AreLater}

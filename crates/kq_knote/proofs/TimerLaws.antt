@@ -3,11 +3,13 @@ use Rattle.std.proofs.Common.{◌≡◌, ℕ, zero, suc, ◌+◌, ◌-◌, ◌<�
 use Rattle.std.specs.Int.Bits.{or_zero_r}
 use Rattle.kq_model.specs.declared.key.Key.{Key}
 use Rattle.kq_model.specs.Clock.{expires_at, timers, expired, ticking}
-use Rattle.kq_model.specs.Hearing.{Expired, Tally, tallying, most_counted, notes_of}
+use Rattle.kq_model.specs.Hearing.{Expired, most_counted, notes_of}
+use Rattle.kq_model.specs.Tallying.{Tally, tallying}
 use Rattle.kq_model.specs.Knote.{is_timer}
 use Rattle.kq_model.specs.Tallied.{Knote}
-use Rattle.kq_model.specs.Ticks.{last_moment, expires, counted, ticks_between, next_tick}
-use Rattle.kq_model.specs.TimerWalk.{rung_times}
+use Rattle.kq_model.specs.Ticks.{last_moment, expires, counted}
+use Rattle.kq_model.specs.NextTicks.{ticks_between, next_tick}
+use Rattle.kq_model.specs.WalkedAtOnce.{rung_times}
 use Rattle.kq_model.proofs.TicksFirst.{next_tick-none}
 
 -- ---- only a timer expires

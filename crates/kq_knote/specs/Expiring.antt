@@ -6,8 +6,9 @@ use Rattle.kq_model.specs.declared.key.Key.{Key}
 use Rattle.kq_model.specs.Clock.{expires_at}
 use Rattle.kq_model.specs.Knote.{find_knote, has_key}
 use Rattle.kq_model.specs.Tallied.{Knote}
-use Rattle.kq_model.specs.Ticks.{last_moment, next_tick}
-use Rattle.kq_model.specs.TimerWalk.{in_order}
+use Rattle.kq_model.specs.Ticks.{last_moment}
+use Rattle.kq_model.specs.NextTicks.{next_tick}
+use Rattle.kq_model.specs.WalkedAtOnce.{in_order}
 
 -- when a knote expires first after a moment; past the last moment of the clock where it does not
 abbrev pub next_of : ℕ → Knote → ℕ

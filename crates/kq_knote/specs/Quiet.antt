@@ -3,7 +3,7 @@ use Rattle.std.specs.Prelude.{ℕ, ◌<◌, ◌≤◌, List}
 use Rattle.std.specs.List.{AllByRecursion}
 use Rattle.kq_model.specs.Clock.{expires_at}
 use Rattle.kq_model.specs.Tallied.{Knote}
-use Rattle.kq_model.specs.Ticks.{next_tick}
+use Rattle.kq_model.specs.NextTicks.{next_tick}
 
 -- after `since` none of these knotes expires before `soonest`
 abbrev pub AreQuiet : ℕ → ℕ → List Knote → Type 0

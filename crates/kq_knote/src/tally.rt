@@ -1,5 +1,6 @@
 ghost use Rattle.std.specs.Prelude.{◌≡◌, ◌+◌, min, true, if◌then◌else◌};
-ghost use Rattle.kq_model.specs.Hearing.{Expired, Told, is_counted, is_telling, most_counted, notes_of, tallying};
+ghost use Rattle.kq_model.specs.Hearing.{Expired, Told, is_counted, most_counted, notes_of};
+ghost use Rattle.kq_model.specs.Tallying.{is_telling, tallying};
 
 use kq_model::Hint;
 use std::marker::Model;
@@ -21,9 +22,9 @@ pub struct Tally {
 }
 
 impl Model for Tally {
-    ghost use Rattle.kq_model.specs.Hearing as hearing;
+    ghost use Rattle.kq_model.specs.Tallying as tallying;
 
-    ghost Value = { hearing.Tally };
+    ghost Value = { tallying.Tally };
 
     ghost view = { λ t. record { count = t.count; notes = t.notes; told = t.told } };
 

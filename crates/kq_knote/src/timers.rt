@@ -2,8 +2,9 @@
 ghost use Rattle.std.specs.Prelude.{◌≡◌, ◌≤◌, true};
 ghost use Rattle.kq_model.specs.Clock.{expires_at, timers};
 ghost use Rattle.kq_model.specs.Knote.{is_timer};
-ghost use Rattle.kq_model.specs.Ticks.{last_moment, next_tick, ticks_between};
-ghost use Rattle.kq_model.specs.TimerWalk.{rung_times};
+ghost use Rattle.kq_model.specs.Ticks.{last_moment};
+ghost use Rattle.kq_model.specs.NextTicks.{next_tick, ticks_between};
+ghost use Rattle.kq_model.specs.WalkedAtOnce.{rung_times};
 
 use crate::Knote;
 use kq_model::Filter;

@@ -15,7 +15,7 @@ use Rattle.kq_model.specs.declared.side.Side.{Side}
 use Rattle.kq_model.specs.declared.side.Side.TheVariants as side_of
 use Rattle.kq_model.specs.CountedWorld.{IsCountedWorld}
 use Rattle.kq_model.specs.Hints.{takes}
-use Rattle.kq_model.specs.Holding.{holders_of, times, IsCounted, IsNamed}
+use Rattle.kq_model.specs.Holders.{holders_of, times, IsCounted, IsNamed}
 use Rattle.kq_model.specs.Knote.{watches_number}
 use Rattle.kq_model.specs.ListedFiles.{AreListed}
 use Rattle.kq_model.specs.Look.{Seen, mark_of, look_by, notice_or, look, process_seen}
@@ -158,16 +158,16 @@ module _ (place : ℕ) (w : World counted) (p : Plan) (c : IsCountedWorld place 
   due-told Empty watched none e = e
 
   -- a notice is seen before as after
-  noticed-told : (notice : Option ℕ) (before later : Option Seen) → (is_some later ≡ true → is_some before ≡ true)
+  alerted-told : (notice : Option ℕ) (before later : Option Seen) → (is_some later ≡ true → is_some before ≡ true)
       → is_some (notice_or notice later) ≡ true → is_some (notice_or notice before) ≡ true
   unfolding notice_or
-  noticed-told None before later told e = told e
-  noticed-told (Some parent) before later told e = refl
+  alerted-told None before later told e = told e
+  alerted-told (Some parent) before later told e = refl
 
   pub is-announced : HasSubject (targets.IsNamed (views_of w) owner) k → IsAnnounced (views_of w) p.hints (views_of after) k
   unfolding look views_of
   is-announced named none e =
-      noticed-told k.notice (look_by k.key.filter (option_and_then (λ t. view_in w t) k.target) k)
+      alerted-told k.notice (look_by k.key.filter (option_and_then (λ t. view_in w t) k.target) k)
       (look_by k.key.filter (option_and_then (λ t. view_in after t) k.target) k) (due-told k.key.filter named none) e
 
 -- of a record that is possible

@@ -20,8 +20,8 @@ use Rattle.kq_model.specs.ChangedKnote.{key_of, activated, attended, begun, fres
 use Rattle.kq_model.specs.Clock.{Span, timers, expires_at, expired, waiting_of, clock_from, clocked}
 use Rattle.kq_model.specs.Close.{Pair, is_closed, closed}
 use Rattle.kq_model.specs.Following.{Fork, process_key, follows, child_knote, heir, with_heir, heir_in, forks_in, followed_each, followed}
-use Rattle.kq_model.specs.Hearing.{tallying}
-use Rattle.kq_model.specs.Hints.{hints_for, heard_by, hears_exit, unless_silent, noticed, if_there, knotes_noticing, notified}
+use Rattle.kq_model.specs.Tallying.{tallying}
+use Rattle.kq_model.specs.Hints.{hints_for, heard_by, hears_exit, unless_silent, alerted, if_there, knotes_alerted, notified}
 use Rattle.kq_model.specs.Knote.{has_nothing, find_knote}
 use Rattle.kq_model.specs.Look.{Seen, mark_of, look_user, look_by, notice_or, look}
 use Rattle.kq_model.specs.Registration.{Refuse, Remove, Make, Modify, decision, carried_out, register}
@@ -136,11 +136,11 @@ unless_silent-awake views true k awake =
     cond_both (has_nothing k) _ _ (IfAwake views) (λ _. tt)
     (λ _. oneshot-awake views k awake)
 
-noticed-awake : (before views : Views) (hints : List Hint) (k : Knote) → IsAwake before k
-    → (hints ≡ [] → is_due views k ≡ true → is_due before k ≡ true) → IfAwake views (noticed views hints k)
-unfolding noticed IsAwake
-noticed-awake before views [] k awake announced = λ owed enabled due. awake owed enabled (announced refl due)
-noticed-awake before views (hint ∷ hints) k awake announced =
+alerted-awake : (before views : Views) (hints : List Hint) (k : Knote) → IsAwake before k
+    → (hints ≡ [] → is_due views k ≡ true → is_due before k ≡ true) → IfAwake views (alerted views hints k)
+unfolding alerted IsAwake
+alerted-awake before views [] k awake announced = λ owed enabled due. awake owed enabled (announced refl due)
+alerted-awake before views (hint ∷ hints) k awake announced =
     let heard = heard_by (hint ∷ hints) k in
     unless_silent-awake views (hears_exit (hint ∷ hints) k) (activated (look views heard) heard)
     (looked-awake views heard (look views heard) refl)
@@ -150,22 +150,22 @@ unfolding if_there
 there-awake views None awake = All-nil (IsAwake views)
 there-awake views (Some k) awake = All-cons (IsAwake views) k [] awake (All-nil (IsAwake views))
 
-noticing-awake : (before views : Views) (posted : List Posted) (ks : List Knote) → All (IsAwake before) ks
-    → All (IsAnnounced before posted views) ks → All (IsAwake views) (knotes_noticing views posted ks)
-unfolding knotes_noticing
-noticing-awake before views posted [] all announced = All-nil (IsAwake views)
-noticing-awake before views posted (k ∷ ks) all announced =
-    let found = noticed views (hints_for k posted) k in
-    All-append (IsAwake views) (if_there found) (knotes_noticing views posted ks)
-    (there-awake views found (noticed-awake before views (hints_for k posted) k (All-head (IsAwake before) k ks all)
+alerting-awake : (before views : Views) (posted : List Posted) (ks : List Knote) → All (IsAwake before) ks
+    → All (IsAnnounced before posted views) ks → All (IsAwake views) (knotes_alerted views posted ks)
+unfolding knotes_alerted
+alerting-awake before views posted [] all announced = All-nil (IsAwake views)
+alerting-awake before views posted (k ∷ ks) all announced =
+    let found = alerted views (hints_for k posted) k in
+    All-append (IsAwake views) (if_there found) (knotes_alerted views posted ks)
+    (there-awake views found (alerted-awake before views (hints_for k posted) k (All-head (IsAwake before) k ks all)
     (All-head (IsAnnounced before posted views) k ks announced)))
-    (noticing-awake before views posted ks (All-tail (IsAwake before) k ks all)
+    (alerting-awake before views posted ks (All-tail (IsAwake before) k ks all)
     (All-tail (IsAnnounced before posted views) k ks announced))
 
 pub notified-awake : (before views : Views) (posted : List Posted) (kq : Kqueue) → All (IsAwake before) kq.knotes
     → All (IsAnnounced before posted views) kq.knotes → All (IsAwake views) (notified views posted kq).knotes
 unfolding notified
-notified-awake before views posted kq all announced = noticing-awake before views posted kq.knotes all announced
+notified-awake before views posted kq all announced = alerting-awake before views posted kq.knotes all announced
 
 -- ---- children that are followed: a new knote is active
 

@@ -17,7 +17,7 @@ use Rattle.kq_model.specs.ChangedKnote.{activated}
 use Rattle.kq_model.specs.Clock.{clocked}
 use Rattle.kq_model.specs.Close.{has_pair}
 use Rattle.kq_model.specs.Following.{Fork, process_key, follows, is_follower, tracks, child_knote, heir, with_heir, all_forks, forks_of, followed_each, followed}
-use Rattle.kq_model.specs.Hints.{is_exit, takes, hints_for, added, kept, heard_by, hears_exit, unless_silent, noticed, notified}
+use Rattle.kq_model.specs.Hints.{is_exit, takes, hints_for, added, kept, heard_by, hears_exit, unless_silent, alerted, notified}
 use Rattle.kq_model.specs.Knote.{find_knote}
 use Rattle.kq_model.specs.Kqueue.{IsSound}
 use Rattle.kq_model.specs.Look.{Seen, look}
@@ -30,7 +30,7 @@ use Rattle.kq_model.specs.Tallied.{Knote, Kqueue, Live, System, World}
 use Rattle.kq_model.specs.Targets.{Posted, is_target}
 use Rattle.kq_model.specs.Views.{Views}
 use Rattle.kq_model.specs.World.{Plan, Planned, Impossible, Possible, seen_world, views_of}
-use Rattle.kq_model.proofs.HintLaws.{find_knote-noticing}
+use Rattle.kq_model.proofs.HintLaws.{find_knote-alerting}
 use Rattle.kq_model.proofs.KeyLaws.{key_eq-refl}
 use Rattle.kq_model.proofs.KnoteLaws.{by_test, found_or, find_knote-append, find_knote-here}
 use Rattle.kq_system.proofs.QuietLemmas.{closed_none}
@@ -91,8 +91,8 @@ module _ (pid child : ℕ) where
   follows-activated (Some seen) k = refl
 
   still-follows : (views : Views) (hints : List Hint) (k : Knote) → hears_exit hints k ≡ false → follows pid k ≡ true
-      → is_follower pid (noticed views hints k) ≡ true
-  unfolding noticed is_follower unless_silent
+      → is_follower pid (alerted views hints k) ≡ true
+  unfolding alerted is_follower unless_silent
   still-follows views [] k none does = does
   still-follows views (hint ∷ hints) k none does =
       let heard = heard_by (hint ∷ hints) k in
@@ -100,7 +100,7 @@ module _ (pid child : ℕ) where
       ∙ follows-activated (look views heard) heard ∙ follows-heard (hint ∷ hints) k ∙ does
 
   found-follows : (views : Views) (found : Option Knote) → is_follower pid found ≡ true
-      → is_follower pid (option_and_then (λ (k : Knote). noticed views (hints_for k told) k) found) ≡ true
+      → is_follower pid (option_and_then (λ (k : Knote). alerted views (hints_for k told) k) found) ≡ true
   unfolding is_follower
   found-follows views None does = absurd (true≢false (sym does))
   found-follows views (Some k) does = still-follows views (hints_for k told) k (told-no_exit k) does
@@ -109,15 +109,15 @@ module _ (pid child : ℕ) where
       → tracks pid (notified views told kq) ≡ true
   unfolding notified
   still-tracks views kq sound does =
-      ap (is_follower pid) (find_knote-noticing views told (process_key pid) kq.knotes sound.own_keys)
+      ap (is_follower pid) (find_knote-alerting views told (process_key pid) kq.knotes sound.own_keys)
       ∙ found-follows views (find_knote (process_key pid) kq.knotes) does
 
   still-none : (views : Views) (kq : Kqueue) → IsSound kq → find_knote (process_key child) kq.knotes ≡ None
       → find_knote (process_key child) (notified views told kq).knotes ≡ None
   unfolding notified
   still-none views kq sound none =
-      find_knote-noticing views told (process_key child) kq.knotes sound.own_keys
-      ∙ ap (option_and_then (λ (k : Knote). noticed views (hints_for k told) k)) none
+      find_knote-alerting views told (process_key child) kq.knotes sound.own_keys
+      ∙ ap (option_and_then (λ (k : Knote). alerted views (hints_for k told) k)) none
 
   -- ---- the child is followed
 

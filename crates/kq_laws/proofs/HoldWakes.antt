@@ -19,7 +19,8 @@ use Rattle.kq_model.specs.declared.object.Target.TheVariants as target
 use Rattle.kq_model.specs.declared.side.Side.{Side}
 use Rattle.kq_model.specs.declared.side.Side.TheVariants as side_of
 use Rattle.kq_model.specs.Files.{DescriptionState, description_after}
-use Rattle.kq_model.specs.Holding.{socket_holders, readers, writers, description_holders, holders_of, hold, hold_doings, end_hint, is_last, option_list, release, release_doings, release_hint, release_all, release_hints, times, IsCounted, IsNamed}
+use Rattle.kq_model.specs.Holding.{readers, writers, hold_doings, end_hint, is_last, option_list, release, release_doings, release_hint, release_all, release_hints}
+use Rattle.kq_model.specs.Holders.{socket_holders, description_holders, holders_of, hold, times, IsCounted, IsNamed}
 use Rattle.kq_model.specs.ObjectPlan as object
 use Rattle.kq_model.specs.Objects.{Objects, counted, all_done, view_of}
 use Rattle.kq_model.specs.Pipes.{PipeState}

@@ -5,17 +5,17 @@ use Rattle.kq_model.specs.declared.key.Key.{Key}
 use Rattle.kq_model.specs.Call.{call}
 use Rattle.kq_model.specs.CallLaws.{kqueue_after_changes}
 use Rattle.kq_model.specs.Caller.{Caller}
-use Rattle.kq_model.specs.Hints.{noticed, if_there, knotes_noticing, queue_noticing, queue_after_all, notified}
+use Rattle.kq_model.specs.Hints.{alerted, if_there, knotes_alerted, queue_alerted, queue_after_all, notified}
 use Rattle.kq_model.specs.Tallied.{Knote, Kqueue}
 use Rattle.kq_model.specs.Views.{Views}
 
-noticing-nothing : (views : Views) (ks : List Knote) → knotes_noticing views [] ks ≡ ks
-unfolding knotes_noticing noticed if_there
-noticing-nothing views [] = refl
-noticing-nothing views (k ∷ ks) = ap (λ rest. k ∷ rest) (noticing-nothing views ks)
+alerting-nothing : (views : Views) (ks : List Knote) → knotes_alerted views [] ks ≡ ks
+unfolding knotes_alerted alerted if_there
+alerting-nothing views [] = refl
+alerting-nothing views (k ∷ ks) = ap (λ rest. k ∷ rest) (alerting-nothing views ks)
 
 queue-nothing : (views : Views) (ks : List Knote) (queue : List Key) → queue_after_all views [] ks queue ≡ queue
-unfolding queue_after_all queue_noticing
+unfolding queue_after_all queue_alerted
 queue-nothing views [] queue = refl
 queue-nothing views (k ∷ ks) queue = queue-nothing views ks queue
 
@@ -24,7 +24,7 @@ of ks queue = record { knotes = ks; queue = queue }
 
 pub notified-nothing : (views : Views) (kq : Kqueue) → notified views [] kq ≡ kq
 unfolding notified
-notified-nothing views kq = ap₂ of (noticing-nothing views kq.knotes) (queue-nothing views kq.knotes kq.queue)
+notified-nothing views kq = ap₂ of (alerting-nothing views kq.knotes) (queue-nothing views kq.knotes kq.queue)
 
 pub call-from : (by first : Caller) (room : ℕ) (changes : List Change) (kq start : Kqueue) → by ≡ first → kq ≡ start
     → call by room changes kq ≡ call first room changes start

@@ -11,18 +11,19 @@ use Rattle.kq_model.specs.declared.object.Target.{Target}
 use Rattle.kq_model.specs.Clock.{expires_at, expired, timers, waiting_of, clock_from, clocked}
 use Rattle.kq_model.specs.Close.{Pair, is_closed, closed}
 use Rattle.kq_model.specs.Following.{Fork, process_key, follows, child_knote, heir, with_heir, heir_in, forks_in, followed_each, followed}
-use Rattle.kq_model.specs.Hearing.{tallying}
-use Rattle.kq_model.specs.Hints.{takes, hints_for, noticed, if_there, knotes_noticing, notified}
+use Rattle.kq_model.specs.Tallying.{tallying}
+use Rattle.kq_model.specs.Hints.{takes, hints_for, alerted, if_there, knotes_alerted, notified}
 use Rattle.kq_model.specs.Knote.{key_eq, find_knote}
 use Rattle.kq_model.specs.Tallied.{Knote, Kqueue}
 use Rattle.kq_model.specs.Targets.{Posted, is_target}
-use Rattle.kq_model.specs.Ticks.{last_moment, ticks_between}
+use Rattle.kq_model.specs.Ticks.{last_moment}
+use Rattle.kq_model.specs.NextTicks.{ticks_between}
 use Rattle.kq_model.specs.TimerWalk.{Waiting, rung_at, walked}
 use Rattle.kq_model.specs.Views.{Views}
 use Rattle.kq_model.proofs.KeyLaws.{same_key}
 use Rattle.kq_model.proofs.KeyLists.{and_false}
 use Rattle.kq_model.proofs.KnoteLaws.{by_test}
-use Rattle.kq_model.proofs.SubjectsCall.{noticed-subject}
+use Rattle.kq_model.proofs.SubjectsCall.{alerted-subject}
 use Rattle.kq_model.proofs.TimerWalkQueue.{filter-none}
 use Rattle.kq_laws.specs.Timers.{timer}
 use Rattle.kq_laws.proofs.Counting.{ticks-next, ticks-most, expires-at_start}
@@ -80,39 +81,39 @@ module _ (ident : ℕ) where
   other-told since now None other = tt
   other-told since now (Some k) other = λ same. absurd (true≢false (sym same ∙ other))
 
-  noticed-none : (views : Views) (k : Knote) → noticed views [] k ≡ Some k
-  unfolding noticed
-  noticed-none views k = refl
+  alerted-none : (views : Views) (k : Knote) → alerted views [] k ≡ Some k
+  unfolding alerted
+  alerted-none views k = refl
 
-  noticed-told : (since now : ℕ) (views : Views) (posted : List Posted) (k : Knote) → IsTold since now k
-      → Stays since now (noticed views (hints_for k posted) k)
-  noticed-told since now views posted k told =
-      by_test (λ b. key_eq (timer ident) k.key ≡ b → Stays since now (noticed views (hints_for k posted) k))
+  alerted-told : (since now : ℕ) (views : Views) (posted : List Posted) (k : Knote) → IsTold since now k
+      → Stays since now (alerted views (hints_for k posted) k)
+  alerted-told since now views posted k told =
+      by_test (λ b. key_eq (timer ident) k.key ≡ b → Stays since now (alerted views (hints_for k posted) k))
       (key_eq (timer ident) k.key)
-      (λ _ same. subst (λ (hints : List Hint). Stays since now (noticed views hints k)) (sym (hints-timer k posted same))
-      (subst (Stays since now) (sym (noticed-none views k)) told))
-      (λ _ other. other-told since now (noticed views (hints_for k posted) k)
-      (noticed-subject tallying Others views (hints_for k posted) k other)) refl
+      (λ _ same. subst (λ (hints : List Hint). Stays since now (alerted views hints k)) (sym (hints-timer k posted same))
+      (subst (Stays since now) (sym (alerted-none views k)) told))
+      (λ _ other. other-told since now (alerted views (hints_for k posted) k)
+      (alerted-subject tallying Others views (hints_for k posted) k other)) refl
 
   there-told : (since now : ℕ) (found : Option Knote) → Stays since now found → AreTold since now (if_there found)
   unfolding if_there
   there-told since now None told = All-nil (IsTold since now)
   there-told since now (Some k) told = All-cons (IsTold since now) k [] told (All-nil (IsTold since now))
 
-  noticing-told : (since now : ℕ) (views : Views) (posted : List Posted) (ks : List Knote) → AreTold since now ks
-      → AreTold since now (knotes_noticing views posted ks)
-  unfolding knotes_noticing
-  noticing-told since now views posted [] all = All-nil (IsTold since now)
-  noticing-told since now views posted (k ∷ ks) all =
-      let found = noticed views (hints_for k posted) k in
-      All-append (IsTold since now) (if_there found) (knotes_noticing views posted ks)
-      (there-told since now found (noticed-told since now views posted k (All-head (IsTold since now) k ks all)))
-      (noticing-told since now views posted ks (All-tail (IsTold since now) k ks all))
+  alerting-told : (since now : ℕ) (views : Views) (posted : List Posted) (ks : List Knote) → AreTold since now ks
+      → AreTold since now (knotes_alerted views posted ks)
+  unfolding knotes_alerted
+  alerting-told since now views posted [] all = All-nil (IsTold since now)
+  alerting-told since now views posted (k ∷ ks) all =
+      let found = alerted views (hints_for k posted) k in
+      All-append (IsTold since now) (if_there found) (knotes_alerted views posted ks)
+      (there-told since now found (alerted-told since now views posted k (All-head (IsTold since now) k ks all)))
+      (alerting-told since now views posted ks (All-tail (IsTold since now) k ks all))
 
   pub notified-told : (since now : ℕ) (views : Views) (posted : List Posted) (kq : Kqueue) → AreTold since now kq.knotes
       → AreTold since now (notified views posted kq).knotes
   unfolding notified
-  notified-told since now views posted kq all = noticing-told since now views posted kq.knotes all
+  notified-told since now views posted kq all = alerting-told since now views posted kq.knotes all
 
   -- ---- children that are followed: their knotes are no timers
 

@@ -12,7 +12,7 @@ use Rattle.kq_model.specs.declared.reply.Reply.{Reply}
 use Rattle.kq_model.specs.Bits.{asks, flag_if, oneshot, clear, dispatch, eof, error}
 use Rattle.kq_model.specs.Call.{entry_of, is_answered, ended, after, process, returned, by_entries, by_answer, concluded, call}
 use Rattle.kq_model.specs.Caller.{Caller}
-use Rattle.kq_model.specs.Hearing.{tallying}
+use Rattle.kq_model.specs.Tallying.{tallying}
 use Rattle.kq_model.specs.Knote.{key_eq, find_knote, with_knote}
 use Rattle.kq_model.specs.Look.{Seen, look}
 use Rattle.kq_model.specs.Registration.{register}
@@ -176,11 +176,11 @@ module _ (ident now : ℕ) where
       }) all
 
   -- a notice that was told is no timer's
-  noticed-told : (since : ℕ) (k : Knote) (kq : Kqueue) (seen : Option Seen) → key_eq (timer ident) k.key ≡ false
+  alerted-told : (since : ℕ) (k : Knote) (kq : Kqueue) (seen : Option Seen) → key_eq (timer ident) k.key ≡ false
       → All (Is since) kq.knotes → All (Is since) (with_notice_told k kq seen).knotes
   unfolding with_notice_told
-  noticed-told since k kq None other all = idle-told since k kq (apart since k other) all
-  noticed-told since k kq (Some seen) other all = with_knote-all (Is since) k kq.knotes (apart since k other) all
+  alerted-told since k kq None other all = idle-told since k kq (apart since k other) all
+  alerted-told since k kq (Some seen) other all = with_knote-all (Is since) k kq.knotes (apart since k other) all
 
   settled-timer : (since : ℕ) (views : Views) (k : Knote) (kq : Kqueue) (notice : Option ℕ) → notice ≡ None
       → key_eq (timer ident) k.key ≡ true → Is since k → All (Is since) kq.knotes
@@ -194,7 +194,7 @@ module _ (ident now : ℕ) where
   unfolding settled
   settled-other since views k kq None other all = delivered-other since k kq.knotes other all
   settled-other since views k kq (Some parent) other all =
-      noticed-told since (without_notice k) kq (look views (without_notice k)) other all
+      alerted-told since (without_notice k) kq (look views (without_notice k)) other all
 
   delivered-told : (since : ℕ) (views : Views) (k : Knote) (seen : Seen) (kq : Kqueue) → Is since k
       → All (Is since) kq.knotes

@@ -11,7 +11,8 @@ use Rattle.kq_model.specs.declared.key.Key.{Key}
 use Rattle.kq_model.specs.Bits.{asks, add, delete, clear}
 use Rattle.kq_model.specs.Caller.{Caller}
 use Rattle.kq_model.specs.ChangedKnote.{key_of, start_in, period_in, has_come, timing_in, always_clears, fresh, started, begun, replaced, restarted, changed, switched, activated, attended, made, modified}
-use Rattle.kq_model.specs.Hearing.{Expired, Tally, tallying}
+use Rattle.kq_model.specs.Hearing.{Expired}
+use Rattle.kq_model.specs.Tallying.{Tally, tallying}
 use Rattle.kq_model.specs.Knote.{key_eq, find_knote}
 use Rattle.kq_model.specs.Look.{Seen, look}
 use Rattle.kq_model.specs.Refusals.{is_malformed, is_unopened, own_refusal}

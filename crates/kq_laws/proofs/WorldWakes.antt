@@ -21,7 +21,8 @@ use Rattle.kq_model.specs.Clock.{Span}
 use Rattle.kq_model.specs.CountedWorld.{IsCountedWorld}
 use Rattle.kq_model.specs.DescriptorPlans.{close_doings, close_hints, closes, duplicated, plan_call, plan_close, plan_dup, plan_kevent, plan_kqueue}
 use Rattle.kq_model.specs.Descriptors.{Descriptor, named_among, without_closed}
-use Rattle.kq_model.specs.Holding.{hold_doings, option_list, release, release_doings, release_all, release_hint, release_hints, IsNamed}
+use Rattle.kq_model.specs.Holding.{hold_doings, option_list, release, release_doings, release_all, release_hint, release_hints}
+use Rattle.kq_model.specs.Holders.{IsNamed}
 use Rattle.kq_model.specs.Limits.{most_changes, most_room}
 use Rattle.kq_model.specs.ListedFiles.{AreListed}
 use Rattle.kq_model.specs.ObjectPlan as object

@@ -16,7 +16,8 @@ use Rattle.kq_model.specs.Caller.{Caller}
 use Rattle.kq_model.specs.Clock.{expires_at, ticking}
 use Rattle.kq_model.specs.Knote.{key_eq, find_knote}
 use Rattle.kq_model.specs.Tallied.{Knote, Kqueue}
-use Rattle.kq_model.specs.Ticks.{is_single_moment, last_moment, ticks_between}
+use Rattle.kq_model.specs.Ticks.{is_single_moment, last_moment}
+use Rattle.kq_model.specs.NextTicks.{ticks_between}
 use Rattle.kq_model.specs.Views.{Views}
 use Rattle.kq_laws.specs.Life.{Life, Step, Closes, Hints, Passes, Calls, born, stepped, lived, KeepTime}
 

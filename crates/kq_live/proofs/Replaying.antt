@@ -5,7 +5,8 @@ use Rattle.kq_model.specs.declared.event.Event.{Event}
 use Rattle.kq_model.specs.declared.filter.Filter.{Filter}
 use Rattle.kq_model.specs.declared.reply.Reply.{Reply}
 use Rattle.kq_model.specs.declared.row.Row.{Row}
-use Rattle.kq_model.specs.Hearing.{Hearing, tallying}
+use Rattle.kq_model.specs.Hearing.{Hearing}
+use Rattle.kq_model.specs.Tallying.{tallying}
 use Rattle.kq_model.specs.Objects.{Keeping, counted}
 use Rattle.kq_model.specs.Recast.{IsHearingMap, recast_system}
 use Rattle.kq_model.specs.System as system

@@ -6,7 +6,7 @@ use Rattle.kq_model.specs.Clock.{timers, waiting_of, kqueue_of_waiting, clock_fr
 use Rattle.kq_model.specs.Hearing.{Hearing}
 use Rattle.kq_model.specs.Kqueue.{Kqueue, HaveOwnKeys}
 use Rattle.kq_model.specs.Ticks.{last_moment}
-use Rattle.kq_model.specs.TimerWalk.{KeepsAlarms, tickers_at_once}
+use Rattle.kq_model.specs.WalkedAtOnce.{KeepsAlarms, tickers_at_once}
 use Rattle.kq_model.proofs.TimerWalkKeys.{key_eq-laws, distinct_keys}
 use Rattle.kq_model.proofs.TimerWalkTickers.{walked-tickers}
 

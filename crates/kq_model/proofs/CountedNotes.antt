@@ -16,7 +16,7 @@ use Rattle.kq_model.specs.Sockets as sockets
 use Rattle.kq_model.specs.Pipes as pipes
 use Rattle.kq_model.specs.Files as files
 use Rattle.kq_model.specs.Objects.{Objects, counted, done}
-use Rattle.kq_model.specs.Holding.{holders_of, is_same, one_if, times, IsCounted}
+use Rattle.kq_model.specs.Holders.{holders_of, is_same, one_if, times, IsCounted}
 use Rattle.kq_model.proofs.HeldObjects.{Ends, changed, socket_at, description_at, pipe_at}
 use Rattle.kq_model.proofs.HeldNames.{as_often, away_same, one_more}
 

@@ -25,7 +25,7 @@ use Rattle.kq_model.specs.declared.why.Why.{Why}
 use Rattle.kq_model.specs.declared.why.Why.TheVariants.{WrongKind, Absent, UsedFile, TooMany}
 use Rattle.kq_model.specs.FilePlans as file_plans
 use Rattle.kq_model.specs.Files.{DescriptionState, FileState, may_read, may_write}
-use Rattle.kq_model.specs.Holding.{IsCounted, made_names}
+use Rattle.kq_model.specs.Holders.{IsCounted, made_names}
 use Rattle.kq_model.specs.Limits.{most_file_size}
 use Rattle.kq_model.specs.NoteBits.{note_read}
 use Rattle.kq_model.specs.ObjectPlan.{ObjectPlan, Planned}

@@ -12,7 +12,7 @@ use Rattle.kq_model.specs.declared.object.Named.TheVariants as named
 use Rattle.kq_model.specs.declared.why.Why.TheVariants.{UsedDescriptor}
 use Rattle.kq_model.specs.CountedWorld.{place_named, NamesBelow, IsOwned, IsCountedWorld, Keeps, KeepsCounts}
 use Rattle.kq_model.specs.Descriptors.{Descriptor, named_among, with_descriptors}
-use Rattle.kq_model.specs.Holding.{made_names, times}
+use Rattle.kq_model.specs.Holders.{made_names, times}
 use Rattle.kq_model.specs.ObjectPlan as object
 use Rattle.kq_model.specs.ObjectPlan.{ObjectPlan}
 use Rattle.kq_model.specs.ObjectRecordPlans.{descriptor, pipe_ends, plan_accept, plan_act, plan_at, plan_open, plan_pipe, plan_socket, unless_open, with_objects}

@@ -7,7 +7,7 @@ use Rattle.kq_model.specs.declared.object.Named.TheVariants as named
 use Rattle.kq_model.specs.declared.why.Why.{Why}
 use Rattle.kq_model.specs.CountedWorld.{place_named, NamesBelow, IsOwned, IsCountedWorld, KeepsCounts}
 use Rattle.kq_model.specs.Descriptors.{Descriptor, without_closed}
-use Rattle.kq_model.specs.Holding.{holders_of, times, IsCounted}
+use Rattle.kq_model.specs.Holders.{holders_of, times, IsCounted}
 use Rattle.kq_model.specs.Objects.{counted, no_objects}
 use Rattle.kq_model.specs.Processes.{Process, is_live}
 use Rattle.kq_model.specs.World.{World, Impossible, empty_world}

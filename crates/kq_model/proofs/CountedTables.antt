@@ -9,7 +9,7 @@ use Rattle.std.specs.Prelude.{All}
 use Rattle.kq_model.specs.declared.object.Named.{Named}
 use Rattle.kq_model.specs.Close.{Pair, has_pair}
 use Rattle.kq_model.specs.Descriptors.{Descriptor, IsRising, is_before, named_among, with_descriptor, with_descriptors, without_closed}
-use Rattle.kq_model.specs.Holding.{is_same, one_if, times}
+use Rattle.kq_model.specs.Holders.{is_same, one_if, times}
 use Rattle.kq_model.specs.ProcessPlans.{descriptors_of, inheritable, inherited, is_kqueue, names_of, pairs_of}
 use Rattle.kq_model.proofs.Descriptors.{absent-head, absent-tail, with_descriptor-rising}
 use Rattle.kq_model.proofs.KnoteLaws.{by_test}

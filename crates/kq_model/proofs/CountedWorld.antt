@@ -13,7 +13,8 @@ use Rattle.kq_model.specs.Close.{has_pair}
 use Rattle.kq_model.specs.CountedWorld.{place_named, NamesBelow, IsOwned, IsCountedWorld, Keeps, KeepsCounts}
 use Rattle.kq_model.specs.Descriptors.{Descriptor, IsRising, named_among, with_descriptor, with_descriptors, without_closed}
 use Rattle.kq_model.specs.DescriptorPlans.{close_doings, close_hints, closes, duplicated, plan_call, plan_close, plan_dup, plan_kevent, plan_kqueue}
-use Rattle.kq_model.specs.Holding.{hold, hold_doings, is_same, one_if, option_list, release, release_doings, release_all, release_hint, release_hints, all_held, times, IsCounted}
+use Rattle.kq_model.specs.Holding.{hold_doings, option_list, release, release_doings, release_all, release_hint, release_hints}
+use Rattle.kq_model.specs.Holders.{hold, is_same, one_if, all_held, times, IsCounted}
 use Rattle.kq_model.specs.Limits.{most_changes, most_room}
 use Rattle.kq_model.specs.Objects.{Objects, counted, all_done}
 use Rattle.kq_model.specs.Processes.{Process, Start, Exit, Disposition, ignored_by, ignores_none, is_live, process_of, was_used, with_disposition, with_process, with_start, without_process}

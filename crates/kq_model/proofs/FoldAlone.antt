@@ -12,7 +12,7 @@ use Rattle.kq_model.specs.Clock.{clocked}
 use Rattle.kq_model.specs.Close.{Pair, has_pair, closed}
 use Rattle.kq_model.specs.Following.{Fork, forks_in, heir, with_heir, followed_each}
 use Rattle.kq_model.specs.Hearing.{Hearing}
-use Rattle.kq_model.specs.Hints.{knotes_noticing, queue_after_all, notified}
+use Rattle.kq_model.specs.Hints.{knotes_alerted, queue_after_all, notified}
 use Rattle.kq_model.specs.Knote.{find_knote}
 use Rattle.kq_model.specs.Kqueue.{Kqueue, empty_kqueue}
 use Rattle.kq_model.specs.LiveCalls.{call_of, is_live, OnLive, CallLive}
@@ -66,7 +66,7 @@ module _ {S : Type 0} (h : Hearing S) (kqueue owner : ℕ) where
   follows-nobody (f ∷ fs) = follows-nobody fs
 
   happened-empty : (m : Moment) → happened owner m nothing ≡ nothing
-  unfolding happened closed notified knotes_noticing queue_after_all
+  unfolding happened closed notified knotes_alerted queue_after_all
   happened-empty m =
       ap (clocked m.clock) (follows-nobody (forks_in m.version m.hints)) ∙ clock_stays h no_names m.clock nothing (All-nil _)
 

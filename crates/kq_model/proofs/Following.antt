@@ -4,7 +4,7 @@ use Rattle.std.proofs.lemmas.Option.{none-some, same_Some}
 use Rattle.std.proofs.lemmas.List.{length_push, length-append}
 use Rattle.kq_model.specs.Following.{Fork, process_key, follows, child_knote, heir, with_heir, heir_in, followed_each}
 use Rattle.kq_model.specs.Hearing.{Hearing}
-use Rattle.kq_model.specs.Hints.{hints_for, noticed, if_there, knotes_noticing, notified}
+use Rattle.kq_model.specs.Hints.{hints_for, alerted, if_there, knotes_alerted, notified}
 use Rattle.kq_model.specs.Knote.{Knote, find_knote}
 use Rattle.kq_model.specs.Kqueue.{Kqueue}
 use Rattle.kq_model.specs.Targets.{Posted}
@@ -46,16 +46,16 @@ module _ {S : Type 0} {h : Hearing S} where
   there-most None = omega arith
   there-most (Some k) = omega arith
 
-  noticing-most : (views : Views) (posted : List Posted) (ks : List (Knote h)) → length (knotes_noticing views posted ks) ≤ length ks
-  unfolding knotes_noticing
-  noticing-most views posted [] = omega arith
-  noticing-most views posted (k ∷ ks) =
-      let found = noticed views (hints_for k posted) k in
-      omega (arith, length-append (if_there found) (knotes_noticing views posted ks), there-most found, noticing-most views posted ks)
+  alerting-most : (views : Views) (posted : List Posted) (ks : List (Knote h)) → length (knotes_alerted views posted ks) ≤ length ks
+  unfolding knotes_alerted
+  alerting-most views posted [] = omega arith
+  alerting-most views posted (k ∷ ks) =
+      let found = alerted views (hints_for k posted) k in
+      omega (arith, length-append (if_there found) (knotes_alerted views posted ks), there-most found, alerting-most views posted ks)
 
   pub notified-most : (views : Views) (posted : List Posted) (kq : Kqueue h) → length (notified views posted kq).knotes ≤ length kq.knotes
   unfolding notified
-  notified-most views posted kq = noticing-most views posted kq.knotes
+  notified-most views posted kq = alerting-most views posted kq.knotes
 
   -- a heir needs a place
   pub heir-one : (heir : Option (Knote h)) (k : Knote h) (kq : Kqueue h) → heir ≡ Some k → length (with_heir heir kq).knotes ≡ length kq.knotes + 1

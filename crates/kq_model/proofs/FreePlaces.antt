@@ -6,7 +6,8 @@ use Rattle.kq_model.specs.declared.doing.Doing.TheVariants.{ToSocket, ToPipe, To
 use Rattle.kq_model.specs.declared.object.Named.{Named}
 use Rattle.kq_model.specs.declared.object.Named.TheVariants.{Socket, PipeRead, PipeWrite, Open}
 use Rattle.kq_model.specs.Files.{DescriptionState, is_description_held}
-use Rattle.kq_model.specs.Holding.{socket_holders, readers, writers, description_holders, holders_of, hold, release, times, AreHeld, IsCounted}
+use Rattle.kq_model.specs.Holding.{readers, writers, release}
+use Rattle.kq_model.specs.Holders.{socket_holders, description_holders, holders_of, hold, times, AreHeld, IsCounted}
 use Rattle.kq_model.specs.Objects.{Objects, counted, no_objects, told_of, done, all_done, IsFree}
 use Rattle.kq_model.specs.Pipes.{PipeState, is_pipe_held}
 use Rattle.kq_model.specs.Sockets.{SocketState, is_socket_held}

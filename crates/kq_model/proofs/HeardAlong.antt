@@ -10,11 +10,13 @@ use Rattle.kq_model.specs.declared.key.Key.{Key}
 use Rattle.kq_model.specs.declared.object.Hint.{Hint}
 use Rattle.kq_model.specs.declared.object.View.{View}
 use Rattle.kq_model.specs.ChangedKnote.{activated}
-use Rattle.kq_model.specs.Hearing.{Hearing, Occurrence, Told, Tally, tallying, is_counted, is_telling, most_counted}
-use Rattle.kq_model.specs.Hints.{takes, kept, is_exit, is_done, added, heard_by, hears_exit, after_hint, hints_for, unless_silent, noticed}
+use Rattle.kq_model.specs.Hearing.{Hearing, Occurrence, Told, is_counted, most_counted}
+use Rattle.kq_model.specs.Tallying.{Tally, tallying, is_telling}
+use Rattle.kq_model.specs.Hints.{takes, kept, is_exit, added, heard_by, hears_exit, hints_for, unless_silent, alerted}
+use Rattle.kq_model.specs.Alerting.{is_done, after_hint}
 use Rattle.kq_model.specs.Knote.{Knote, has_nothing}
 use Rattle.kq_model.specs.Look.{Seen, look, look_by, look_user, mark_of, notice_or}
-use Rattle.kq_model.specs.Noticing.{heard_along, is_done_along, left_by}
+use Rattle.kq_model.specs.Alerting.{heard_along, is_done_along, left_by}
 use Rattle.kq_model.specs.Targets.{Posted}
 use Rattle.kq_model.specs.Views.{Views}
 use Rattle.kq_model.proofs.KnoteLaws.{by_test}
@@ -241,10 +243,10 @@ module _ {S : Type 0} {h : Hearing S} where
         ∙ ap (λ b. is_exit k.key.filter hint || b)
         (done-along hints n e ∙ ap (λ (key : Key). list_any (is_exit key.filter) hints) (after_hint-key hint k))
 
-    noticed-along : (views : Views) (hint : Hint) (hints : List Hint) (k : Knote h) → AreTaken k.key.filter (hint ∷ hints)
-        → noticed views (hint ∷ hints) k ≡ left_by views (is_done_along (hint ∷ hints) k) (heard_along (hint ∷ hints) k)
-    unfolding noticed
-    noticed-along views hint hints k taken =
+    alerted-along : (views : Views) (hint : Hint) (hints : List Hint) (k : Knote h) → AreTaken k.key.filter (hint ∷ hints)
+        → alerted views (hint ∷ hints) k ≡ left_by views (is_done_along (hint ∷ hints) k) (heard_along (hint ∷ hints) k)
+    unfolding alerted
+    alerted-along views hint hints k taken =
         let n = heard_along (hint ∷ hints) k in
         exit_or_not views (hears_exit (hint ∷ hints) k) k.oneshot (heard_by (hint ∷ hints) k) (heard_by-same_oneshot (hint ∷ hints) k)
         ∙ ap (left_by views (hears_exit (hint ∷ hints) k)) (sym (heard_along-is (hint ∷ hints) k taken))
@@ -252,11 +254,11 @@ module _ {S : Type 0} {h : Hearing S} where
         (Some (activated (look views n) n)) (done-along (hint ∷ hints) k))
 
     -- what becomes of a knote that was told the hints for it
-    pub noticed-told : (views : Views) (posted : List Posted) (k : Knote h) (hint : Hint) (hints : List Hint)
+    pub alerted-told : (views : Views) (posted : List Posted) (k : Knote h) (hint : Hint) (hints : List Hint)
         → hints_for k posted ≡ hint ∷ hints
-        → noticed views (hint ∷ hints) k ≡ left_by views (is_done_along (hint ∷ hints) k) (heard_along (hint ∷ hints) k)
-    noticed-told views posted k hint hints is =
-        noticed-along views hint hints k (subst (AreTaken k.key.filter) is (taken-filter k.key.filter _))
+        → alerted views (hint ∷ hints) k ≡ left_by views (is_done_along (hint ∷ hints) k) (heard_along (hint ∷ hints) k)
+    alerted-told views posted k hint hints is =
+        alerted-along views hint hints k (subst (AreTaken k.key.filter) is (taken-filter k.key.filter _))
 
 -- a tally that is empty was so before
 pub tally-hears : (x : Occurrence) (t : Tally) → tallying.is_empty (tallying.heard x t) ≡ true → tallying.is_empty t ≡ true

@@ -10,7 +10,8 @@ use Rattle.kq_model.specs.declared.object.Named.TheVariants.{Socket, PipeRead, P
 use Rattle.kq_model.specs.declared.side.Side.TheVariants as side
 use Rattle.kq_model.specs.Files.{DescriptionState, FileState}
 use Rattle.kq_model.specs.Objects.{Objects, counted, quantities, done, all_done}
-use Rattle.kq_model.specs.Holding.{holders_of, hold_doings, hold, leaving, left, release_doings, release, all_held, all_released, is_last, is_same, one_if, times, IsCounted, IsNamed}
+use Rattle.kq_model.specs.Holding.{hold_doings, leaving, left, release_doings, release, is_last}
+use Rattle.kq_model.specs.Holders.{holders_of, hold, all_held, all_released, is_same, one_if, times, IsCounted, IsNamed}
 use Rattle.kq_model.proofs.HeldObjects.{eq-swapped, Ends, socket_at, description_at, pipe_at}
 
 -- the second list names n once more than the first

@@ -13,7 +13,8 @@ use Rattle.kq_model.specs.Sockets.{SocketState}
 use Rattle.kq_model.specs.Pipes.{PipeState}
 use Rattle.kq_model.specs.Files.{DescriptionState, FileState}
 use Rattle.kq_model.specs.Objects.{counted, kept, told_of}
-use Rattle.kq_model.specs.Holding.{socket_holders, readers, writers, description_holders}
+use Rattle.kq_model.specs.Holding.{readers, writers}
+use Rattle.kq_model.specs.Holders.{socket_holders, description_holders}
 
 pub eq-swapped : (a b : ℕ) → nat_eq a b ≡ nat_eq b a
 eq-swapped a b = grind (arith, nat_tests)

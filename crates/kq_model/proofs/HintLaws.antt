@@ -9,7 +9,7 @@ use Rattle.kq_model.specs.declared.key.Key.{Key}
 use Rattle.kq_model.specs.CallLaws.{AreInOrder}
 use Rattle.kq_model.specs.Hearing.{Hearing}
 use Rattle.kq_model.specs.HintLaws.{begins_to_wait, IsNotified}
-use Rattle.kq_model.specs.Hints.{hints_for, noticed, if_there, knotes_noticing, queue_after_all, notified}
+use Rattle.kq_model.specs.Hints.{hints_for, alerted, if_there, knotes_alerted, queue_after_all, notified}
 use Rattle.kq_model.specs.Knote.{Knote, key_eq, has_key, find_knote}
 use Rattle.kq_model.specs.Kqueue.{Kqueue, AreOnce, HaveOwnKeys, is_waiting, IsSound}
 use Rattle.kq_model.specs.RegistrationLaws.{keys_of}
@@ -18,47 +18,47 @@ use Rattle.kq_model.specs.Views.{Views}
 use Rattle.kq_model.proofs.KeyLaws.{same_key, key_eq-refl, key_eq-sym, has_key-append, has_key-without_other}
 use Rattle.kq_model.proofs.KeyLists.{and_false, or_false, has_key-filter, AreOnce-filter, AreOnce-append, filter_agree_among, filter_both, filter_true}
 use Rattle.kq_model.proofs.KnoteLaws.{by_test, found_or, find_knote-none, find_knote-key, find_knote-head, find_knote-tail, find_knote-here, find_knote-later, find_knote-append}
-use Rattle.kq_model.proofs.NoticedKnote.{neither, waits_after, AgreeBesides, Follows, noticed-follows, staying, coming, queue_noticing-is, if_there-other, if_there-same, or_nothing}
+use Rattle.kq_model.proofs.AlertedKnote.{neither, waits_after, AgreeBesides, Follows, alerted-follows, staying, coming, queue_alerted-is, if_there-other, if_there-same, or_nothing}
 
 module _ {S : Type 0} {h : Hearing S} where
   -- ---- the list of knotes, in a world and with hints
 
   module _ (views : Views) (posted : List Posted) where
     abbrev left : Knote h → Option (Knote h)
-    left k = noticed views (hints_for k posted) k
+    left k = alerted views (hints_for k posted) k
 
     left-follows : (k : Knote h) → Follows k (left k)
-    left-follows k = noticed-follows views (hints_for k posted) k
+    left-follows k = alerted-follows views (hints_for k posted) k
 
-    abbrev noticing : List (Knote h) → List (Knote h)
-    noticing ks = knotes_noticing views posted ks
+    abbrev alerting : List (Knote h) → List (Knote h)
+    alerting ks = knotes_alerted views posted ks
 
-    noticing-absent : (key : Key) (ks : List (Knote h)) → find_knote key ks ≡ None → find_knote key (noticing ks) ≡ None
-    unfolding knotes_noticing
-    noticing-absent key [] absent = find_knote-none h key
-    noticing-absent key (k ∷ ks) absent =
-        find_knote-append key (if_there (left k)) (noticing ks)
-        ∙ ap (λ f. found_or f (find_knote key (noticing ks)))
+    alerting-absent : (key : Key) (ks : List (Knote h)) → find_knote key ks ≡ None → find_knote key (alerting ks) ≡ None
+    unfolding knotes_alerted
+    alerting-absent key [] absent = find_knote-none h key
+    alerting-absent key (k ∷ ks) absent =
+        find_knote-append key (if_there (left k)) (alerting ks)
+        ∙ ap (λ f. found_or f (find_knote key (alerting ks)))
         (if_there-other key k (left k) (left-follows k) (find_knote-head key k ks absent))
-        ∙ noticing-absent key ks (find_knote-tail key k ks absent)
+        ∙ alerting-absent key ks (find_knote-tail key k ks absent)
 
     -- the knote of a key is what is left of the one that it had
-    pub find_knote-noticing : (key : Key) (ks : List (Knote h)) → HaveOwnKeys ks
-        → find_knote key (noticing ks) ≡ option_and_then left (find_knote key ks)
-    unfolding knotes_noticing
-    find_knote-noticing key [] own =
+    pub find_knote-alerting : (key : Key) (ks : List (Knote h)) → HaveOwnKeys ks
+        → find_knote key (alerting ks) ≡ option_and_then left (find_knote key ks)
+    unfolding knotes_alerted
+    find_knote-alerting key [] own =
         find_knote-none h key ∙ sym (ap (option_and_then left) (find_knote-none h key))
-    find_knote-noticing key (k ∷ ks) own =
-        by_test (λ b. key_eq key k.key ≡ b → find_knote key (if_there (left k) ++ noticing ks)
+    find_knote-alerting key (k ∷ ks) own =
+        by_test (λ b. key_eq key k.key ≡ b → find_knote key (if_there (left k) ++ alerting ks)
         ≡ option_and_then left (find_knote key (k ∷ ks))) (key_eq key k.key)
-        (λ _ same. find_knote-append key (if_there (left k)) (noticing ks)
-        ∙ ap (found_or (find_knote key (if_there (left k)))) (noticing-absent key ks
+        (λ _ same. find_knote-append key (if_there (left k)) (alerting ks)
+        ∙ ap (found_or (find_knote key (if_there (left k)))) (alerting-absent key ks
         (subst (λ (o : Key). find_knote o ks ≡ None) (sym (same_key key k.key same)) own.0))
         ∙ or_nothing (find_knote key (if_there (left k))) ∙ if_there-same key k (left k) (left-follows k) same
         ∙ sym (ap (option_and_then left) (find_knote-here key k ks same)))
-        (λ _ apart. find_knote-append key (if_there (left k)) (noticing ks)
-        ∙ ap (λ f. found_or f (find_knote key (noticing ks))) (if_there-other key k (left k) (left-follows k) apart)
-        ∙ find_knote-noticing key ks own.1 ∙ sym (ap (option_and_then left) (find_knote-later key k ks apart))) refl
+        (λ _ apart. find_knote-append key (if_there (left k)) (alerting ks)
+        ∙ ap (λ f. found_or f (find_knote key (alerting ks))) (if_there-other key k (left k) (left-follows k) apart)
+        ∙ find_knote-alerting key ks own.1 ∙ sym (ap (option_and_then left) (find_knote-later key k ks apart))) refl
 
     HaveOwnKeys-led : (k : Knote h) (found : Option (Knote h)) (ks : List (Knote h)) → Follows k found
         → find_knote k.key ks ≡ None → HaveOwnKeys ks → HaveOwnKeys (if_there found ++ ks)
@@ -67,12 +67,12 @@ module _ {S : Type 0} {h : Hearing S} where
     HaveOwnKeys-led k (Some x) ks follows absent own =
         (subst (λ (o : Key). find_knote o ks ≡ None) (sym follows.0) absent, own)
 
-    HaveOwnKeys-noticing : (ks : List (Knote h)) → HaveOwnKeys ks → HaveOwnKeys (noticing ks)
-    unfolding knotes_noticing
-    HaveOwnKeys-noticing [] own = tt
-    HaveOwnKeys-noticing (k ∷ ks) own =
-        HaveOwnKeys-led k (left k) (noticing ks) (left-follows k) (noticing-absent k.key ks own.0)
-        (HaveOwnKeys-noticing ks own.1)
+    HaveOwnKeys-alerting : (ks : List (Knote h)) → HaveOwnKeys ks → HaveOwnKeys (alerting ks)
+    unfolding knotes_alerted
+    HaveOwnKeys-alerting [] own = tt
+    HaveOwnKeys-alerting (k ∷ ks) own =
+        HaveOwnKeys-led k (left k) (alerting ks) (left-follows k) (alerting-absent k.key ks own.0)
+        (HaveOwnKeys-alerting ks own.1)
 
     led_in_order : (k : Knote h) (found : Option (Knote h)) (ks : List (Knote h)) (keys : List Key) → Follows k found
         → AreInOrder (keys_of ks) keys → AreInOrder (keys_of (if_there found ++ ks)) (k.key ∷ keys)
@@ -80,11 +80,11 @@ module _ {S : Type 0} {h : Hearing S} where
     led_in_order k None ks keys follows order = inl order
     led_in_order k (Some x) ks keys follows order = inr (keys_of ks, ap (λ key. key ∷ keys_of ks) follows.0, order)
 
-    noticing_in_order : (ks : List (Knote h)) → AreInOrder (keys_of (noticing ks)) (keys_of ks)
-    unfolding knotes_noticing
-    noticing_in_order [] = refl
-    noticing_in_order (k ∷ ks) =
-        led_in_order k (left k) (noticing ks) (keys_of ks) (left-follows k) (noticing_in_order ks)
+    alerted_in_order : (ks : List (Knote h)) → AreInOrder (keys_of (alerting ks)) (keys_of ks)
+    unfolding knotes_alerted
+    alerted_in_order [] = refl
+    alerted_in_order (k ∷ ks) =
+        led_in_order k (left k) (alerting ks) (keys_of ks) (left-follows k) (alerted_in_order ks)
 
     -- ---- which knotes are gone
 
@@ -169,18 +169,18 @@ module _ {S : Type 0} {h : Hearing S} where
         ap (λ b. cond (x.active && x.enabled && not b) (x ∷ []) [])
         (agree x.key (ap (key_eq key) follows.0 ∙ apart))
 
-    noticing-begins : (key : Key) (queue after : List Key) (ks : List (Knote h)) → find_knote key ks ≡ None
+    alerting-begins : (key : Key) (queue after : List Key) (ks : List (Knote h)) → find_knote key ks ≡ None
         → AgreeBesides key queue after
-        → filter (begins_to_wait after) (noticing ks) ≡ filter (begins_to_wait queue) (noticing ks)
-    unfolding knotes_noticing
-    noticing-begins key queue after [] absent agree = refl
-    noticing-begins key queue after (k ∷ ks) absent agree =
-        filter-append (begins_to_wait after) (if_there (left k)) (noticing ks)
-        ∙ ap (λ xs. xs ++ filter (begins_to_wait after) (noticing ks))
+        → filter (begins_to_wait after) (alerting ks) ≡ filter (begins_to_wait queue) (alerting ks)
+    unfolding knotes_alerted
+    alerting-begins key queue after [] absent agree = refl
+    alerting-begins key queue after (k ∷ ks) absent agree =
+        filter-append (begins_to_wait after) (if_there (left k)) (alerting ks)
+        ∙ ap (λ xs. xs ++ filter (begins_to_wait after) (alerting ks))
         (led-begins key queue after k (left k) (left-follows k) (find_knote-head key k ks absent) agree)
         ∙ ap (λ xs. filter (begins_to_wait queue) (if_there (left k)) ++ xs)
-        (noticing-begins key queue after ks (find_knote-tail key k ks absent) agree)
-        ∙ sym (filter-append (begins_to_wait queue) (if_there (left k)) (noticing ks))
+        (alerting-begins key queue after ks (find_knote-tail key k ks absent) agree)
+        ∙ sym (filter-append (begins_to_wait queue) (if_there (left k)) (alerting ks))
 
     kept-staying : (gone : Key → Bool) (key : Key) (found : Option (Knote h)) (queue : List Key)
         → filter (λ x. not (gone x)) (staying key found queue)
@@ -204,29 +204,29 @@ module _ {S : Type 0} {h : Hearing S} where
 
     queue_after_all-is : (ks : List (Knote h)) (queue : List Key) → HaveOwnKeys ks → AreQueued queue ks
         → queue_after_all views posted ks queue
-        ≡ filter (λ key. not (is_gone ks key)) queue ++ keys_of (filter (begins_to_wait queue) (noticing ks))
-    unfolding queue_after_all knotes_noticing
+        ≡ filter (λ key. not (is_gone ks key)) queue ++ keys_of (filter (begins_to_wait queue) (alerting ks))
+    unfolding queue_after_all knotes_alerted
     queue_after_all-is [] queue own queued = sym (append-nil (filter (λ key. true) queue) ∙ filter_true queue)
     queue_after_all-is (k ∷ ks) queue own queued =
         let found = left k in
         let came = coming found queue in
-        let begin = filter (begins_to_wait queue) (noticing ks) in
-        ap (queue_after_all views posted ks) (queue_noticing-is views (hints_for k posted) k queue queued.0)
+        let begin = filter (begins_to_wait queue) (alerting ks) in
+        ap (queue_after_all views posted ks) (queue_alerted-is views (hints_for k posted) k queue queued.0)
         ∙ queue_after_all-is ks (moved k queue) own.1
         (AreQueued-moved k.key queue (moved k queue) ks own.0 (moved-agrees k queue) queued.1)
-        ∙ ap (λ xs. xs ++ keys_of (filter (begins_to_wait (moved k queue)) (noticing ks)))
+        ∙ ap (λ xs. xs ++ keys_of (filter (begins_to_wait (moved k queue)) (alerting ks)))
         (filter-append (λ key. not (is_gone ks key)) (staying k.key found queue) came)
         ∙ ap (λ xs. (xs ++ filter (λ key. not (is_gone ks key)) came)
-        ++ keys_of (filter (begins_to_wait (moved k queue)) (noticing ks)))
+        ++ keys_of (filter (begins_to_wait (moved k queue)) (alerting ks)))
         (kept-staying (is_gone ks) k.key found queue)
         ∙ ap (λ xs. (filter (λ key. not (is_gone (k ∷ ks) key)) queue ++ xs)
-        ++ keys_of (filter (begins_to_wait (moved k queue)) (noticing ks)))
+        ++ keys_of (filter (begins_to_wait (moved k queue)) (alerting ks)))
         (kept-coming (is_gone ks) k found queue (left-follows k) (is_gone-absent k.key ks own.0))
         ∙ ap (λ xs. (filter (λ key. not (is_gone (k ∷ ks) key)) queue ++ came) ++ keys_of xs)
-        (noticing-begins k.key queue (moved k queue) ks own.0 (moved-agrees k queue))
+        (alerting-begins k.key queue (moved k queue) ks own.0 (moved-agrees k queue))
         ∙ append_assoc (filter (λ key. not (is_gone (k ∷ ks) key)) queue) came (keys_of begin)
         ∙ ap (λ xs. filter (λ key. not (is_gone (k ∷ ks) key)) queue ++ xs)
-        (sym (ap keys_of (filter-append (begins_to_wait queue) (if_there found) (noticing ks))
+        (sym (ap keys_of (filter-append (begins_to_wait queue) (if_there found) (alerting ks))
         ∙ map-append (λ (x : Knote h). x.key) (filter (begins_to_wait queue) (if_there found)) begin))
 
   -- ---- a sound kqueue
@@ -314,22 +314,22 @@ module _ {S : Type 0} {h : Hearing S} where
       → IsNotified kq (notified views posted kq)
   unfolding notified
   notified-law views posted kq sound = record {
-    order = noticing_in_order views posted kq.knotes;
+    order = alerted_in_order views posted kq.knotes;
     queue = queue_is;
     sound = record { own_keys = own; once = subst AreOnce (sym queue_is) once; waiting = waiting };
   }
     where
       after : List (Knote h)
-      after = knotes_noticing views posted kq.knotes
+      after = knotes_alerted views posted kq.knotes
 
       own : HaveOwnKeys after
-      own = HaveOwnKeys-noticing views posted kq.knotes sound.own_keys
+      own = HaveOwnKeys-alerting views posted kq.knotes sound.own_keys
 
       there : Key → Bool
       there key = is_some (find_knote key after)
 
       found_is : (key : Key) → find_knote key after ≡ option_and_then (left views posted) (find_knote key kq.knotes)
-      found_is key = find_knote-noticing views posted key kq.knotes sound.own_keys
+      found_is key = find_knote-alerting views posted key kq.knotes sound.own_keys
 
       stays : (key : Key) → has_key key kq.queue ≡ true → not (is_gone views posted kq.knotes key) ≡ there key
       stays key queued =

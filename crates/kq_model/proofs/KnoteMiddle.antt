@@ -6,14 +6,14 @@ use Rattle.kq_model.specs.declared.filter.Filter.{Filter}
 use Rattle.kq_model.specs.declared.key.Key.{Key}
 use Rattle.kq_model.specs.declared.object.Hint.{Hint}
 use Rattle.kq_model.specs.Hearing.{Hearing}
-use Rattle.kq_model.specs.Hints.{noticed}
+use Rattle.kq_model.specs.Hints.{alerted}
 use Rattle.kq_model.specs.Knote.{Knote, key_eq, find_knote, with_knote, without_knote}
 use Rattle.kq_model.specs.Kqueue.{HaveOwnKeys}
 use Rattle.kq_model.specs.Views.{Views}
 use Rattle.kq_model.proofs.KeyLaws.{key_eq-refl, key_eq-sym}
 use Rattle.std.proofs.lemmas.Option.{none-some}
 use Rattle.kq_model.proofs.KnoteLaws.{found_or, find_knote-append, find_knote-here, find_knote-later, find_knote-none, find_knote-head, with_knote-absent, without_knote-absent}
-use Rattle.kq_model.proofs.SubjectsCall.{IfIs, noticed-subject}
+use Rattle.kq_model.proofs.SubjectsCall.{IfIs, alerted-subject}
 
 module _ {S : Type 0} {h : Hearing S} where
   -- no knote before it or behind it has its key
@@ -66,12 +66,12 @@ module _ {S : Type 0} {h : Hearing S} where
       keyed : ℕ → Filter → Key
       keyed i f = record { ident = i; filter = f }
 
-  names_kept : (views : Views) (hints : List Hint) (k : Knote h) → HasNames k.key (noticed views hints k)
-  names_kept views hints k = kept (noticed views hints k) (noticed-subject h (λ f i t. (f ≡ k.key.filter) × (i ≡ k.key.ident)) views hints k (refl, refl))
+  names_kept : (views : Views) (hints : List Hint) (k : Knote h) → HasNames k.key (alerted views hints k)
+  names_kept views hints k = kept (alerted views hints k) (alerted-subject h (λ f i t. (f ≡ k.key.filter) × (i ≡ k.key.ident)) views hints k (refl, refl))
     where
       kept : (o : Option (Knote h)) → IfIs h (λ f i t. (f ≡ k.key.filter) × (i ≡ k.key.ident)) o → HasNames k.key o
       kept None is = tt
       kept (Some x) is = is
 
-  pub noticed-key : (views : Views) (hints : List Hint) (k : Knote h) → HasKey k.key (noticed views hints k)
-  noticed-key views hints k = same_names k.key (noticed views hints k) (names_kept views hints k)
+  pub alerted-key : (views : Views) (hints : List Hint) (k : Knote h) → HasKey k.key (alerted views hints k)
+  alerted-key views hints k = same_names k.key (alerted views hints k) (names_kept views hints k)

@@ -3,7 +3,7 @@ pub mod ListLaws
 pub mod KeyLaws
 pub mod KnoteLaws
 pub mod KeyLists
-pub mod NoticedKnote
+pub mod AlertedKnote
 pub mod HintLaws
 pub mod Subjects
 pub mod SameTarget

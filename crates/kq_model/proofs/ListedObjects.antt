@@ -22,7 +22,8 @@ use Rattle.kq_model.specs.declared.object.Named.TheVariants.{Socket, PipeRead, P
 use Rattle.kq_model.specs.declared.object.Target.TheVariants as target
 use Rattle.kq_model.specs.Books.{instead}
 use Rattle.kq_model.specs.Files.{DescriptionState, FileState, description_after, file_after, file_of, opened, is_description_held}
-use Rattle.kq_model.specs.Holding.{description_holders, holders_of, hold, hold_doings, leaving, left, release, release_doings, all_held, all_released, is_last, times, IsCounted, IsNamed}
+use Rattle.kq_model.specs.Holding.{hold_doings, leaving, left, release, release_doings, is_last}
+use Rattle.kq_model.specs.Holders.{description_holders, holders_of, hold, all_held, all_released, times, IsCounted, IsNamed}
 use Rattle.kq_model.specs.ListedFiles.{is_listed, AreListed}
 use Rattle.kq_model.specs.Objects.{Objects, counted, done, all_done, kept, no_objects, told_of}
 use Rattle.kq_model.specs.Touching.{is_on, touches}

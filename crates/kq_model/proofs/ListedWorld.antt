@@ -17,7 +17,8 @@ use Rattle.kq_model.specs.Bits.{exec_note, exit_note}
 use Rattle.kq_model.specs.CountedWorld.{IsCountedWorld}
 use Rattle.kq_model.specs.Descriptors.{Descriptor, named_among, without_closed}
 use Rattle.kq_model.specs.DescriptorPlans.{close_doings, close_hints, closes, duplicated, plan_call, plan_close, plan_dup, plan_kevent, plan_kqueue}
-use Rattle.kq_model.specs.Holding.{hold, hold_doings, release, release_all, release_doings, release_hint, release_hints, option_list, IsNamed}
+use Rattle.kq_model.specs.Holding.{hold_doings, release, release_all, release_doings, release_hint, release_hints, option_list}
+use Rattle.kq_model.specs.Holders.{hold, IsNamed}
 use Rattle.kq_model.specs.Limits.{most_changes, most_room}
 use Rattle.kq_model.specs.ListedFiles.{AreListed, KeepsLists}
 use Rattle.kq_model.specs.ObjectPlan as object

@@ -17,7 +17,7 @@ use Rattle.kq_model.specs.Hearing.{Occurrence, Told, listed}
 use Rattle.kq_model.specs.Knote.{Knote}
 use Rattle.kq_model.specs.Look.{Seen, look_by}
 use Rattle.kq_model.proofs.ObjectBuilders.{objects_opened, after, seen}
-use Rattle.kq_model.specs.Holding.{all_released}
+use Rattle.kq_model.specs.Holders.{all_released}
 use Rattle.kq_model.proofs.Opened.{system_opened}
 
 -- a knote of this filter, with these parameters, that heard this

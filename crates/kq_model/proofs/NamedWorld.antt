@@ -8,7 +8,7 @@ use Rattle.kq_model.specs.declared.object.Named.{Named}
 use Rattle.kq_model.specs.declared.object.Named.TheVariants.{Socket, PipeRead, PipeWrite, Open, Kqueue}
 use Rattle.kq_model.specs.CountedWorld.{place_named, NamesBelow, IsCountedWorld}
 use Rattle.kq_model.specs.Descriptors.{Descriptor, named_among}
-use Rattle.kq_model.specs.Holding.{is_same, one_if, times, IsNamed}
+use Rattle.kq_model.specs.Holders.{is_same, one_if, times, IsNamed}
 use Rattle.kq_model.specs.Objects.{counted, IsFree}
 use Rattle.kq_model.specs.ProcessPlans.{names_of}
 use Rattle.kq_model.specs.World.{World, named_by}

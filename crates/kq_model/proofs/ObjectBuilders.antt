@@ -10,7 +10,8 @@ use Rattle.kq_model.specs.declared.why.Why.{Why}
 use Rattle.kq_model.specs.ObjectPlan.{Planned}
 use Rattle.kq_model.specs.Objects.{Objects, listed, no_objects, quantities, all_done, view_of}
 use Rattle.kq_model.specs.Planning.{plan}
-use Rattle.kq_model.specs.Holding.{all_held, all_released, release_hints}
+use Rattle.kq_model.specs.Holding.{release_hints}
+use Rattle.kq_model.specs.Holders.{all_held, all_released}
 use Rattle.kq_model.specs.Objects as objects
 use Rattle.kq_model.specs.Sockets as sockets
 use Rattle.kq_model.specs.Pipes as pipes
@@ -22,6 +23,7 @@ use Rattle.kq_model.specs.SocketPlans as socket_plans
 use Rattle.kq_model.specs.PipePlans as pipe_plans
 use Rattle.kq_model.specs.FilePlans as file_plans
 use Rattle.kq_model.specs.Planning as planning
+use Rattle.kq_model.specs.Holders as holders
 use Rattle.kq_model.specs.Holding as holding
 
 -- ---- records one after the other
@@ -88,5 +90,5 @@ unfolding sockets.socket_state sockets.socket_after sockets.socket_view
     pipe_plans.plan_pipe pipe_plans.pipe_plan pipe_plans.plan_at_pipe
     file_plans.file_amount file_plans.noted file_plans.extending file_plans.made_file file_plans.plan_file file_plans.present file_plans.opened file_plans.plan_open file_plans.sized file_plans.truncated file_plans.plan_truncate file_plans.deletion file_plans.said file_plans.plan_note file_plans.sought file_plans.sought_in file_plans.plan_seek file_plans.read_file file_plans.reached file_plans.grows file_plans.written file_plans.write_file
     planning.plan_read planning.plan_write planning.plan
-    holding.holders_of holding.hold_doings holding.hold holding.leaving holding.left holding.release_doings holding.release holding.close_hint holding.end_hint holding.release_hint holding.all_held holding.all_released holding.option_list holding.release_hints holding.is_same holding.one_if holding.times
+    holders.holders_of holding.hold_doings holders.hold holding.leaving holding.left holding.release_doings holding.release holding.close_hint holding.end_hint holding.release_hint holders.all_held holders.all_released holding.option_list holding.release_hints holders.is_same holders.one_if holders.times
 objects_opened = tt

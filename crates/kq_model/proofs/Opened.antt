@@ -12,7 +12,7 @@ use Rattle.kq_model.specs.ChangedKnote as knote
 use Rattle.kq_model.specs.Registration.{unless_refused, decided, decision, queue_for, carried_out, register}
 use Rattle.kq_model.specs.Retrieval.{event_flags, event_of, reset, rested, knotes_after, stays, back_after, with_notice_told, settled, turned_at_look, turned_at, turned, delivered, after_turn, retrieve, retrieval}
 use Rattle.kq_model.specs.Call.{number_of, entry_of, is_answered, ended, after, process, returned, by_entries, by_answer, concluded, call}
-use Rattle.kq_model.specs.Hints.{takes, kept, is_exit, added, heard_by, unless_silent, noticed, if_there, knotes_noticing, queue_with, queue_noticing, queue_after_all, notified}
+use Rattle.kq_model.specs.Hints.{takes, kept, is_exit, added, heard_by, unless_silent, alerted, if_there, knotes_alerted, queue_with, queue_alerted, queue_after_all, notified}
 use Rattle.kq_model.specs.Following.{forks_of, all_forks, heir, with_heir, followed_each}
 use Rattle.kq_model.specs.Close.{closed}
 use Rattle.kq_model.specs.Clock.{clock_from, clocked}
@@ -40,7 +40,7 @@ unfolding serde_json_on_literals digits
     unless_refused decided decision queue_for carried_out register
     event_flags event_of reset rested knotes_after stays back_after with_notice_told settled turned_at_look turned_at turned delivered after_turn retrieve retrieval
     number_of entry_of is_answered ended after process returned by_entries by_answer concluded call
-    takes kept is_exit added heard_by unless_silent noticed if_there knotes_noticing queue_with queue_noticing queue_after_all notified
+    takes kept is_exit added heard_by unless_silent alerted if_there knotes_alerted queue_with queue_alerted queue_after_all notified
     forks_of all_forks heir with_heir followed_each
     closed clock_from clocked
     named_among is_before with_descriptor with_descriptors

@@ -7,7 +7,7 @@ use Rattle.kq_model.specs.declared.object.Named.TheVariants as on
 use Rattle.kq_model.specs.declared.object.Target.TheVariants as target
 use Rattle.kq_model.specs.declared.object.View.TheVariants as view
 use Rattle.kq_model.specs.declared.why.Why.TheVariants.{WrongKind, TooMany}
-use Rattle.kq_model.specs.Holding.{all_held, all_released}
+use Rattle.kq_model.specs.Holders.{all_held, all_released}
 use Rattle.kq_model.proofs.ObjectBuilders.{objects_opened, answers, answers_from, after, seen, closing, quiet, says, cannot}
 
 pub caps : answers (Pipe 0 ∷ Pipe 2147483648 ∷ Pipe 2147483647 ∷ []) ≡ cannot TooMany ∷ cannot TooMany ∷ quiet ∷ []

@@ -15,7 +15,7 @@ use Rattle.kq_model.specs.Clock.{Span, timers, expires_at, expired, waiting_of, 
 use Rattle.kq_model.specs.Close.{Pair, has_pair, is_closed, closed}
 use Rattle.kq_model.specs.Following.{Fork, forks_of, all_forks, forks_in, process_key, follows, child_knote, heir, with_heir, followed_each, followed}
 use Rattle.kq_model.specs.Hearing.{Hearing}
-use Rattle.kq_model.specs.Hints.{takes, hints_for, noticed, if_there, knotes_noticing, queue_noticing, queue_after_all, notified}
+use Rattle.kq_model.specs.Hints.{takes, hints_for, alerted, if_there, knotes_alerted, queue_alerted, queue_after_all, notified}
 use Rattle.kq_model.specs.Knote.{Knote, find_knote, watches_number, is_timer}
 use Rattle.kq_model.specs.Kqueue.{Kqueue}
 use Rattle.kq_model.specs.PrivateList.{own_closed, own_hints, own_clock}
@@ -98,11 +98,11 @@ module _ {S : Type 0} (h : Hearing S) (ns : Names) where
       (filter-weaker (λ (p : Posted). is_target k.target p.0) (λ (p : Posted). ns.target p.0) (λ p is. is_named k.target named.1 p.0 is) posted)
 
   knotes-own : (views : Views) (posted : List Posted) (ks : List (Knote h)) → Are ks
-      → knotes_noticing views (own_hints ns posted) ks ≡ knotes_noticing views posted ks
-  unfolding knotes_noticing
+      → knotes_alerted views (own_hints ns posted) ks ≡ knotes_alerted views posted ks
+  unfolding knotes_alerted
   knotes-own views posted [] all = refl
   knotes-own views posted (k ∷ ks) all =
-      ap₂ (λ hints rest. if_there (noticed views hints k) ++ rest) (hints-own posted k (All-head (HasSubject (IsReferred ns)) k ks all))
+      ap₂ (λ hints rest. if_there (alerted views hints k) ++ rest) (hints-own posted k (All-head (HasSubject (IsReferred ns)) k ks all))
       (knotes-own views posted ks (All-tail (HasSubject (IsReferred ns)) k ks all))
 
   queue-own : (views : Views) (posted : List Posted) (ks : List (Knote h)) (queue : List Key) → Are ks
@@ -110,9 +110,9 @@ module _ {S : Type 0} (h : Hearing S) (ns : Names) where
   unfolding queue_after_all
   queue-own views posted [] queue all = refl
   queue-own views posted (k ∷ ks) queue all =
-      ap (λ hints. queue_after_all views (own_hints ns posted) ks (queue_noticing views hints k queue))
+      ap (λ hints. queue_after_all views (own_hints ns posted) ks (queue_alerted views hints k queue))
       (hints-own posted k (All-head (HasSubject (IsReferred ns)) k ks all))
-      ∙ queue-own views posted ks (queue_noticing views (hints_for k posted) k queue) (All-tail (HasSubject (IsReferred ns)) k ks all)
+      ∙ queue-own views posted ks (queue_alerted views (hints_for k posted) k queue) (All-tail (HasSubject (IsReferred ns)) k ks all)
 
   pub notified-own : (views : Views) (posted : List Posted) (kq : Kqueue h) → Are kq.knotes
       → notified views (own_hints ns posted) kq ≡ notified views posted kq
@@ -120,13 +120,13 @@ module _ {S : Type 0} (h : Hearing S) (ns : Names) where
   notified-own views posted kq all =
       ap₂ kqueue_with (knotes-own views posted kq.knotes all) (queue-own views posted kq.knotes kq.queue all)
 
-  knotes-none : (views : Views) (ks : List (Knote h)) → knotes_noticing views [] ks ≡ ks
-  unfolding knotes_noticing noticed if_there
+  knotes-none : (views : Views) (ks : List (Knote h)) → knotes_alerted views [] ks ≡ ks
+  unfolding knotes_alerted alerted if_there
   knotes-none views [] = refl
   knotes-none views (k ∷ ks) = ap (λ rest. k ∷ rest) (knotes-none views ks)
 
   queue-none : (views : Views) (ks : List (Knote h)) (queue : List Key) → queue_after_all views [] ks queue ≡ queue
-  unfolding queue_after_all queue_noticing
+  unfolding queue_after_all queue_alerted
   queue-none views [] queue = refl
   queue-none views (k ∷ ks) queue = queue-none views ks queue
 

@@ -18,7 +18,7 @@ use Rattle.kq_model.specs.Clock.{Span, timers, waiting_of, clock_from, clocked}
 use Rattle.kq_model.specs.Close.{Pair, is_closed, closed}
 use Rattle.kq_model.specs.Following.{Fork, with_heir, heir_in, forks_in, followed_each, followed}
 use Rattle.kq_model.specs.Hearing.{Hearing}
-use Rattle.kq_model.specs.Hints.{hints_for, noticed, queue_with, queue_noticing, queue_after_all, notified}
+use Rattle.kq_model.specs.Hints.{hints_for, alerted, queue_with, queue_alerted, queue_after_all, notified}
 use Rattle.kq_model.specs.Knote.{Knote, key_eq, has_key, without_key, queued, find_knote}
 use Rattle.kq_model.specs.Kqueue.{Kqueue}
 use Rattle.kq_model.specs.Look.{Seen, look}
@@ -30,7 +30,7 @@ use Rattle.kq_model.specs.Targets.{Posted}
 use Rattle.kq_model.specs.TimerWalk.{Waiting, is_fresh, queue_at, walked}
 use Rattle.kq_model.specs.Views.{Views}
 use Rattle.kq_model.proofs.Subjects.{find_knote-subject, made-subject, modified-subject, decision-subject, register-subjects}
-use Rattle.kq_model.proofs.SubjectsCall.{turned-subjects, noticed-subject, walked-subjects, closed-subjects, notified-subjects, clocked-subjects, heir_in-subject, followed_each-subjects}
+use Rattle.kq_model.proofs.SubjectsCall.{turned-subjects, alerted-subject, walked-subjects, closed-subjects, notified-subjects, clocked-subjects, heir_in-subject, followed_each-subjects}
 
 module _ {S : Type 0} (h : Hearing S) (R : Filter → ℕ → Type 0) where
   abbrev P : Filter → ℕ → Option Target → Type 0
@@ -206,19 +206,19 @@ module _ {S : Type 0} (h : Hearing S) (R : Filter → ℕ → Type 0) where
   queue_with-keys key None queue has all = without_key-keys key queue all
   queue_with-keys key (Some k) queue has all = queue_for-keys k queue has all
 
-  queue_noticing-keys : (views : Views) (hints : List Hint) (k : Knote h) (queue : List Key) → Is k → AreKeys queue → AreKeys (queue_noticing views hints k queue)
-  unfolding queue_noticing
-  queue_noticing-keys views [] k queue has all = all
-  queue_noticing-keys views (hint ∷ hints) k queue has all =
-      queue_with-keys k.key (noticed views (hint ∷ hints) k) queue (noticed-subject h P views (hint ∷ hints) k has) all
+  queue_alerted-keys : (views : Views) (hints : List Hint) (k : Knote h) (queue : List Key) → Is k → AreKeys queue → AreKeys (queue_alerted views hints k queue)
+  unfolding queue_alerted
+  queue_alerted-keys views [] k queue has all = all
+  queue_alerted-keys views (hint ∷ hints) k queue has all =
+      queue_with-keys k.key (alerted views (hint ∷ hints) k) queue (alerted-subject h P views (hint ∷ hints) k has) all
 
   queue_after_all-keys : (views : Views) (posted : List Posted) (ks : List (Knote h)) (queue : List Key) → Are ks → AreKeys queue
       → AreKeys (queue_after_all views posted ks queue)
   unfolding queue_after_all
   queue_after_all-keys views posted [] queue have all = all
   queue_after_all-keys views posted (k ∷ ks) queue have all =
-      queue_after_all-keys views posted ks (queue_noticing views (hints_for k posted) k queue) (All-tail Is k ks have)
-      (queue_noticing-keys views (hints_for k posted) k queue (All-head Is k ks have) all)
+      queue_after_all-keys views posted ks (queue_alerted views (hints_for k posted) k queue) (All-tail Is k ks have)
+      (queue_alerted-keys views (hints_for k posted) k queue (All-head Is k ks have) all)
 
   notified-hold : (views : Views) (posted : List Posted) (kq : Kqueue h) → Hold kq → Hold (notified views posted kq)
   unfolding notified

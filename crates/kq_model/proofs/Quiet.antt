@@ -20,7 +20,7 @@ use Rattle.kq_model.specs.Clock.{Span, timers, expires_at, expired, waiting_of, 
 use Rattle.kq_model.specs.Close.{Pair, is_closed, closed, has_pair}
 use Rattle.kq_model.specs.Following.{followed_each, followed}
 use Rattle.kq_model.specs.Hearing.{Hearing}
-use Rattle.kq_model.specs.Hints.{kept, hints_for, added, heard_by, hears_exit, unless_silent, noticed, if_there, knotes_noticing, notified}
+use Rattle.kq_model.specs.Hints.{kept, hints_for, added, heard_by, hears_exit, unless_silent, alerted, if_there, knotes_alerted, notified}
 use Rattle.kq_model.specs.Knote.{Knote, has_nothing, key_eq, find_knote, with_knote, without_knote}
 use Rattle.kq_model.specs.Kqueue.{Kqueue, empty_kqueue}
 use Rattle.kq_model.specs.Look.{Seen, look}
@@ -286,10 +286,10 @@ module _ {S : Type 0} {h : Hearing S} where
   unless_silent-quiet false k has = has
   unless_silent-quiet true k has = cond_both (has_nothing k) _ _ IfQuiet (λ _. tt) (λ _. has)
 
-  noticed-quiet : (views : Views) (hints : List Hint) (k : Knote h) → Is k → IfQuiet (noticed views hints k)
-  unfolding noticed
-  noticed-quiet views [] k has = has
-  noticed-quiet views (hint ∷ hints) k has =
+  alerted-quiet : (views : Views) (hints : List Hint) (k : Knote h) → Is k → IfQuiet (alerted views hints k)
+  unfolding alerted
+  alerted-quiet views [] k has = has
+  alerted-quiet views (hint ∷ hints) k has =
       let heard = heard_by (hint ∷ hints) k in
       unless_silent-quiet (hears_exit (hint ∷ hints) k) (activated (look views heard) heard)
       (activated-quiet (look views heard) heard (heard_by-quiet (hint ∷ hints) k has))
@@ -299,18 +299,18 @@ module _ {S : Type 0} {h : Hearing S} where
   if_there-quiet None has = All-nil Is
   if_there-quiet (Some k) has = All-cons Is k [] has (All-nil Is)
 
-  knotes_noticing-quiet : (views : Views) (posted : List Posted) (ks : List (Knote h)) → Are ks → Are (knotes_noticing views posted ks)
-  unfolding knotes_noticing
-  knotes_noticing-quiet views posted [] all = All-nil Is
-  knotes_noticing-quiet views posted (k ∷ ks) all =
-      let found = noticed views (hints_for k posted) k in
-      All-append Is (if_there found) (knotes_noticing views posted ks)
-      (if_there-quiet found (noticed-quiet views (hints_for k posted) k (All-head Is k ks all)))
-      (knotes_noticing-quiet views posted ks (All-tail Is k ks all))
+  knotes_alerted-quiet : (views : Views) (posted : List Posted) (ks : List (Knote h)) → Are ks → Are (knotes_alerted views posted ks)
+  unfolding knotes_alerted
+  knotes_alerted-quiet views posted [] all = All-nil Is
+  knotes_alerted-quiet views posted (k ∷ ks) all =
+      let found = alerted views (hints_for k posted) k in
+      All-append Is (if_there found) (knotes_alerted views posted ks)
+      (if_there-quiet found (alerted-quiet views (hints_for k posted) k (All-head Is k ks all)))
+      (knotes_alerted-quiet views posted ks (All-tail Is k ks all))
 
   notified-quiet : (views : Views) (posted : List Posted) (kq : Kqueue h) → Are kq.knotes → Are (notified views posted kq).knotes
   unfolding notified
-  notified-quiet views posted kq all = knotes_noticing-quiet views posted kq.knotes all
+  notified-quiet views posted kq all = knotes_alerted-quiet views posted kq.knotes all
 
   -- ---- the clock
 

@@ -15,7 +15,8 @@ use Rattle.kq_model.specs.Clock.{Span, timers, expires_at, expired, waiting_of, 
 use Rattle.kq_model.specs.Close.{Pair, is_closed, closed}
 use Rattle.kq_model.specs.Following.{Fork, process_key, follows, child_knote, heir, with_heir, heir_in, forks_in, followed_each, followed}
 use Rattle.kq_model.specs.Hearing.{Hearing}
-use Rattle.kq_model.specs.Hints.{takes, kept, is_exit, hints_for, added, after_hint, is_done, heard_by, hears_exit, unless_silent, noticed, if_there, knotes_noticing, queue_with, queue_noticing, queue_after_all, notified}
+use Rattle.kq_model.specs.Hints.{takes, kept, is_exit, hints_for, added, heard_by, hears_exit, unless_silent, alerted, if_there, knotes_alerted, queue_with, queue_alerted, queue_after_all, notified}
+use Rattle.kq_model.specs.Alerting.{after_hint, is_done}
 use Rattle.kq_model.specs.Knote.{Knote, find_knote, has_nothing}
 use Rattle.kq_model.specs.Kqueue.{Kqueue}
 use Rattle.kq_model.specs.Look.{look}
@@ -135,10 +136,10 @@ module _ {S T : Type 0} {h : Hearing S} {g : Hearing T} {f : Filter → S → T}
       ap (λ b. cond b None (Some (re (record k { oneshot = true })))) (nothing-recast k (proc refl))
       ∙ sym (cond-map (option_map re) (has_nothing k) None (Some (record k { oneshot = true })))
 
-  noticed-recast : (views : Views) (hints : List Hint) (k : Knote h) → AreTaken k.key.filter hints → noticed views hints (re k) ≡ option_map re (noticed views hints k)
-  unfolding noticed
-  noticed-recast views [] k taken = refl
-  noticed-recast views (hint ∷ hints) k taken =
+  alerted-recast : (views : Views) (hints : List Hint) (k : Knote h) → AreTaken k.key.filter hints → alerted views hints (re k) ≡ option_map re (alerted views hints k)
+  unfolding alerted
+  alerted-recast views [] k taken = refl
+  alerted-recast views (hint ∷ hints) k taken =
       let all = hint ∷ hints in
       let heard = heard_by all k in
       let exits = hears_exit all k in
@@ -150,50 +151,50 @@ module _ {S T : Type 0} {h : Hearing S} {g : Hearing T} {f : Filter → S → T}
 
   -- the hints for a knote are those that its filter takes
   pub told-recast : (views : Views) (posted : List Posted) (k : Knote h)
-      → noticed views (hints_for k posted) (re k) ≡ option_map re (noticed views (hints_for k posted) k)
-  told-recast views posted k = noticed-recast views (hints_for k posted) k (taken-filter k.key.filter _)
+      → alerted views (hints_for k posted) (re k) ≡ option_map re (alerted views (hints_for k posted) k)
+  told-recast views posted k = alerted-recast views (hints_for k posted) k (taken-filter k.key.filter _)
 
   if_there-recast : (found : Option (Knote h)) → if_there (option_map re found) ≡ map re (if_there found)
   unfolding if_there
   if_there-recast None = refl
   if_there-recast (Some k) = refl
 
-  knotes_noticing-recast : (views : Views) (posted : List Posted) (ks : List (Knote h)) → knotes_noticing views posted (map re ks) ≡ map re (knotes_noticing views posted ks)
-  unfolding knotes_noticing
-  knotes_noticing-recast views posted [] = refl
-  knotes_noticing-recast views posted (k ∷ ks) =
-      let found = noticed views (hints_for k posted) k in
-      ap (λ n. if_there n ++ knotes_noticing views posted (map re ks)) (told-recast views posted k)
-      ∙ ap (λ n. n ++ knotes_noticing views posted (map re ks)) (if_there-recast found)
-      ∙ ap (λ rest. map re (if_there found) ++ rest) (knotes_noticing-recast views posted ks)
-      ∙ sym (map-append re (if_there found) (knotes_noticing views posted ks))
+  knotes_alerted-recast : (views : Views) (posted : List Posted) (ks : List (Knote h)) → knotes_alerted views posted (map re ks) ≡ map re (knotes_alerted views posted ks)
+  unfolding knotes_alerted
+  knotes_alerted-recast views posted [] = refl
+  knotes_alerted-recast views posted (k ∷ ks) =
+      let found = alerted views (hints_for k posted) k in
+      ap (λ n. if_there n ++ knotes_alerted views posted (map re ks)) (told-recast views posted k)
+      ∙ ap (λ n. n ++ knotes_alerted views posted (map re ks)) (if_there-recast found)
+      ∙ ap (λ rest. map re (if_there found) ++ rest) (knotes_alerted-recast views posted ks)
+      ∙ sym (map-append re (if_there found) (knotes_alerted views posted ks))
 
   queue_with-recast : (key : Key) (found : Option (Knote h)) (queue : List Key) → queue_with key (option_map re found) queue ≡ queue_with key found queue
   unfolding queue_with
   queue_with-recast key None queue = refl
   queue_with-recast key (Some k) queue = queue_for-recast is k queue
 
-  queue_noticing-recast : (views : Views) (hints : List Hint) (k : Knote h) (queue : List Key) → AreTaken k.key.filter hints
-      → queue_noticing views hints (re k) queue ≡ queue_noticing views hints k queue
-  unfolding queue_noticing
-  queue_noticing-recast views [] k queue taken = refl
-  queue_noticing-recast views (hint ∷ hints) k queue taken =
-      ap (λ n. queue_with k.key n queue) (noticed-recast views (hint ∷ hints) k taken)
-      ∙ queue_with-recast k.key (noticed views (hint ∷ hints) k) queue
+  queue_alerted-recast : (views : Views) (hints : List Hint) (k : Knote h) (queue : List Key) → AreTaken k.key.filter hints
+      → queue_alerted views hints (re k) queue ≡ queue_alerted views hints k queue
+  unfolding queue_alerted
+  queue_alerted-recast views [] k queue taken = refl
+  queue_alerted-recast views (hint ∷ hints) k queue taken =
+      ap (λ n. queue_with k.key n queue) (alerted-recast views (hint ∷ hints) k taken)
+      ∙ queue_with-recast k.key (alerted views (hint ∷ hints) k) queue
 
   queue_after_all-recast : (views : Views) (posted : List Posted) (ks : List (Knote h)) (queue : List Key) → queue_after_all views posted (map re ks) queue ≡ queue_after_all views posted ks queue
   unfolding queue_after_all
   queue_after_all-recast views posted [] queue = refl
   queue_after_all-recast views posted (k ∷ ks) queue =
       ap (queue_after_all views posted (map re ks))
-      (queue_noticing-recast views (hints_for k posted) k queue (taken-filter k.key.filter _))
-      ∙ queue_after_all-recast views posted ks (queue_noticing views (hints_for k posted) k queue)
+      (queue_alerted-recast views (hints_for k posted) k queue (taken-filter k.key.filter _))
+      ∙ queue_after_all-recast views posted ks (queue_alerted views (hints_for k posted) k queue)
 
   pub notified-recast : (views : Views) (posted : List Posted) (kq : Kqueue h) → notified views posted (re_kq kq) ≡ re_kq (notified views posted kq)
   unfolding notified
   notified-recast views posted kq =
-      ap (λ ks. kqueue ks (queue_after_all views posted (map re kq.knotes) kq.queue)) (knotes_noticing-recast views posted kq.knotes)
-      ∙ ap (kqueue (map re (knotes_noticing views posted kq.knotes))) (queue_after_all-recast views posted kq.knotes kq.queue)
+      ap (λ ks. kqueue ks (queue_after_all views posted (map re kq.knotes) kq.queue)) (knotes_alerted-recast views posted kq.knotes)
+      ∙ ap (kqueue (map re (knotes_alerted views posted kq.knotes))) (queue_after_all-recast views posted kq.knotes kq.queue)
 
   -- ---- children
 

@@ -8,7 +8,8 @@ use Rattle.kq_model.specs.Call.{Called, call}
 use Rattle.kq_model.specs.Clock.{clocked}
 use Rattle.kq_model.specs.Close.{Pair, has_pair, closed}
 use Rattle.kq_model.specs.Following.{followed}
-use Rattle.kq_model.specs.Hearing.{Hearing, listed, tallying}
+use Rattle.kq_model.specs.Hearing.{Hearing, listed}
+use Rattle.kq_model.specs.Tallying.{tallying}
 use Rattle.kq_model.specs.Hints.{notified}
 use Rattle.kq_model.specs.Kqueue.{Kqueue}
 use Rattle.kq_model.specs.Moment.{Moment, moment_of, caller_at, happened, called_at, after_call, kqueue_step}

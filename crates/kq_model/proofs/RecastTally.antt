@@ -10,7 +10,8 @@ use Rattle.kq_model.specs.declared.filter.Filter.{Filter}
 use Rattle.kq_model.specs.declared.filter.Filter.TheVariants.{Read, Write, Vnode, Proc, Signal}
 use Rattle.kq_model.specs.declared.object.Hint.{Hint}
 use Rattle.kq_model.specs.declared.object.Hint.TheVariants.{Readable, Writable, Note, Delivered}
-use Rattle.kq_model.specs.Hearing.{Occurrence, Told, Expired, Tally, listed, tallying, notes_of, is_counted, is_telling, counted_in, is_none_of, union, most_counted}
+use Rattle.kq_model.specs.Hearing.{Occurrence, Told, Expired, listed, notes_of, is_counted, counted_in, is_none_of, union, most_counted}
+use Rattle.kq_model.specs.Tallying.{Tally, tallying, is_telling}
 use Rattle.kq_model.specs.Hints.{takes}
 use Rattle.kq_model.specs.Recast.{IsHearingMap, only_looks, has_other, tally_of}
 use Rattle.kq_model.proofs.KnoteLaws.{by_test}

@@ -3,7 +3,8 @@ use Rattle.std.proofs.Common.{◌≡◌, ◌∙◌, ℕ, List, [], ◌∷◌, �
 use Rattle.std.proofs.Math.Path.{fun_ext}
 use Rattle.kq_model.specs.declared.doing.Doing.{Doing}
 use Rattle.kq_model.specs.declared.object.Named.{Named}
-use Rattle.kq_model.specs.Holding.{release, release_all, release_doings, all_released}
+use Rattle.kq_model.specs.Holding.{release, release_all, release_doings}
+use Rattle.kq_model.specs.Holders.{all_released}
 use Rattle.kq_model.specs.Objects.{Keeping, Objects, counted, quantities, all_done}
 
 same : {X : Type 0} (x : Option X) → option_map (λ (s : X). s) x ≡ x

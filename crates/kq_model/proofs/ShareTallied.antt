@@ -3,7 +3,8 @@ use Rattle.std.proofs.Common.{◌≡◌, ◌∙◌, ℕ, Bool, cond, List, Optio
 use Rattle.kq_model.specs.declared.event.Event.{Event}
 use Rattle.kq_model.specs.declared.reply.Reply.{Reply}
 use Rattle.kq_model.specs.declared.reply.Reply.TheVariants as reply
-use Rattle.kq_model.specs.Hearing.{listed, tallying}
+use Rattle.kq_model.specs.Hearing.{listed}
+use Rattle.kq_model.specs.Tallying.{tallying}
 use Rattle.kq_model.specs.Objects as objects
 use Rattle.kq_model.specs.Objects.{counted}
 use Rattle.kq_model.specs.Recast.{IsTalliedStep, recast_live, tally_of, tallied_system}

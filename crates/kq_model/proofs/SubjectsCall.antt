@@ -19,7 +19,7 @@ use Rattle.kq_model.specs.Clock.{Span, timers, expires_at, expired, waiting_of, 
 use Rattle.kq_model.specs.Close.{Pair, is_closed, closed}
 use Rattle.kq_model.specs.Following.{Fork, process_key, follows, child_knote, heir, with_heir, heir_in, forks_in, followed_each, followed}
 use Rattle.kq_model.specs.Hearing.{Hearing}
-use Rattle.kq_model.specs.Hints.{kept, hints_for, added, heard_by, hears_exit, unless_silent, noticed, if_there, knotes_noticing, notified}
+use Rattle.kq_model.specs.Hints.{kept, hints_for, added, heard_by, hears_exit, unless_silent, alerted, if_there, knotes_alerted, notified}
 use Rattle.kq_model.specs.Knote.{Knote, has_nothing, find_knote}
 use Rattle.kq_model.specs.Kqueue.{Kqueue}
 use Rattle.kq_model.specs.Look.{Seen, look}
@@ -166,10 +166,10 @@ module _ {S : Type 0} (h : Hearing S) (P : Filter → ℕ → Option Target → 
   unless_silent-subject false k has = has
   unless_silent-subject true k has = cond_both (has_nothing k) _ _ IfIs (λ _. tt) (λ _. has)
 
-  pub noticed-subject : (views : Views) (hints : List Hint) (k : Knote h) → Is k → IfIs (noticed views hints k)
-  unfolding noticed
-  noticed-subject views [] k has = has
-  noticed-subject views (hint ∷ hints) k has =
+  pub alerted-subject : (views : Views) (hints : List Hint) (k : Knote h) → Is k → IfIs (alerted views hints k)
+  unfolding alerted
+  alerted-subject views [] k has = has
+  alerted-subject views (hint ∷ hints) k has =
       let heard = heard_by (hint ∷ hints) k in
       unless_silent-subject (hears_exit (hint ∷ hints) k) (activated (look views heard) heard)
       (activated-subject h P (look views heard) heard (heard_by-subject (hint ∷ hints) k has))
@@ -179,18 +179,18 @@ module _ {S : Type 0} (h : Hearing S) (P : Filter → ℕ → Option Target → 
   if_there-subjects None has = All-nil Is
   if_there-subjects (Some k) has = All-cons Is k [] has (All-nil Is)
 
-  knotes_noticing-subjects : (views : Views) (posted : List Posted) (ks : List (Knote h)) → Are ks → Are (knotes_noticing views posted ks)
-  unfolding knotes_noticing
-  knotes_noticing-subjects views posted [] all = All-nil Is
-  knotes_noticing-subjects views posted (k ∷ ks) all =
-      let found = noticed views (hints_for k posted) k in
-      All-append Is (if_there found) (knotes_noticing views posted ks)
-      (if_there-subjects found (noticed-subject views (hints_for k posted) k (All-head Is k ks all)))
-      (knotes_noticing-subjects views posted ks (All-tail Is k ks all))
+  knotes_alerted-subjects : (views : Views) (posted : List Posted) (ks : List (Knote h)) → Are ks → Are (knotes_alerted views posted ks)
+  unfolding knotes_alerted
+  knotes_alerted-subjects views posted [] all = All-nil Is
+  knotes_alerted-subjects views posted (k ∷ ks) all =
+      let found = alerted views (hints_for k posted) k in
+      All-append Is (if_there found) (knotes_alerted views posted ks)
+      (if_there-subjects found (alerted-subject views (hints_for k posted) k (All-head Is k ks all)))
+      (knotes_alerted-subjects views posted ks (All-tail Is k ks all))
 
   pub notified-subjects : (views : Views) (posted : List Posted) (kq : Kqueue h) → Are kq.knotes → Are (notified views posted kq).knotes
   unfolding notified
-  notified-subjects views posted kq all = knotes_noticing-subjects views posted kq.knotes all
+  notified-subjects views posted kq all = knotes_alerted-subjects views posted kq.knotes all
 
   -- ---- children
 

@@ -11,8 +11,10 @@ use Rattle.kq_model.specs.Caller.{Caller}
 use Rattle.kq_model.specs.Clock.{Span, clocked}
 use Rattle.kq_model.specs.Close.{Pair, closed, is_of_number}
 use Rattle.kq_model.specs.Following.{followed}
-use Rattle.kq_model.specs.Hearing.{listed, tallying}
-use Rattle.kq_model.specs.Hints.{after_hint, is_done, notified}
+use Rattle.kq_model.specs.Hearing.{listed}
+use Rattle.kq_model.specs.Tallying.{tallying}
+use Rattle.kq_model.specs.Hints.{notified}
+use Rattle.kq_model.specs.Alerting.{after_hint, is_done}
 use Rattle.kq_model.specs.Knote.{Knote, find_knote, with_knote, without_knote}
 use Rattle.kq_model.specs.Kqueue.{Kqueue}
 use Rattle.kq_model.specs.Look.{look}

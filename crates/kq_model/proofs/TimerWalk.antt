@@ -8,7 +8,8 @@ use Rattle.std.proofs.lemmas.Bool.{cases_order, le-leb, lt-leb, eq-eqb, ne_eqb, 
 use Rattle.std.proofs.lemmas.List.{map-append}
 use Rattle.std.proofs.lemmas.List.Folds.{list_any-append}
 use Rattle.kq_model.specs.Ticks.{counted}
-use Rattle.kq_model.specs.TimerWalk.{Alarms, Waiting, is_queued, is_fresh, rung_at, queue_at, walked, rung_times, in_order, walked_at_once, KeepsAlarms, IsFirstPassing, moment_step}
+use Rattle.kq_model.specs.TimerWalk.{Alarms, Waiting, is_queued, is_fresh, rung_at, queue_at, walked, moment_step}
+use Rattle.kq_model.specs.WalkedAtOnce.{rung_times, in_order, walked_at_once, KeepsAlarms, IsFirstPassing}
 use Rattle.kq_model.proofs.TimerWalkSort.{sorted_step}
 use Rattle.kq_model.proofs.TimerWalkQueue.{filter-agree, filter-none, All-like, joins, queue_at-joins}
 use Rattle.kq_model.proofs.TimerWalkMember.{IsAmong, list_any-in_order, all_among}

@@ -4,7 +4,8 @@ use Rattle.std.specs.Cmp.{IsEquivalence}
 use Rattle.std.specs.List.{filter, list_any, AllByRecursion, IsDistinct}
 use Rattle.std.proofs.lemmas.Bool.{or_left}
 use Rattle.std.proofs.lemmas.Map.Keys.{IsDistinct-tail}
-use Rattle.kq_model.specs.TimerWalk.{Alarms, placed, in_order}
+use Rattle.kq_model.specs.TimerWalk.{Alarms}
+use Rattle.kq_model.specs.WalkedAtOnce.{placed, in_order}
 use Rattle.kq_model.proofs.TimerWalkQueue.{All-both, apart}
 
 -- ---- sorting changes no membership

@@ -3,7 +3,7 @@
 use Rattle.std.proofs.Common.{◌≡◌, ℕ, suc, ◌<◌, ◌≤◌, Bool, true, false, cond, ◌&&◌, eqb, leb, List, [], ◌∷◌, ◌++◌, ◌⊎◌, inl, inr, refl, sym, ap, ◌∙◌, arith}
 use Rattle.std.specs.List.{filter, AllByRecursion}
 use Rattle.std.proofs.lemmas.Bool.{cond-true, cond-false, le-leb, lt-leb, leb-true, eqb-true, eq-eqb, ne_eqb, and_left, and_right, and_from, and_parts, cases_order, cases_Bool}
-use Rattle.kq_model.specs.TimerWalk.{placed, in_order}
+use Rattle.kq_model.specs.WalkedAtOnce.{placed, in_order}
 
 -- ---- one item among those that are not later, and among those that are earlier
 

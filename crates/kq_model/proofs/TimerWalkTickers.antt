@@ -5,8 +5,10 @@
 use Rattle.std.proofs.Common.{◌≡◌, ℕ, ◌+◌, ◌-◌, ◌≤◌, ◌&&◌, leb, ltb, ◌++◌, map, sym, ◌∙◌, arith}
 use Rattle.std.specs.Cmp.{IsEquivalence}
 use Rattle.std.specs.List.{filter, IsDistinct}
-use Rattle.kq_model.specs.Ticks.{last_moment, ticks_between, next_tick}
-use Rattle.kq_model.specs.TimerWalk.{Alarms, Waiting, is_fresh, walked, walked_at_once, tickers_at_once, rung_times, in_order, KeepsAlarms, IsFirstPassing}
+use Rattle.kq_model.specs.Ticks.{last_moment}
+use Rattle.kq_model.specs.NextTicks.{ticks_between, next_tick}
+use Rattle.kq_model.specs.TimerWalk.{Alarms, Waiting, is_fresh, walked}
+use Rattle.kq_model.specs.WalkedAtOnce.{walked_at_once, tickers_at_once, rung_times, in_order, KeepsAlarms, IsFirstPassing}
 use Rattle.kq_model.proofs.TicksFirst.{next_tick-is, counted-expired}
 use Rattle.kq_model.proofs.TimerWalk.{walked-at_once}
 

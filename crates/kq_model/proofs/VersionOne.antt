@@ -14,7 +14,8 @@ use Rattle.kq_model.specs.Bits.{fork_note}
 use Rattle.kq_model.specs.declared.key.Key.{Key}
 use Rattle.kq_model.specs.Close.{closed, has_pair}
 use Rattle.kq_model.specs.Hints.{takes, hints_for, if_there}
-use Rattle.kq_model.specs.Hearing.{Hearing, Tally, listed, tallying}
+use Rattle.kq_model.specs.Hearing.{Hearing, listed}
+use Rattle.kq_model.specs.Tallying.{Tally, tallying}
 use Rattle.kq_model.specs.Knote.{Knote}
 use Rattle.kq_model.specs.Kqueue.{Kqueue}
 use Rattle.kq_model.specs.Moment.{Moment, moment_of}
@@ -67,19 +68,19 @@ module _ {S : Type 0} {h : Hearing S} where
   forked-untold pid child k = untold k.key.filter (is_target k.target (target.Process pid)) pid fork_note child
 
   knotes-alike : (views : Views) (posted other : List Posted) → AreHeardAlike h posted other → (ks : List (Knote h))
-      → one.knotes_noticing views posted ks ≡ one.knotes_noticing views other ks
-  unfolding one.knotes_noticing
+      → one.knotes_alerted views posted ks ≡ one.knotes_alerted views other ks
+  unfolding one.knotes_alerted
   knotes-alike views posted other alike [] = refl
   knotes-alike views posted other alike (k ∷ ks) =
-      ap₂ (λ hints rest. if_there (one.noticed views hints k) ++ rest) (alike k) (knotes-alike views posted other alike ks)
+      ap₂ (λ hints rest. if_there (one.alerted views hints k) ++ rest) (alike k) (knotes-alike views posted other alike ks)
 
   queue-alike : (views : Views) (posted other : List Posted) → AreHeardAlike h posted other → (ks : List (Knote h)) (queue : List Key)
       → one.queue_after_all views posted ks queue ≡ one.queue_after_all views other ks queue
   unfolding one.queue_after_all
   queue-alike views posted other alike [] queue = refl
   queue-alike views posted other alike (k ∷ ks) queue =
-      queue-alike views posted other alike ks (one.queue_noticing views (hints_for k posted) k queue)
-      ∙ ap (λ hints. one.queue_after_all views other ks (one.queue_noticing views hints k queue)) (alike k)
+      queue-alike views posted other alike ks (one.queue_alerted views (hints_for k posted) k queue)
+      ∙ ap (λ hints. one.queue_after_all views other ks (one.queue_alerted views hints k queue)) (alike k)
 
   notified-alike : (views : Views) (posted other : List Posted) → AreHeardAlike h posted other → (kq : Kqueue h)
       → one.notified views posted kq ≡ one.notified views other kq

@@ -8,7 +8,8 @@ use Rattle.kq_model.specs.declared.filter.Filter.{Filter}
 use Rattle.kq_model.specs.declared.filter.Filter.TheVariants.{Signal, Timer}
 use Rattle.kq_model.specs.declared.object.Hint.{Hint}
 use Rattle.kq_model.specs.declared.object.Hint.TheVariants.{Readable, Writable, Note, Delivered, Child}
-use Rattle.kq_model.specs.Hearing.{Occurrence, Told, Expired, Tally, tallying, is_counted, counted_in, notes_of, most_counted}
+use Rattle.kq_model.specs.Hearing.{Occurrence, Told, Expired, is_counted, counted_in, notes_of, most_counted}
+use Rattle.kq_model.specs.Tallying.{Tally, tallying}
 use Rattle.kq_model.specs.Hints.{takes}
 use Rattle.kq_model.specs.Recast.{IsHearingMap, has_other}
 use Rattle.kq_model.specs.VersionOne as one

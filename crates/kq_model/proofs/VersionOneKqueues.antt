@@ -12,7 +12,7 @@ use Rattle.kq_model.specs.ChangedKnote.{activated}
 use Rattle.kq_model.specs.declared.key.Key.{Key}
 use Rattle.kq_model.specs.Clock.{Span, ticking, expires_at, expired, timers, waiting_of, kqueue_of_waiting, clock_from, clocked}
 use Rattle.kq_model.specs.Close.{closed, has_pair}
-use Rattle.kq_model.specs.Hints.{hints_for, heard_by, hears_exit, unless_silent, noticed, if_there, knotes_noticing, queue_with, queue_noticing, queue_after_all, notified}
+use Rattle.kq_model.specs.Hints.{hints_for, heard_by, hears_exit, unless_silent, alerted, if_there, knotes_alerted, queue_with, queue_alerted, queue_after_all, notified}
 use Rattle.kq_model.specs.Hearing.{Hearing}
 use Rattle.kq_model.specs.Knote.{Knote, find_knote, is_timer}
 use Rattle.kq_model.specs.Kqueue.{Kqueue}
@@ -116,35 +116,35 @@ module _ {S : Type 0} {h : Hearing S} where
   unless_silent-one false k quiet = refl
   unless_silent-one true k quiet = ap (λ n. cond (is_none n && h.is_empty k.seen) None (Some (record k { oneshot = true }))) quiet
 
-  noticed-one : (views : Views) (hints : List Hint) (k : Knote h) → Is k → noticed views hints k ≡ one.noticed views hints k
-  unfolding noticed one.noticed
-  noticed-one views [] k quiet = refl
-  noticed-one views (hint ∷ hints) k quiet =
+  alerted-one : (views : Views) (hints : List Hint) (k : Knote h) → Is k → alerted views hints k ≡ one.alerted views hints k
+  unfolding alerted one.alerted
+  alerted-one views [] k quiet = refl
+  alerted-one views (hint ∷ hints) k quiet =
       let exits = hears_exit (hint ∷ hints) k in
       let heard = heard_by (hint ∷ hints) k in
       let still = heard_by-quiet (hint ∷ hints) k quiet in
       unless_silent-one exits (activated (look views heard) heard) (activated-quiet (look views heard) heard still)
       ∙ ap (λ seen. one.unless_silent exits (activated seen heard)) (look-one views heard still)
 
-  knotes_noticing-one : (views : Views) (posted : List Posted) (ks : List (Knote h)) → Are ks → knotes_noticing views posted ks ≡ one.knotes_noticing views posted ks
-  unfolding knotes_noticing one.knotes_noticing
-  knotes_noticing-one views posted [] quiet = refl
-  knotes_noticing-one views posted (k ∷ ks) quiet =
-      ap₂ (λ found rest. if_there found ++ rest) (noticed-one views (hints_for k posted) k (All-head Is k ks quiet))
-      (knotes_noticing-one views posted ks (All-tail Is k ks quiet))
+  knotes_alerted-one : (views : Views) (posted : List Posted) (ks : List (Knote h)) → Are ks → knotes_alerted views posted ks ≡ one.knotes_alerted views posted ks
+  unfolding knotes_alerted one.knotes_alerted
+  knotes_alerted-one views posted [] quiet = refl
+  knotes_alerted-one views posted (k ∷ ks) quiet =
+      ap₂ (λ found rest. if_there found ++ rest) (alerted-one views (hints_for k posted) k (All-head Is k ks quiet))
+      (knotes_alerted-one views posted ks (All-tail Is k ks quiet))
 
-  queue_noticing-one : (views : Views) (hints : List Hint) (k : Knote h) (queue : List Key) → Is k → queue_noticing views hints k queue ≡ one.queue_noticing views hints k queue
-  unfolding queue_noticing one.queue_noticing
-  queue_noticing-one views [] k queue quiet = refl
-  queue_noticing-one views (hint ∷ hints) k queue quiet = ap (λ n. queue_with k.key n queue) (noticed-one views (hint ∷ hints) k quiet)
+  queue_alerted-one : (views : Views) (hints : List Hint) (k : Knote h) (queue : List Key) → Is k → queue_alerted views hints k queue ≡ one.queue_alerted views hints k queue
+  unfolding queue_alerted one.queue_alerted
+  queue_alerted-one views [] k queue quiet = refl
+  queue_alerted-one views (hint ∷ hints) k queue quiet = ap (λ n. queue_with k.key n queue) (alerted-one views (hint ∷ hints) k quiet)
 
   queue_after_all-one : (views : Views) (posted : List Posted) (ks : List (Knote h)) (queue : List Key) → Are ks
       → queue_after_all views posted ks queue ≡ one.queue_after_all views posted ks queue
   unfolding queue_after_all one.queue_after_all
   queue_after_all-one views posted [] queue quiet = refl
   queue_after_all-one views posted (k ∷ ks) queue quiet =
-      queue_after_all-one views posted ks (queue_noticing views (hints_for k posted) k queue) (All-tail Is k ks quiet)
-      ∙ ap (one.queue_after_all views posted ks) (queue_noticing-one views (hints_for k posted) k queue (All-head Is k ks quiet))
+      queue_after_all-one views posted ks (queue_alerted views (hints_for k posted) k queue) (All-tail Is k ks quiet)
+      ∙ ap (one.queue_after_all views posted ks) (queue_alerted-one views (hints_for k posted) k queue (All-head Is k ks quiet))
 
   abbrev pub kqueue : List (Knote h) → List Key → Kqueue h
   kqueue knotes queue = record { knotes = knotes; queue = queue }
@@ -152,7 +152,7 @@ module _ {S : Type 0} {h : Hearing S} where
   notified-one : (views : Views) (posted : List Posted) (kq : Kqueue h) → Are kq.knotes → notified views posted kq ≡ one.notified views posted kq
   unfolding notified one.notified
   notified-one views posted kq quiet =
-      ap₂ kqueue (knotes_noticing-one views posted kq.knotes quiet) (queue_after_all-one views posted kq.knotes kq.queue quiet)
+      ap₂ kqueue (knotes_alerted-one views posted kq.knotes quiet) (queue_after_all-one views posted kq.knotes kq.queue quiet)
 
   -- ---- the clock
 

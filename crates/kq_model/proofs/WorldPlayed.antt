@@ -7,6 +7,7 @@ use Rattle.kq_model.specs.DescriptorPlans.{on_named, on_descriptor, plan_close, 
 use Rattle.kq_model.specs.Descriptors.{named_among, is_before, with_descriptor, with_descriptors}
 use Rattle.kq_model.specs.FilePlans as file
 use Rattle.kq_model.specs.Files as files
+use Rattle.kq_model.specs.Holders as holders
 use Rattle.kq_model.specs.Holding as holding
 use Rattle.kq_model.specs.ObjectPlan as object
 use Rattle.kq_model.specs.ObjectRecordPlans as records
@@ -61,7 +62,7 @@ unfolding on_named on_descriptor plan_close closes close_doings close_hints dupl
     named_among is_before with_descriptor with_descriptors
     file.file_amount file.noted file.extending file.made_file file.plan_file file.present file.opened file.plan_open file.sized file.truncated file.plan_truncate file.deletion file.said file.plan_note file.sought file.sought_in file.plan_seek file.read_file file.reached file.grows file.written file.write_file
     files.description_state files.description_after files.may_read files.may_write files.file_state files.file_after
-    holding.holders_of holding.hold_doings holding.hold holding.leaving holding.left holding.release_doings holding.release holding.close_hint holding.end_hint holding.release_hint holding.all_held holding.all_released holding.release_all holding.option_list holding.release_hints
+    holders.holders_of holding.hold_doings holders.hold holding.leaving holding.left holding.release_doings holding.release holding.close_hint holding.end_hint holding.release_hint holders.all_held holders.all_released holding.release_all holding.option_list holding.release_hints
     object.hints_for
     records.with_objects records.plan_act records.plan_at records.unless_open records.if_live records.plan_socket records.plan_accept records.plan_pipe records.plan_open
     done all_done view_of description_view

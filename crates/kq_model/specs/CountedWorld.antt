@@ -4,7 +4,7 @@ use Rattle.std.specs.Prelude.{◌≡◌, ℕ, ◌+◌, ◌<◌, true, List, All}
 use Rattle.kq_model.specs.declared.object.Named.{Named}
 use Rattle.kq_model.specs.declared.object.Named.TheVariants as named
 use Rattle.kq_model.specs.Descriptors.{Descriptor, IsRising}
-use Rattle.kq_model.specs.Holding.{AreHeld, IsCounted}
+use Rattle.kq_model.specs.Holders.{AreHeld, IsCounted}
 use Rattle.kq_model.specs.Objects.{counted}
 use Rattle.kq_model.specs.Processes.{Process, is_live}
 use Rattle.kq_model.specs.ProcessPlans.{names_of}

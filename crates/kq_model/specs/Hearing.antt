@@ -1,9 +1,9 @@
--- What a knote has heard since it was last reset, and how that may be kept: as the list of it all, which
--- the definitions go by, or as a tally, which serves every filter as well (kqueue(2): events that trigger
--- a filter more than once come as one kevent, with their number or the union of their notes).
-use Rattle.std.specs.Prelude.{ℕ, ◌+◌, ◌==◌, Bool, true, false, not, ◌&&◌, ◌||◌, List, []}
+-- What a knote has heard since it was last reset: the list of it all. What is asked of it may be kept in other ways,
+-- too (kqueue(2): events that trigger a filter more than once come as one kevent, with their number or the union of
+-- their notes).
+use Rattle.std.specs.Prelude.{ℕ, Bool, true, false, List, []}
 use Rattle.std.specs.Prelude.{◌∷◌, ◌++◌, filter, length}
-use Rattle.std.specs.Prelude.{min, if◌then◌else◌}
+use Rattle.std.specs.Prelude.{min}
 use Rattle.std.specs.List.{fold}
 use Rattle.std.specs.Int.RustNames.{bit_or}
 use Rattle.kq_model.specs.declared.object.Hint.{Hint}
@@ -69,35 +69,4 @@ listed = record {
   count = λ xs. min (counted_in xs) most_counted;
   notes = union;
   is_empty = is_none_of;
-}
-
--- ---- as a tally
-
--- What is not counted and is kept as heard: a note and a child. READ and WRITE alone hear Readable and Writable, and
--- what they return is what a look sees.
-abbrev pub is_telling : Occurrence → Bool
-is_telling (Told Delivered) = false
-is_telling (Told Readable) = false
-is_telling (Told Writable) = false
-is_telling (Told (Note bits)) = true
-is_telling (Told (Child pid)) = true
-is_telling Expired = false
-
-pub record Tally : Type 0 where
-  pub count : ℕ
-  pub notes : ℕ
-  -- a note or a child was heard
-  pub told : Bool
-
-abbrev pub tallying : Hearing Tally
-tallying = record {
-  empty = record { count = 0; notes = 0; told = false };
-  heard = λ x t. record {
-    count = if is_counted x then min (t.count + 1) most_counted else t.count;
-    notes = bit_or t.notes (notes_of x);
-    told = is_telling x || t.told;
-  };
-  count = λ t. min t.count most_counted;
-  notes = λ t. t.notes;
-  is_empty = λ t. t.count == 0 && not t.told;
 }

@@ -58,17 +58,6 @@ module _ {S : Type 0} {h : Hearing S} where
   heard_by [] k = k
   heard_by (hint ∷ hints) k = heard_by hints (added (kept k.fflags hint) k)
 
-  -- One hint alone, where the filter takes it; the exit of its process makes a knote ONESHOT.
-  unfoldable pub after_hint : Hint → Knote h → Knote h
-  after_hint hint k =
-      record (if takes k.key.filter hint then added (kept k.fflags hint) k else k) {
-        oneshot = k.oneshot || is_exit k.key.filter hint;
-      }
-
-  -- it heard of the exit and has nothing to tell, so it is to go
-  unfoldable pub is_done : Hint → Knote h → Bool
-  is_done hint k = is_exit k.key.filter hint && has_nothing (after_hint hint k)
-
   -- one of the hints is the exit, whether or not the knote asked for it
   abbrev pub hears_exit : List Hint → Knote h → Bool
   hears_exit hints k = list_any (is_exit k.key.filter) hints
@@ -80,9 +69,9 @@ module _ {S : Type 0} {h : Hearing S} where
 
   -- A knote that heard hints is looked at, enabled or not, and is active where the look sees something.
   -- None: it is gone. With no hint it stays as it is.
-  unfoldable pub noticed : Views → List Hint → Knote h → Option (Knote h)
-  noticed views [] k = Some k
-  noticed views (hint ∷ hints) k =
+  unfoldable pub alerted : Views → List Hint → Knote h → Option (Knote h)
+  alerted views [] k = Some k
+  alerted views (hint ∷ hints) k =
       unless_silent (hears_exit (hint ∷ hints) k)
       (activated (look views (heard_by (hint ∷ hints) k)) (heard_by (hint ∷ hints) k))
 
@@ -92,10 +81,10 @@ module _ {S : Type 0} {h : Hearing S} where
   if_there None = []
   if_there (Some k) = k ∷ []
 
-  unfoldable pub knotes_noticing : Views → List Posted → List (Knote h) → List (Knote h)
-  knotes_noticing views posted [] = []
-  knotes_noticing views posted (k ∷ ks) =
-      if_there (noticed views (hints_for k posted) k) ++ knotes_noticing views posted ks
+  unfoldable pub knotes_alerted : Views → List Posted → List (Knote h) → List (Knote h)
+  knotes_alerted views posted [] = []
+  knotes_alerted views posted (k ∷ ks) =
+      if_there (alerted views (hints_for k posted) k) ++ knotes_alerted views posted ks
 
   -- the queue with this key where the knote now belongs
   unfoldable pub queue_with : Key → Option (Knote h) → List Key → List Key
@@ -103,19 +92,19 @@ module _ {S : Type 0} {h : Hearing S} where
   queue_with key (Some k) queue = queue_for k queue
 
   -- with no hint for the knote the queue stays as it is
-  unfoldable pub queue_noticing : Views → List Hint → Knote h → List Key → List Key
-  queue_noticing views [] k queue = queue
-  queue_noticing views (hint ∷ hints) k queue = queue_with k.key (noticed views (hint ∷ hints) k) queue
+  unfoldable pub queue_alerted : Views → List Hint → Knote h → List Key → List Key
+  queue_alerted views [] k queue = queue
+  queue_alerted views (hint ∷ hints) k queue = queue_with k.key (alerted views (hint ∷ hints) k) queue
 
   -- the knotes go to the back in order of registration
   unfoldable pub queue_after_all : Views → List Posted → List (Knote h) → List Key → List Key
   queue_after_all views posted [] queue = queue
   queue_after_all views posted (k ∷ ks) queue =
-      queue_after_all views posted ks (queue_noticing views (hints_for k posted) k queue)
+      queue_after_all views posted ks (queue_alerted views (hints_for k posted) k queue)
 
   -- the views are those of the world after the whole record
   unfoldable pub notified : Views → List Posted → Kqueue h → Kqueue h
   notified views posted kq = record {
-    knotes = knotes_noticing views posted kq.knotes;
+    knotes = knotes_alerted views posted kq.knotes;
     queue = queue_after_all views posted kq.knotes kq.queue;
   }

@@ -1,11 +1,9 @@
--- Descriptors and the objects that they name: how many name each, and what happens when one more names
--- it or one no longer does. The last one that no longer names it ends the object, or its end of a pipe.
+-- Descriptors and the objects that they name: what happens when one more names an object or one no longer
+-- does. The last one that no longer names it ends the object, or its end of a pipe.
 -- Source: dup(2), close(2), fork(2); NOTE_CLOSE and NOTE_CLOSE_WRITE of kqueue(2).
-use Rattle.std.specs.Prelude.{◌≡◌, ◌==◌, ◌≤◌, ℕ, ◌+◌, ℤ, pos, int_le, Bool, true, false}
+use Rattle.std.specs.Prelude.{ℕ, ℤ, pos, int_le, Bool}
 use Rattle.std.specs.Prelude.{List, [], ◌∷◌, ◌++◌, Option}
 use Rattle.std.specs.Prelude.{Some, None, if◌then◌else◌}
-use Rattle.kq_model.specs.declared.act.Act.{Act}
-use Rattle.kq_model.specs.declared.act.Act.TheVariants as act
 use Rattle.kq_model.specs.declared.doing.DescriptionRecord.TheVariants as description
 use Rattle.kq_model.specs.declared.doing.Doing.{Doing}
 use Rattle.kq_model.specs.declared.doing.Doing.TheVariants.{ToSocket, ToPipe, ToDescription, ToFile}
@@ -19,17 +17,12 @@ use Rattle.kq_model.specs.declared.object.Named.TheVariants as named
 use Rattle.kq_model.specs.declared.object.Target.{Target}
 use Rattle.kq_model.specs.declared.object.Target.TheVariants as target
 use Rattle.kq_model.specs.declared.side.Side.TheVariants as side
-use Rattle.kq_model.specs.Files.{DescriptionState, FileState, is_description_held, may_write}
+use Rattle.kq_model.specs.Files.{DescriptionState, FileState, may_write}
 use Rattle.kq_model.specs.NoteBits.{note_close, note_close_write}
 use Rattle.kq_model.specs.Objects.{Keeping, Objects, counted, quantities, all_done}
-use Rattle.kq_model.specs.Pipes.{PipeState, is_pipe_held}
-use Rattle.kq_model.specs.Sockets.{SocketState, is_socket_held}
+use Rattle.kq_model.specs.Pipes.{PipeState}
 
--- ---- how many descriptors name an object
-
-abbrev pub socket_holders : Option SocketState → ℤ
-socket_holders None = pos 0
-socket_holders (Some s) = s.holders
+-- ---- how many descriptors name an end of a pipe
 
 abbrev pub readers : Option PipeState → ℤ
 readers None = pos 0
@@ -39,18 +32,6 @@ abbrev pub writers : Option PipeState → ℤ
 writers None = pos 0
 writers (Some s) = s.writers
 
-abbrev pub description_holders : Option DescriptionState → ℤ
-description_holders None = pos 0
-description_holders (Some s) = s.holders
-
--- a kqueue is not an object
-unfoldable pub holders_of : Named → Objects counted → ℤ
-holders_of (named.Socket place) o = socket_holders (o.socket place)
-holders_of (named.PipeRead place) o = readers (o.pipe place)
-holders_of (named.PipeWrite place) o = writers (o.pipe place)
-holders_of (named.Open place number) o = description_holders (o.description place)
-holders_of (named.Kqueue place) o = pos 0
-
 -- ---- one more descriptor
 
 unfoldable pub hold_doings : Named → List Doing
@@ -59,9 +40,6 @@ hold_doings (named.PipeRead place) = ToPipe place (pipe.Held side.Read) ∷ []
 hold_doings (named.PipeWrite place) = ToPipe place (pipe.Held side.Write) ∷ []
 hold_doings (named.Open place number) = ToDescription place description.Held ∷ []
 hold_doings (named.Kqueue place) = []
-
-unfoldable pub hold : {A B C D : Type 0} {k : Keeping A B C D} → Named → Objects k → Objects k
-hold n o = all_done (hold_doings n) o
 
 -- ---- one descriptor less
 
@@ -110,14 +88,6 @@ release_hint (named.Kqueue place) o = None
 
 -- ---- many descriptors, one after the other
 
-unfoldable pub all_held : {A B C D : Type 0} {k : Keeping A B C D} → List Named → Objects k → Objects k
-all_held [] o = o
-all_held (n ∷ ns) o = all_held ns (hold n o)
-
-unfoldable pub all_released : {A B C D : Type 0} {k : Keeping A B C D} → List Named → Objects k → Objects k
-all_released [] o = o
-all_released (n ∷ ns) o = all_released ns (release n o)
-
 -- what is noted of the objects, where each descriptor is released after the one before it
 unfoldable pub release_all : List Named → Objects counted → List Doing
 release_all [] o = []
@@ -130,47 +100,3 @@ option_list (Some x) = x ∷ []
 unfoldable pub release_hints : List Named → Objects counted → List (Target × Hint)
 release_hints [] o = []
 release_hints (n ∷ ns) o = option_list (release_hint n o) ++ release_hints ns (release n o)
-
--- ---- the holders are those of the tables
-
--- whether both name one socket, one end of a pipe or one description; kqueues are not counted
-unfoldable pub is_same : Named → Named → Bool
-is_same (named.Socket p) (named.Socket q) = p == q
-is_same (named.PipeRead p) (named.PipeRead q) = p == q
-is_same (named.PipeWrite p) (named.PipeWrite q) = p == q
-is_same (named.Open p f) (named.Open q g) = p == q
-is_same _ _ = false
-
-unfoldable pub one_if : Bool → ℕ
-one_if holds = if holds then 1 else 0
-
--- how often descriptors name the object
-unfoldable pub times : Named → List Named → ℕ
-times n [] = 0
-times n (m ∷ ms) = times n ms + one_if (is_same n m)
-
--- the counts of descriptors are those of the descriptors that there are, in whatever order
-abbrev pub IsCounted : Objects counted → List Named → Type 0
-IsCounted o names = (n : Named) → holders_of n o ≡ pos (times n names)
-
--- a descriptor among these names the object; of a kqueue nothing is asked
-abbrev pub IsNamed : Named → List Named → Type 0
-IsNamed (named.Kqueue place) names = Unit {0}
-IsNamed n names = 1 ≤ times n names
-
--- a descriptor names each object that is there, files excepted
-pub record AreHeld (o : Objects counted) : Type 0 where
-  pub socket : (place : ℕ) (s : SocketState) → o.socket place ≡ Some s → is_socket_held s ≡ true
-  pub pipe : (place : ℕ) (s : PipeState) → o.pipe place ≡ Some s → is_pipe_held s ≡ true
-  pub description : (place : ℕ) (s : DescriptionState) → o.description place ≡ Some s
-      → is_description_held s ≡ true
-
--- ---- what a record makes descriptors name
-
--- the objects, and ends of a pipe, that the record of a place makes, each named by one descriptor
-unfoldable pub made_names : ℕ → Act → List Named
-made_names place (act.Socket receive_buffer send_buffer) = named.Socket place ∷ []
-made_names place (act.Accept on receive_buffer send_buffer) = named.Socket place ∷ []
-made_names place (act.Pipe cap) = named.PipeRead place ∷ named.PipeWrite place ∷ []
-made_names place (act.Open number mode) = named.Open place number ∷ []
-made_names place _ = []

@@ -78,12 +78,16 @@ pub mod VersionOne
 -- Bridges: how the code keeps what the definitions speak of, which contracts name, and what holds of every world and
 -- kqueue, which proofs need.
 pub mod Hashed
+pub mod NextTicks
+pub mod WalkedAtOnce
+pub mod Tallying
 pub mod Tallied
 pub mod Recast
-pub mod Noticing
+pub mod Alerting
 pub mod Subjects
 pub mod NamedTargets
 pub mod WatchedNumbers
+pub mod Holders
 pub mod CountedWorld
 pub mod ListedFiles
 pub mod Touching

@@ -8,7 +8,8 @@ use Rattle.kq_model.specs.declared.filter.Filter.TheVariants.{Read, Write, Proc,
 use Rattle.kq_model.specs.declared.object.Hint.{Hint}
 use Rattle.kq_model.specs.declared.reply.Reply.{Reply}
 use Rattle.kq_model.specs.Call.{Called}
-use Rattle.kq_model.specs.Hearing.{Hearing, Occurrence, Told, Expired, Tally, listed, tallying, is_counted, counted_in}
+use Rattle.kq_model.specs.Hearing.{Hearing, Occurrence, Told, Expired, listed, is_counted, counted_in}
+use Rattle.kq_model.specs.Tallying.{Tally, tallying}
 use Rattle.kq_model.specs.Hearing.{union, most_counted}
 use Rattle.kq_model.specs.Hints.{takes}
 use Rattle.kq_model.specs.Knote.{Knote}

@@ -1,6 +1,6 @@
 -- The definitions as the code has them: what was heard is kept as a tally, and of the objects the
 -- quantities. Each name is that of the definition of which it is an instance.
-use Rattle.kq_model.specs.Hearing.{tallying}
+use Rattle.kq_model.specs.Tallying.{tallying}
 use Rattle.kq_model.specs.Call as call
 use Rattle.kq_model.specs.Objects.{counted}
 use Rattle.kq_model.specs.Knote as knote

@@ -227,29 +227,29 @@ module _ {S : Type 0} {h : Hearing S} where
   unless_silent false k = Some k
   unless_silent true k = if h.is_empty k.seen then None else Some (record k { oneshot = true })
 
-  unfoldable pub noticed : Views → List Hint → Knote h → Option (Knote h)
-  noticed views [] k = Some k
-  noticed views (hint ∷ hints) k =
+  unfoldable pub alerted : Views → List Hint → Knote h → Option (Knote h)
+  alerted views [] k = Some k
+  alerted views (hint ∷ hints) k =
       unless_silent (hears_exit (hint ∷ hints) k)
       (activated (look views (heard_by (hint ∷ hints) k)) (heard_by (hint ∷ hints) k))
 
-  unfoldable pub knotes_noticing : Views → List Posted → List (Knote h) → List (Knote h)
-  knotes_noticing views posted [] = []
-  knotes_noticing views posted (k ∷ ks) =
-      if_there (noticed views (hints_for k posted) k) ++ knotes_noticing views posted ks
+  unfoldable pub knotes_alerted : Views → List Posted → List (Knote h) → List (Knote h)
+  knotes_alerted views posted [] = []
+  knotes_alerted views posted (k ∷ ks) =
+      if_there (alerted views (hints_for k posted) k) ++ knotes_alerted views posted ks
 
-  unfoldable pub queue_noticing : Views → List Hint → Knote h → List Key → List Key
-  queue_noticing views [] k queue = queue
-  queue_noticing views (hint ∷ hints) k queue = queue_with k.key (noticed views (hint ∷ hints) k) queue
+  unfoldable pub queue_alerted : Views → List Hint → Knote h → List Key → List Key
+  queue_alerted views [] k queue = queue
+  queue_alerted views (hint ∷ hints) k queue = queue_with k.key (alerted views (hint ∷ hints) k) queue
 
   unfoldable pub queue_after_all : Views → List Posted → List (Knote h) → List Key → List Key
   queue_after_all views posted [] queue = queue
   queue_after_all views posted (k ∷ ks) queue =
-      queue_after_all views posted ks (queue_noticing views (hints_for k posted) k queue)
+      queue_after_all views posted ks (queue_alerted views (hints_for k posted) k queue)
 
   unfoldable pub notified : Views → List Posted → Kqueue h → Kqueue h
   notified views posted kq = record {
-    knotes = knotes_noticing views posted kq.knotes;
+    knotes = knotes_alerted views posted kq.knotes;
     queue = queue_after_all views posted kq.knotes kq.queue;
   }
 

@@ -3,7 +3,7 @@ use Rattle.std.proofs.Common.{◌≡◌, ◌<◌, ◌≤◌, ◌+◌, ◌^◌, �
 use Rattle.std.proofs.lemmas.Int.{ints}
 use Rattle.kq_model.specs.declared.object.Named.{Named}
 use Rattle.kq_model.specs.declared.object.Named.TheVariants.{Socket, PipeRead, PipeWrite, Open, Kqueue}
-use Rattle.kq_model.specs.Holding.{IsCounted, IsNamed}
+use Rattle.kq_model.specs.Holders.{IsCounted, IsNamed}
 use Rattle.kq_model.specs.Objects.{Objects, counted}
 use Rattle.kq_model.specs.CountedWorld.{IsCountedWorld}
 use Rattle.kq_model.specs.ProcessPlans.{names_of}

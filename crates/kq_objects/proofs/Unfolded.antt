@@ -1,7 +1,8 @@
 -- What the proofs of a function unfold together, by one name: to unfold it is to unfold all that its line names.
 use Rattle.kq_model.specs.FilePlans.{plan_seek, sought_in, sought, read_file, noted, plan_file, made_file}
 use Rattle.kq_model.specs.FilePlans.{plan_truncate, truncated, sized}
-use Rattle.kq_model.specs.Holding.{hold, hold_doings, holders_of, release, release_doings, release_hint}
+use Rattle.kq_model.specs.Holding.{hold_doings, release, release_doings, release_hint}
+use Rattle.kq_model.specs.Holders.{hold, holders_of}
 use Rattle.kq_model.specs.Holding.{left, leaving, close_hint, end_hint}
 use Rattle.kq_model.specs.ObjectPlan.{hints_for}
 use Rattle.kq_model.specs.Objects.{all_done}

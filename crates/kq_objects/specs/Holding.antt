@@ -2,7 +2,7 @@
 use Rattle.std.specs.Prelude.{pos, ◌≤ℤ◌}
 use Rattle.kq_model.specs.declared.object.Named.{Named}
 use Rattle.kq_model.specs.declared.object.Named.TheVariants.{Kqueue}
-use Rattle.kq_model.specs.Holding.{holders_of}
+use Rattle.kq_model.specs.Holders.{holders_of}
 use Rattle.kq_model.specs.Objects.{Objects, counted}
 use Rattle.kq_objects.specs.Fits.{HasRoomToHold}
 

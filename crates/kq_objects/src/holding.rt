@@ -1,7 +1,9 @@
 // Descriptors that name objects: one more, and one less.
 ghost use Rattle.std.specs.Prelude.{◌≡◌, ℕ, pos, ◌≤ℤ◌, None};
-ghost use Rattle.kq_model.specs.Holding.{hold, release, release_hint, end_hint, close_hint, leaving, socket_holders};
-ghost use Rattle.kq_model.specs.Holding.{readers, writers, description_holders};
+ghost use Rattle.kq_model.specs.Holding.{release, release_hint, end_hint, close_hint, leaving};
+ghost use Rattle.kq_model.specs.Holders.{hold, socket_holders};
+ghost use Rattle.kq_model.specs.Holding.{readers, writers};
+ghost use Rattle.kq_model.specs.Holders.{description_holders};
 ghost use Rattle.kq_model.specs.Objects.{all_done};
 ghost use Rattle.kq_model.specs.declared.object.Hint.TheVariants as hint;
 ghost use Rattle.kq_model.specs.declared.object.Named.TheVariants as named;

@@ -3,7 +3,7 @@ use Rattle.std.proofs.Common.{◌≡◌, ℕ, ◌+◌, ◌<◌, ◌^◌, List, [
 use Rattle.kq_model.specs.declared.act.Act.{Act}
 use Rattle.kq_model.specs.declared.object.Named.{Named}
 use Rattle.kq_model.specs.Descriptors.{Descriptor, with_descriptors}
-use Rattle.kq_model.specs.Holding.{IsCounted, made_names}
+use Rattle.kq_model.specs.Holders.{IsCounted, made_names}
 use Rattle.kq_model.specs.ObjectPlan as object
 use Rattle.kq_model.specs.ObjectPlan.{ObjectPlan}
 use Rattle.kq_model.specs.ObjectRecordPlans.{plan_act, with_objects}

@@ -5,7 +5,7 @@ use Rattle.kq_model.specs.declared.act.Act.TheVariants as act
 use Rattle.kq_model.specs.declared.event.Event.{Event}
 use Rattle.kq_model.specs.declared.event.Event.TheVariants as event
 use Rattle.kq_model.specs.CountedWorld.{IsCountedWorld, KeepsCounts, NamesBelow}
-use Rattle.kq_model.specs.Holding.{made_names}
+use Rattle.kq_model.specs.Holders.{made_names}
 use Rattle.kq_model.specs.ObjectRecordPlans.{plan_at}
 use Rattle.kq_model.specs.Objects.{counted, listed}
 use Rattle.kq_model.specs.Plans.{plan}

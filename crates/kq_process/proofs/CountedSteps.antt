@@ -4,7 +4,8 @@ use Rattle.std.specs.Option.{is_some}
 use Rattle.kq_model.specs.declared.object.Hint.{Hint}
 use Rattle.kq_model.specs.declared.object.Named.{Named}
 use Rattle.kq_model.specs.declared.object.Target.{Target}
-use Rattle.kq_model.specs.Holding.{hold, release, release_hint, release_hints, option_list, all_held, all_released}
+use Rattle.kq_model.specs.Holding.{release, release_hint, release_hints, option_list}
+use Rattle.kq_model.specs.Holders.{hold, all_held, all_released}
 use Rattle.kq_model.specs.Objects.{Objects, counted}
 use Rattle.kq_objects.specs.Holding.{CanHold, CanRelease}
 use Rattle.kq_process.specs.Counts.{CanHoldEach, CanReleaseEach}

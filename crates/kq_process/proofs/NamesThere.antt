@@ -5,7 +5,8 @@ use Rattle.std.proofs.lemmas.Bool.Decides.{nat_tests}
 use Rattle.kq_model.specs.declared.object.Named.{Named}
 use Rattle.kq_model.specs.declared.object.Named.TheVariants.{Socket, PipeRead, PipeWrite, Open, Kqueue}
 use Rattle.kq_model.specs.Descriptors.{Descriptor, named_among, without_closed}
-use Rattle.kq_model.specs.Holding.{hold, release, is_same, one_if, times, IsCounted, IsNamed}
+use Rattle.kq_model.specs.Holding.{release}
+use Rattle.kq_model.specs.Holders.{hold, is_same, one_if, times, IsCounted, IsNamed}
 use Rattle.kq_model.specs.Objects.{Objects, counted}
 use Rattle.kq_model.specs.ProcessPlans.{names_of, is_kqueue, inherited}
 use Rattle.kq_model.proofs.HeldNames.{times-append, counted-more, counted-fewer, named-in}

@@ -6,7 +6,8 @@ use Rattle.kq_model.specs.declared.object.Named.TheVariants as named
 use Rattle.kq_model.specs.Bits.{exit_note}
 use Rattle.kq_model.specs.Descriptors.{Descriptor, with_descriptor, with_descriptors, without_closed}
 use Rattle.kq_model.specs.DescriptorPlans.{plan_close, plan_dup, duplicated, on_descriptor, on_named, closes, close_doings}
-use Rattle.kq_model.specs.Holding.{hold, release, hold_doings, release_doings, release_hint, release_all, release_hints, option_list, all_held, all_released}
+use Rattle.kq_model.specs.Holding.{release, hold_doings, release_doings, release_hint, release_all, release_hints, option_list}
+use Rattle.kq_model.specs.Holders.{hold, all_held, all_released}
 use Rattle.kq_model.specs.Objects.{Objects, counted, all_done}
 use Rattle.kq_model.specs.ProcessPlans.{plan_fork, plan_exit, inherited, descriptors_of, pairs_of, names_of, forked, hold_all, noted}
 use Rattle.kq_model.specs.Processes.{Process, was_used, is_live, process_of, ignored_by, with_process, without_process, with_disposition}

@@ -5,7 +5,8 @@ use Rattle.std.proofs.lemmas.List.Sums.{sum_by-cons}
 use Rattle.kq_model.specs.declared.object.Named.{Named}
 use Rattle.kq_model.specs.declared.object.Named.TheVariants.{Socket, PipeRead, PipeWrite, Open, Kqueue}
 use Rattle.kq_model.specs.Descriptors.{Descriptor, named_among, is_before, with_descriptor, with_descriptors, without_closed}
-use Rattle.kq_model.specs.Holding.{holders_of, hold, release, all_held, all_released, is_same, one_if, times, IsCounted, IsNamed, AreHeld}
+use Rattle.kq_model.specs.Holding.{release}
+use Rattle.kq_model.specs.Holders.{holders_of, hold, all_held, all_released, is_same, one_if, times, IsCounted, IsNamed, AreHeld}
 use Rattle.kq_model.specs.Objects.{Objects, counted, no_objects}
 use Rattle.kq_model.specs.ProcessPlans.{names_of, pairs_of, is_kqueue, descriptors_of, inherited}
 use Rattle.kq_model.proofs.HeldNames.{times-append, counted-all_held, counted-all_released}

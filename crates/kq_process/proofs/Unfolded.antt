@@ -1,6 +1,6 @@
 -- What the proofs of a function unfold together, by one name: to unfold it is to unfold all that its line names.
 use Rattle.kq_model.specs.DescriptorPlans.{on_descriptor, on_named, plan_kevent, plan_call}
-use Rattle.kq_model.specs.Holding.{made_names}
+use Rattle.kq_model.specs.Holders.{made_names}
 use Rattle.kq_model.specs.ObjectRecordPlans.{plan_act, with_objects, plan_socket, plan_accept, plan_open, plan_pipe}
 use Rattle.kq_model.specs.ObjectRecordPlans.{if_live, unless_open}
 use Rattle.kq_model.specs.World.{named_by}

@@ -2,7 +2,8 @@
 use Rattle.std.specs.Prelude.{◌≡◌, ℕ, ◌<◌, ◌^◌, List, [], ◌∷◌, length, map}
 use Rattle.kq_model.specs.declared.object.Named.{Named}
 use Rattle.kq_model.specs.Descriptors.{Descriptor}
-use Rattle.kq_model.specs.Holding.{hold, release, AreHeld, IsCounted}
+use Rattle.kq_model.specs.Holding.{release}
+use Rattle.kq_model.specs.Holders.{hold, AreHeld, IsCounted}
 use Rattle.kq_model.specs.Objects.{Objects, counted}
 use Rattle.kq_model.specs.ProcessPlans.{names_of}
 use Rattle.kq_objects.specs.Holding.{CanHold, CanRelease}

@@ -2,7 +2,7 @@
 // this place or later.
 ghost use Rattle.std.specs.Prelude.{◌≡◌, ◌∷◌, [], ◌==◌, OnOk, OnErr, None, true, false};
 ghost use Rattle.kq_model.specs.CountedWorld.{IsCountedWorld};
-ghost use Rattle.kq_model.specs.Holding.{made_names};
+ghost use Rattle.kq_model.specs.Holders.{made_names};
 ghost use Rattle.kq_model.specs.ObjectRecordPlans.{plan_act, plan_at, plan_socket, plan_accept, plan_pipe, plan_open};
 ghost use Rattle.kq_model.specs.ObjectRecordPlans.{pipe_ends};
 ghost use Rattle.kq_model.specs.Processes.{is_live};

@@ -1,7 +1,8 @@
 // Descriptors of objects, counted one after the other.
 ghost use Rattle.std.specs.Prelude.{◌≡◌, ℕ, ◌∷◌, [], OnOk, map, ◌+◌, ◌<◌, ◌≤◌};
 ghost use Rattle.std.specs.Prelude.{◌++◌, length, vec_len, vec_capacity};
-ghost use Rattle.kq_model.specs.Holding.{release, release_hint, release_hints, option_list, all_held, all_released};
+ghost use Rattle.kq_model.specs.Holding.{release, release_hint, release_hints, option_list};
+ghost use Rattle.kq_model.specs.Holders.{all_held, all_released};
 ghost use Rattle.kq_model.specs.declared.object.Named.{Named as Name};
 ghost use Rattle.kq_objects.specs.Holding.{CanRelease};
 ghost use Rattle.kq_objects.specs.Objects.{objects_of};

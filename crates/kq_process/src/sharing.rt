@@ -2,7 +2,7 @@
 ghost use Rattle.std.specs.Prelude.{◌≡◌, ◌∷◌, ◌++◌, [], ℕ, OnOk, OnErr, None, Some, true};
 ghost use Rattle.std.specs.Prelude.{false, ◌==◌};
 ghost use Rattle.kq_model.specs.DescriptorPlans.{plan_close, plan_dup};
-ghost use Rattle.kq_model.specs.Holding.{IsNamed};
+ghost use Rattle.kq_model.specs.Holders.{IsNamed};
 ghost use Rattle.kq_model.specs.ProcessPlans.{forked, plan_fork, plan_exit, names_of};
 ghost use Rattle.kq_model.specs.Processes.{is_live};
 ghost use Rattle.kq_model.specs.World.{named_by, Possible};

@@ -7,7 +7,7 @@ use Rattle.kq_model.specs.declared.row.Row.{Row}
 use Rattle.kq_model.specs.Call.{call}
 use Rattle.kq_model.specs.Clock.{Span, clocked}
 use Rattle.kq_model.specs.Close.{Pair, closed}
-use Rattle.kq_model.specs.Hearing.{tallying}
+use Rattle.kq_model.specs.Tallying.{tallying}
 use Rattle.kq_model.specs.Hints.{notified}
 use Rattle.kq_model.specs.Items as model
 use Rattle.kq_model.specs.Items.{items_at, clock_whats, call_whats}

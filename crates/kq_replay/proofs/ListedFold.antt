@@ -3,7 +3,8 @@
 use Rattle.std.proofs.Common.{◌≡◌, ℕ, ◌+◌, List, [], ◌∷◌, ◌++◌, refl, sym, ap, ◌∙◌}
 use Rattle.kq_model.specs.declared.event.Event.{Event}
 use Rattle.kq_model.specs.declared.filter.Filter.{Filter}
-use Rattle.kq_model.specs.Hearing.{Hearing, listed, tallying}
+use Rattle.kq_model.specs.Hearing.{Hearing, listed}
+use Rattle.kq_model.specs.Tallying.{tallying}
 use Rattle.kq_model.specs.Moments.{plans_from}
 use Rattle.kq_model.specs.Objects as objects
 use Rattle.kq_model.specs.Objects.{Keeping, counted}

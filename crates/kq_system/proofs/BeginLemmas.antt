@@ -19,7 +19,7 @@ use Rattle.kq_model.specs.declared.reply.Reply.TheVariants as reply
 use Rattle.kq_model.specs.Bits.{add, asks}
 use Rattle.kq_model.specs.Call.{call}
 use Rattle.kq_model.specs.Caller.{Caller}
-use Rattle.kq_model.specs.Hearing.{tallying}
+use Rattle.kq_model.specs.Tallying.{tallying}
 use Rattle.kq_model.specs.Moment.{Moment, caller_at}
 use Rattle.kq_model.specs.Subjects.{HaveSubjects}
 use Rattle.kq_model.specs.Tallied.{Called, Kqueue, Live}

@@ -11,7 +11,8 @@ use Rattle.kq_model.specs.declared.reply.Reply.{Reply}
 use Rattle.kq_model.specs.declared.reply.Reply.TheVariants as reply
 use Rattle.kq_model.specs.declared.why.Why.{Why}
 use Rattle.kq_model.specs.declared.why.Why.TheVariants.{NoProcess, TooMany}
-use Rattle.kq_model.specs.Hearing.{listed, tallying}
+use Rattle.kq_model.specs.Hearing.{listed}
+use Rattle.kq_model.specs.Tallying.{tallying}
 use Rattle.kq_model.specs.Limits.{most_changes, most_room}
 use Rattle.kq_model.specs.Moment.{moment_of}
 use Rattle.kq_model.specs.Objects as objects

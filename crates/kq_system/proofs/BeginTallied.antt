@@ -5,7 +5,8 @@ use Rattle.kq_kevent.specs.Beginning as kevent
 use Rattle.kq_kevent.proofs.BeginLaws as laws
 use Rattle.kq_model.specs.declared.event.Event.{Event}
 use Rattle.kq_model.specs.declared.reply.Reply.{Reply}
-use Rattle.kq_model.specs.Hearing.{listed, tallying}
+use Rattle.kq_model.specs.Hearing.{listed}
+use Rattle.kq_model.specs.Tallying.{tallying}
 use Rattle.kq_model.specs.Moment.{Moment, caller_at, moment_of}
 use Rattle.kq_model.specs.Objects as objects
 use Rattle.kq_model.specs.Objects.{counted}

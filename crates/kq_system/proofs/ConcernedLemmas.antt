@@ -14,8 +14,8 @@ use Rattle.kq_model.specs.declared.object.Hint.{Hint}
 use Rattle.kq_model.specs.declared.object.Target.{Target}
 use Rattle.kq_model.specs.declared.object.Target.TheVariants.{Own}
 use Rattle.kq_model.specs.Close.{Pair, closed, has_pair, is_closed}
-use Rattle.kq_model.specs.Hearing.{tallying}
-use Rattle.kq_model.specs.Hints.{hints_for, if_there, knotes_noticing, noticed, notified, queue_after_all, queue_noticing, takes}
+use Rattle.kq_model.specs.Tallying.{tallying}
+use Rattle.kq_model.specs.Hints.{hints_for, if_there, knotes_alerted, alerted, notified, queue_after_all, queue_alerted, takes}
 use Rattle.kq_model.specs.Knote.{watches_number}
 use Rattle.kq_model.specs.Subjects.{HasSubject, HaveSubjects}
 use Rattle.kq_model.specs.Tallied.{Knote, Kqueue, Live}
@@ -102,23 +102,23 @@ no_hints posted k none =
     (none_kept (λ (p : Posted). is_target k.target p.0) posted none)
 
 one_same : (views : Views) (hints : List Hint) (k : Knote) (rest : List Knote) → hints ≡ []
-    → if_there (noticed views hints k) ++ rest ≡ k ∷ rest
-unfolding noticed if_there
+    → if_there (alerted views hints k) ++ rest ≡ k ∷ rest
+unfolding alerted if_there
 one_same views [] k rest none = refl
 one_same views (h ∷ hs) k rest none = absurd (cc)
 
 place_same : (views : Views) (hints : List Hint) (k : Knote) (queue : List Key) → hints ≡ []
-    → queue_noticing views hints k queue ≡ queue
-unfolding queue_noticing
+    → queue_alerted views hints k queue ≡ queue
+unfolding queue_alerted
 place_same views [] k queue none = refl
 place_same views (h ∷ hs) k queue none = absurd (cc)
 
 knotes_same : (views : Views) (posted : List Posted) (ks : List Knote) → Unhinted posted ks
-    → knotes_noticing views posted ks ≡ ks
-unfolding knotes_noticing
+    → knotes_alerted views posted ks ≡ ks
+unfolding knotes_alerted
 knotes_same views posted [] none = refl
 knotes_same views posted (k ∷ ks) none =
-    one_same views (hints_for k posted) k (knotes_noticing views posted ks) none.0
+    one_same views (hints_for k posted) k (knotes_alerted views posted ks) none.0
     ∙ ap (λ (rest : List Knote). k ∷ rest) (knotes_same views posted ks none.1)
 
 queue_same : (views : Views) (posted : List Posted) (ks : List Knote) (queue : List Key) → Unhinted posted ks

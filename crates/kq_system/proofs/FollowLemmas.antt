@@ -14,7 +14,7 @@ use Rattle.kq_model.specs.declared.filter.Filter.{Filter}
 use Rattle.kq_model.specs.declared.object.Target.{Target}
 use Rattle.kq_model.specs.declared.object.Target.TheVariants.{Process}
 use Rattle.kq_model.specs.Following.{Fork, all_forks, child_knote, followed, followed_each, forks_of, heir, is_follower, process_key, tracks, with_heir}
-use Rattle.kq_model.specs.Hearing.{tallying}
+use Rattle.kq_model.specs.Tallying.{tallying}
 use Rattle.kq_model.specs.Hints.{notified}
 use Rattle.kq_model.specs.Knote.{find_knote, is_timer}
 use Rattle.kq_model.specs.Kqueue.{HaveOwnKeys}

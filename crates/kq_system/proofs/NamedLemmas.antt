@@ -11,7 +11,7 @@ use Rattle.kq_model.specs.declared.object.Named.TheVariants as named
 use Rattle.kq_model.specs.declared.reply.Reply.{Reply}
 use Rattle.kq_model.specs.Call.{call}
 use Rattle.kq_model.specs.Caller.{Caller}
-use Rattle.kq_model.specs.Hearing.{tallying}
+use Rattle.kq_model.specs.Tallying.{tallying}
 use Rattle.kq_model.specs.Moment.{Moment, called_at, caller_at, moment_of}
 use Rattle.kq_model.specs.Plans.{plan}
 use Rattle.kq_model.specs.System.{answer, lived, step, step_by, stepped}

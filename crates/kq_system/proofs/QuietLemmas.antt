@@ -4,7 +4,7 @@ use Rattle.kq_model.specs.declared.key.Key.{Key}
 use Rattle.kq_model.specs.Close.{closed, has_pair, is_closed}
 use Rattle.kq_model.specs.Descriptors.{Descriptor, without_closed}
 use Rattle.kq_model.specs.Following.{all_forks}
-use Rattle.kq_model.specs.Hints.{if_there, knotes_noticing, noticed, notified, queue_after_all, queue_noticing}
+use Rattle.kq_model.specs.Hints.{if_there, knotes_alerted, alerted, notified, queue_after_all, queue_alerted}
 use Rattle.kq_model.specs.Clock.{clocked}
 use Rattle.kq_model.specs.Knote.{watches_number}
 use Rattle.kq_model.specs.Moment.{Moment, after_call, called_at, happened, kqueue_step}
@@ -34,13 +34,13 @@ closed_none owner kq =
     (all_kept (λ (k : Knote). not (is_closed owner [] k.key)) kq.knotes (λ k. not_both (watches_number k.key.filter)))
     (all_kept (λ key. not (is_closed owner [] key)) kq.queue (λ key. not_both (watches_number key.filter)))
 
-knotes_kept : (views : Views) (ks : List Knote) → knotes_noticing views [] ks ≡ ks
-unfolding knotes_noticing noticed if_there
+knotes_kept : (views : Views) (ks : List Knote) → knotes_alerted views [] ks ≡ ks
+unfolding knotes_alerted alerted if_there
 knotes_kept views [] = refl
 knotes_kept views (k ∷ ks) = ap (λ rest. k ∷ rest) (knotes_kept views ks)
 
 queue_kept : (views : Views) (ks : List Knote) (queue : List Key) → queue_after_all views [] ks queue ≡ queue
-unfolding queue_after_all queue_noticing
+unfolding queue_after_all queue_alerted
 queue_kept views [] queue = refl
 queue_kept views (k ∷ ks) queue = queue_kept views ks queue
 

@@ -11,7 +11,7 @@ use Rattle.kq_model.specs.declared.filter.Filter.{Filter}
 use Rattle.kq_model.specs.declared.object.Target.{Target}
 use Rattle.kq_model.specs.declared.object.Target.TheVariants.{Own}
 use Rattle.kq_model.specs.Clock.{Span, clocked}
-use Rattle.kq_model.specs.Hearing.{tallying}
+use Rattle.kq_model.specs.Tallying.{tallying}
 use Rattle.kq_model.specs.Knote.{is_timer}
 use Rattle.kq_model.specs.References.{Names}
 use Rattle.kq_model.specs.Subjects.{HasSubject, HaveSubjects}

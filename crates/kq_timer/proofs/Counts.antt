@@ -3,7 +3,8 @@
 use Rattle.std.proofs.Common.{◌≡◌, ◌-◌, ◌/◌, ◌<◌, ◌≤◌, ℕ, ℤ, pos, negsuc, ◌≤ℤ◌, unsigned_abs, FitsSigned, w64, to_z, of_z, arith, sym, ap, ◌∙◌}
 use Rattle.std.proofs.lemmas.Int.{ints, to_z-of_z, to_z_pos}
 use Rattle.std.proofs.Math.Nat.{div-le_self}
-use Rattle.kq_model.specs.Ticks.{Ticking, is_tick, ticks_between}
+use Rattle.kq_model.specs.Ticks.{Ticking, is_tick}
+use Rattle.kq_model.specs.NextTicks.{ticks_between}
 use Rattle.kq_model.proofs.Ticks.{periods, ticks_between-periods}
 
 ticks_are : (t : Ticking) (from to : ℤ) → 0 < t.period → pos 0 ≤ℤ from → from ≤ℤ to → FitsSigned w64 to

@@ -4,7 +4,8 @@ use Rattle.std.specs.Int.{int_max}
 use Rattle.std.proofs.lemmas.Bool.{cases_lt, ne_eqb}
 use Rattle.std.proofs.lemmas.Int.{ints, clamps}
 use Rattle.std.proofs.lemmas.Nat.{div-add-mod'}
-use Rattle.kq_model.specs.Ticks.{Ticking, is_among_first, is_tick, IsNextTick}
+use Rattle.kq_model.specs.Ticks.{Ticking, is_among_first, is_tick}
+use Rattle.kq_model.specs.NextTicks.{IsNextTick}
 use Rattle.kq_model.proofs.Ticks.{moment_after, moment_after-later, moment_after-tick, moment_after-least}
 
 never_at_zero : (t : Ticking) → 0 < t.period → is_tick t 0 ≡ false

@@ -3,7 +3,8 @@ use Rattle.std.specs.Prelude.{◌≡◌, ◌≤ℤ◌, ℤ, pos, unsigned_abs, i
 use Rattle.std.specs.Prelude.{if◌then◌else◌, Option, Some}
 use Rattle.std.specs.Prelude.{None, IfSome, MatchOption}
 use Rattle.kq_model.specs.Ticks as ticks
-use Rattle.kq_model.specs.Ticks.{Ticking, is_tick, ticks_between, IsNextTick, HasNoTick}
+use Rattle.kq_model.specs.Ticks.{Ticking, is_tick}
+use Rattle.kq_model.specs.NextTicks.{ticks_between, IsNextTick, HasNoTick}
 use Rattle.kq_timer.specs.declared.ticker.Kind.{Kind}
 use Rattle.kq_timer.specs.declared.ticker.Kind.TheVariants.{Repeats, Once}
 use Rattle.kq_timer.specs.declared.timing.Timing.{Timing}

@@ -1,5 +1,6 @@
 ghost use Rattle.std.specs.Prelude.{◌≡◌, pos, ◌≤ℤ◌, unsigned_abs, IfSome, MatchOption};
-ghost use Rattle.kq_model.specs.Ticks.{is_tick, ticks_between, IsNextTick, HasNoTick};
+ghost use Rattle.kq_model.specs.Ticks.{is_tick};
+ghost use Rattle.kq_model.specs.NextTicks.{ticks_between, IsNextTick, HasNoTick};
 
 use crate::Period;
 use std::marker::Model;

@@ -1,5 +1,6 @@
 ghost use Rattle.std.specs.Prelude.{◌≡◌, ◌≤◌, ◌+◌};
-ghost use Rattle.kq_model.specs.Ticks.{expires, is_single_moment, last_moment, next_tick, ticks_between};
+ghost use Rattle.kq_model.specs.Ticks.{expires, is_single_moment, last_moment};
+ghost use Rattle.kq_model.specs.NextTicks.{next_tick, ticks_between};
 ghost use Rattle.kq_timer.specs.Once.{once_after};
 
 /// The last moment of the clock.

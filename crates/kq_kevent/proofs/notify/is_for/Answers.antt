@@ -1,6 +1,6 @@
 use Rattle.std.proofs.Common.{◌≡◌, true, false, ◌&&◌, sym, ap, ◌∙◌}
 use Rattle.kq_model.specs.Hints.{takes}
-use Rattle.kq_model.specs.Noticing.{is_for}
+use Rattle.kq_model.specs.Alerting.{is_for}
 use Rattle.kq_model.specs.Tallied.{Knote}
 use Rattle.kq_model.specs.Targets.{is_target}
 use Rattle.kq_knote.proofs.TargetLaws.{target-alike}

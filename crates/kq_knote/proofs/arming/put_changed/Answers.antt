@@ -1,7 +1,8 @@
 use Rattle.std.proofs.Common.{◌≡◌, ℕ, ◌≤◌, Bool, sym, ap, subst}
 use Rattle.kq_alarm.specs.Armed.{HasAlarm}
 use Rattle.kq_model.specs.declared.key.Key.{Key}
-use Rattle.kq_model.specs.Ticks.{last_moment, next_tick}
+use Rattle.kq_model.specs.Ticks.{last_moment}
+use Rattle.kq_model.specs.NextTicks.{next_tick}
 use Rattle.kq_knote.specs.Expiring.{next_of}
 use Rattle.kq_knote.proofs.arming.put_changed.Goals as goal
 

@@ -1,6 +1,6 @@
 use Rattle.std.proofs.Common.{◌≡◌, ◌∙◌, ◌<◌, ◌≤◌, ◌+◌, ◌∷◌, List, [], length, drop, sym, ap, arith}
 use Rattle.std.proofs.lemmas.List.{drop_all}
-use Rattle.kq_model.specs.Holding.{all_held, hold}
+use Rattle.kq_model.specs.Holders.{all_held, hold}
 use Rattle.kq_model.specs.declared.object.Named.{Named}
 use Rattle.kq_objects.specs.Objects.{objects_of}
 use Rattle.kq_process.specs.Counts.{names_in}

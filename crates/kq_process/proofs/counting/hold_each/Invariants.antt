@@ -1,5 +1,5 @@
 use Rattle.std.proofs.Common.{◌≡◌, drop}
-use Rattle.kq_model.specs.Holding.{all_held}
+use Rattle.kq_model.specs.Holders.{all_held}
 use Rattle.kq_objects.specs.Objects.{objects_of}
 use Rattle.kq_process.specs.Counts.{CanHoldEach, names_in}
 use Rattle.kq_process.specs.Slots.{filled}

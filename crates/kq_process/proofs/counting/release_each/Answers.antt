@@ -1,7 +1,8 @@
 use Rattle.std.proofs.Common.{◌≡◌, ◌∙◌, suc, ◌<◌, ◌≤◌, ◌+◌, ◌∷◌, ◌++◌, List, [], length, drop, sym, ap, arith}
 use Rattle.std.proofs.lemmas.List.{drop_all, append-nil}
 use Rattle.std.specs.Vec.{vec_len, vec_capacity}
-use Rattle.kq_model.specs.Holding.{all_released, release, release_hint, release_hints, option_list}
+use Rattle.kq_model.specs.Holding.{release, release_hint, release_hints, option_list}
+use Rattle.kq_model.specs.Holders.{all_released}
 use Rattle.kq_model.specs.declared.object.Named.{Named}
 use Rattle.kq_objects.specs.Objects.{objects_of}
 use Rattle.kq_process.specs.Counts.{names_in}

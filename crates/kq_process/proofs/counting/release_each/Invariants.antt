@@ -1,6 +1,7 @@
 use Rattle.std.proofs.Common.{◌≡◌, ◌+◌, ◌≤◌, ◌++◌, length, drop}
 use Rattle.std.specs.Vec.{vec_len, vec_capacity}
-use Rattle.kq_model.specs.Holding.{all_released, release_hints}
+use Rattle.kq_model.specs.Holding.{release_hints}
+use Rattle.kq_model.specs.Holders.{all_released}
 use Rattle.kq_objects.specs.Objects.{objects_of}
 use Rattle.kq_process.specs.Counts.{CanReleaseEach, names_in}
 use Rattle.kq_process.specs.Slots.{filled}

@@ -6,7 +6,7 @@ use Rattle.kq_model.specs.declared.reply.Reply.TheVariants.{Events}
 use Rattle.kq_model.specs.Call.{ended}
 use Rattle.kq_model.specs.CallLaws.{IsAnswer, kqueue_after_changes}
 use Rattle.kq_model.specs.Kqueue.{IsSound}
-use Rattle.kq_model.specs.Hearing.{tallying}
+use Rattle.kq_model.specs.Tallying.{tallying}
 use Rattle.kq_model.specs.Tallied.{Called}
 use Rattle.kq_model.specs.WatchedNumbers.{WatchTheirNumbers}
 use Rattle.kq_model.proofs.Tallied.{call-tallied}

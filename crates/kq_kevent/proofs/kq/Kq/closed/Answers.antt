@@ -1,7 +1,7 @@
 use Rattle.std.proofs.Common.{sym, subst, ap, ◌∙◌}
 use Rattle.kq_model.specs.declared.filter.Filter.TheVariants.{Read, Write, Vnode}
 use Rattle.kq_model.specs.Registration.{with_removed}
-use Rattle.kq_model.specs.Hearing.{tallying}
+use Rattle.kq_model.specs.Tallying.{tallying}
 use Rattle.kq_model.specs.Tallied.{Kqueue}
 use Rattle.kq_model.specs.WatchedNumbers.{WatchTheirNumbers}
 use Rattle.kq_model.proofs.NumberLaws.{key_by}

@@ -1,7 +1,7 @@
 use Rattle.std.proofs.Common.{◌≡◌, List, sym, ap, ◌∙◌}
 use Rattle.std.specs.Option.{is_some}
 use Rattle.kq_model.specs.ChangedKnote.{key_of, modified}
-use Rattle.kq_model.specs.Hearing.{tallying}
+use Rattle.kq_model.specs.Tallying.{tallying}
 use Rattle.kq_model.specs.Knote.{find_knote}
 use Rattle.kq_model.specs.Registration.{queue_for, with_modified, without_restarted}
 use Rattle.kq_model.specs.Tallied.{Knote}

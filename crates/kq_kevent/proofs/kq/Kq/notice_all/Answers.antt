@@ -2,7 +2,7 @@ use Rattle.std.proofs.Common.{◌-◌, ◌+◌, Option, length, slice_get, refl,
 use Rattle.kq_model.specs.Hints.{notified}
 use Rattle.kq_model.specs.Knote.{find_knote}
 use Rattle.kq_model.specs.Kqueue.{HaveOwnKeys}
-use Rattle.kq_model.specs.Noticing.{noticed_at}
+use Rattle.kq_model.specs.Alerting.{alerted_at}
 use Rattle.kq_model.specs.Tallied.{Knote}
 use Rattle.kq_knote.proofs.WalkLaws.{after}
 use Rattle.kq_kevent.specs.Owned.{OwnedKqueue}
@@ -34,7 +34,7 @@ loop-step-preserved g c =
       over = over-goes views hints wanted c.in-Some.knote left c.loop-step.self.kq own over c.next_after-next.result fewer c.notice.new.self.kq (omega arith)
           (c.next_after-next.ensures ∙ ap (λ (k : Knote). after k.key c.self-in-loop-step.inside.knotes.knotes) c.knote.view_is
           ∙ ap (λ (v : OwnedKqueue). after c.in-Some.knote.key v.kq.knotes) c.self-in-loop-step.view_is)
-          (c.notice.ensures.kq ∙ ap (λ (k : Knote). noticed_at views hints (find_knote k.key c.loop-step.self.kq.knotes) c.loop-step.self.kq) c.knote.view_is);
+          (c.notice.ensures.kq ∙ ap (λ (k : Knote). alerted_at views hints (find_knote k.key c.loop-step.self.kq.knotes) c.loop-step.self.kq) c.knote.view_is);
       owner = c.notice.ensures.owner ∙ c.loop-step.invariant.owner;
       version = c.notice.ensures.version ∙ c.loop-step.invariant.version;
       reserved = omega arith;

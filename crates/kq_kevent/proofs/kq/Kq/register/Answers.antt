@@ -1,6 +1,6 @@
 use Rattle.std.proofs.Common.{ap, sym, ◌∙◌, subst}
 use Rattle.kq_model.specs.Call.{number_of}
-use Rattle.kq_model.specs.Hearing.{tallying}
+use Rattle.kq_model.specs.Tallying.{tallying}
 use Rattle.kq_model.specs.NamedTargets.{IsNamed}
 use Rattle.kq_model.specs.Registration.{register}
 use Rattle.kq_model.specs.RegistrationLaws.{IsRegistered}

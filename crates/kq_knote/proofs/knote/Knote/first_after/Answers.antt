@@ -1,7 +1,8 @@
 use Rattle.std.proofs.Common.{sym, ap, ◌∙◌}
 use Rattle.kq_model.specs.Knote.{is_timer}
 use Rattle.kq_model.specs.Tallied.{Knote}
-use Rattle.kq_model.specs.Ticks.{expires, next_tick}
+use Rattle.kq_model.specs.Ticks.{expires}
+use Rattle.kq_model.specs.NextTicks.{next_tick}
 use Rattle.kq_timer.specs.declared.timer.Timer.{Timer}
 use Rattle.kq_knote.proofs.TimerLaws.{timer-next, other-next}
 use Rattle.kq_knote.proofs.knote.Knote.first_after.Goals as goal

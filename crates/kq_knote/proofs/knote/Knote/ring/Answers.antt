@@ -1,7 +1,7 @@
 use Rattle.std.proofs.Common.{refl, ap, ◌∙◌, arith}
 use Rattle.kq_model.specs.Clock.{timers}
-use Rattle.kq_model.specs.Hearing.{tallying}
-use Rattle.kq_model.specs.TimerWalk.{rung_times}
+use Rattle.kq_model.specs.Tallying.{tallying}
+use Rattle.kq_model.specs.WalkedAtOnce.{rung_times}
 use Rattle.kq_knote.proofs.TimerLaws.{rings, rung-none}
 use Rattle.kq_knote.proofs.knote.Knote.ring.Goals as goal
 

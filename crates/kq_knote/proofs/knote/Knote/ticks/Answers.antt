@@ -1,7 +1,8 @@
 use Rattle.std.proofs.Common.{sym, ap, ◌∙◌}
 use Rattle.kq_model.specs.Knote.{is_timer}
 use Rattle.kq_model.specs.Tallied.{Knote}
-use Rattle.kq_model.specs.Ticks.{expires, ticks_between}
+use Rattle.kq_model.specs.Ticks.{expires}
+use Rattle.kq_model.specs.NextTicks.{ticks_between}
 use Rattle.kq_timer.specs.declared.timer.Timer.{Timer}
 use Rattle.kq_knote.proofs.TimerLaws.{timer-ticks, other-ticks}
 use Rattle.kq_knote.proofs.knote.Knote.ticks.Goals as goal

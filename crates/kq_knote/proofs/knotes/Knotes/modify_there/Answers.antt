@@ -5,7 +5,8 @@ use Rattle.kq_model.specs.declared.key.Key.{Key}
 use Rattle.kq_model.specs.Clock.{expires_at}
 use Rattle.kq_model.specs.Knote.{find_knote, with_knote}
 use Rattle.kq_model.specs.Tallied.{Knote}
-use Rattle.kq_model.specs.Ticks.{last_moment, next_tick}
+use Rattle.kq_model.specs.Ticks.{last_moment}
+use Rattle.kq_model.specs.NextTicks.{next_tick}
 use Rattle.kq_model.proofs.KnoteLaws.{HaveOwnKeys-with, find_knote-key}
 use Rattle.kq_knote.specs.Expiring.{next_of, IsAlarmed}
 use Rattle.kq_knote.specs.Index.{IsKept}

@@ -1,6 +1,7 @@
 -- One expiration more, which has no notes.
 use Rattle.std.proofs.Common.{◌≡◌, ◌+◌, min, Bool, cond, sym, ap, ◌∙◌, arith}
-use Rattle.kq_model.specs.Hearing.{Expired, Tally, most_counted, tallying}
+use Rattle.kq_model.specs.Hearing.{Expired, most_counted}
+use Rattle.kq_model.specs.Tallying.{Tally, tallying}
 use Rattle.kq_knote.proofs.TimerLaws.{expired-once}
 use Rattle.kq_knote.proofs.tally.Tally.expired_if.Goals as goal
 

@@ -2,7 +2,8 @@ use Rattle.std.proofs.Common.{◌≡◌, ℕ, List, [], ◌∷◌, ◌++◌, map
 use Rattle.kq_model.specs.declared.object.Named.{Named}
 use Rattle.kq_model.specs.Bits.{exit_note}
 use Rattle.kq_model.specs.Targets.{Posted}
-use Rattle.kq_model.specs.Holding.{all_released, release_hints}
+use Rattle.kq_model.specs.Holding.{release_hints}
+use Rattle.kq_model.specs.Holders.{all_released}
 use Rattle.kq_model.specs.ProcessPlans.{descriptors_of, pairs_of, noted}
 use Rattle.kq_objects.specs.Objects.{objects_of}
 use Rattle.kq_process.specs.Counts.{names_in}

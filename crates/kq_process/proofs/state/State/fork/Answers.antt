@@ -1,6 +1,6 @@
 use Rattle.std.proofs.Common.{◌≡◌, ◌<◌, ◌+◌, ◌^◌, List, ◌++◌, length, refl, sym, ap, arith, ◌∙◌}
 use Rattle.kq_model.specs.Descriptors.{Descriptor}
-use Rattle.kq_model.specs.Holding.{all_held}
+use Rattle.kq_model.specs.Holders.{all_held}
 use Rattle.kq_model.specs.ProcessPlans.{forked, inherited, descriptors_of, names_of}
 use Rattle.kq_model.specs.Targets.{Posted}
 use Rattle.kq_objects.specs.Objects.{objects_of}

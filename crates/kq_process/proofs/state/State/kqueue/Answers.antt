@@ -1,7 +1,8 @@
 use Rattle.std.proofs.Common.{◌≡◌, ℕ, false, refl, sym, ap, subst, arith, ◌∙◌}
 use Rattle.std.specs.Option.{is_some}
 use Rattle.kq_model.specs.declared.object.Named.TheVariants as named
-use Rattle.kq_model.specs.Holding.{hold, hold_doings}
+use Rattle.kq_model.specs.Holding.{hold_doings}
+use Rattle.kq_model.specs.Holders.{hold}
 use Rattle.kq_model.specs.Objects.{all_done}
 use Rattle.kq_model.specs.World.{named_by}
 use Rattle.kq_objects.specs.Objects.{objects_of}

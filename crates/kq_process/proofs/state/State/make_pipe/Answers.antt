@@ -1,6 +1,6 @@
 use Rattle.std.proofs.Common.{◌<◌, ◌^◌, refl, sym, ap, arith, ◌∙◌}
 use Rattle.kq_model.specs.declared.act.Act.TheVariants as act
-use Rattle.kq_model.specs.Holding.{made_names}
+use Rattle.kq_model.specs.Holders.{made_names}
 use Rattle.kq_model.specs.ObjectRecordPlans.{pipe_ends}
 use Rattle.kq_model.specs.Objects.{all_done}
 use Rattle.kq_model.specs.World.{named_by}

@@ -2,7 +2,7 @@ use Rattle.std.proofs.Common.{◌≡◌, ◌∷◌, [], Option, Some, None, List
 use Rattle.kq_model.specs.declared.object.Named.{Named}
 use Rattle.kq_model.specs.Descriptors.{Descriptor, with_descriptor, without_closed}
 use Rattle.kq_model.specs.DescriptorPlans.{closes}
-use Rattle.kq_model.specs.Holding.{hold}
+use Rattle.kq_model.specs.Holders.{hold}
 use Rattle.kq_model.specs.World.{named_by}
 use Rattle.kq_objects.specs.Objects.{objects_of}
 use Rattle.kq_process.specs.Processes.{table_of, descriptor_in}

@@ -1,6 +1,7 @@
 -- The next expiration of a timer that expires once, and of one that goes on.
 use Rattle.std.proofs.Common.{◌≡◌, ◌+◌, ◌-◌, ◌%◌, ◌<◌, ◌≤◌, ℕ, max, true, false, sym, ap, ◌∙◌, arith, rules}
-use Rattle.kq_model.specs.Ticks.{Ticking, expires, last_moment, next_tick}
+use Rattle.kq_model.specs.Ticks.{Ticking, expires, last_moment}
+use Rattle.kq_model.specs.NextTicks.{next_tick}
 use Rattle.kq_model.proofs.Ticks.{moment_after}
 use Rattle.kq_timer.specs.Once.{once_after}
 use Rattle.kq_timer.proofs.TimerLaws.{no-period, has-period, once-single, still-single, single-next, periodic-next, periodic-never, moment_after-found, too_far}

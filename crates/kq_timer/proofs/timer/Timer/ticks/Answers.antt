@@ -1,7 +1,8 @@
 -- How often a timer expires that does so once, and one that goes on.
 use Rattle.std.proofs.Common.{◌≡◌, ◌+◌, ◌-◌, ◌/◌, ◌<◌, ◌≤◌, ℕ, true, false, leb, cond, refl, sym, ap, ap₂, ◌∙◌, arith, rules}
 use Rattle.std.proofs.lemmas.Bool.{le-leb, lt-leb}
-use Rattle.kq_model.specs.Ticks.{Ticking, expires, last_moment, ticks_between}
+use Rattle.kq_model.specs.Ticks.{Ticking, expires, last_moment}
+use Rattle.kq_model.specs.NextTicks.{ticks_between}
 use Rattle.kq_timer.specs.Once.{once_after}
 use Rattle.kq_timer.proofs.TimerLaws.{no-period, has-period, once-single, still-single, single-ticks, periodic-ticks}
 use Rattle.kq_timer.proofs.timer.Timer.ticks.Goals as goal

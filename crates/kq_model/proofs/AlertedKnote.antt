@@ -7,7 +7,7 @@ use Rattle.kq_model.specs.declared.object.Hint.{Hint}
 use Rattle.kq_model.specs.ChangedKnote.{activated}
 use Rattle.kq_model.specs.Hearing.{Hearing}
 use Rattle.kq_model.specs.HintLaws.{begins_to_wait}
-use Rattle.kq_model.specs.Hints.{kept, added, heard_by, hears_exit, unless_silent, noticed, if_there, queue_with, queue_noticing}
+use Rattle.kq_model.specs.Hints.{kept, added, heard_by, hears_exit, unless_silent, alerted, if_there, queue_with, queue_alerted}
 use Rattle.kq_model.specs.Knote.{Knote, has_nothing, key_eq, has_key, without_key, find_knote}
 use Rattle.kq_model.specs.Look.{Seen, look}
 use Rattle.kq_model.specs.Registration.{queue_for}
@@ -77,10 +77,10 @@ module _ {S : Type 0} {h : Hearing S} where
   unless_silent-follows false k x follows = follows
   unless_silent-follows true k x follows = cond_both (has_nothing x) _ _ (Follows k) (λ _. tt) (λ _. follows)
 
-  pub noticed-follows : (views : Views) (hints : List Hint) (k : Knote h) → Follows k (noticed views hints k)
-  unfolding noticed
-  noticed-follows views [] k = (refl, refl, λ active. active)
-  noticed-follows views (hint ∷ hints) k =
+  pub alerted-follows : (views : Views) (hints : List Hint) (k : Knote h) → Follows k (alerted views hints k)
+  unfolding alerted
+  alerted-follows views [] k = (refl, refl, λ active. active)
+  alerted-follows views (hint ∷ hints) k =
       let heard = heard_by (hint ∷ hints) k in
       unless_silent-follows (hears_exit (hint ∷ hints) k) k (activated (look views heard) heard)
       (activated-follows (look views heard) k heard (heard_by-alike (hint ∷ hints) k))
@@ -118,16 +118,16 @@ module _ {S : Type 0} {h : Hearing S} where
       queue_for-is x queue (λ disabled. without_key-absent x.key queue
       (ap (λ (o : Key). has_key o queue) follows.0 ∙ waits ∙ and_off k.active k.enabled (sym follows.1 ∙ disabled)))
 
-  pub queue_noticing-is : (views : Views) (hints : List Hint) (k : Knote h) (queue : List Key)
+  pub queue_alerted-is : (views : Views) (hints : List Hint) (k : Knote h) (queue : List Key)
       → has_key k.key queue ≡ k.active && k.enabled
-      → queue_noticing views hints k queue
-      ≡ staying k.key (noticed views hints k) queue ++ coming (noticed views hints k) queue
-  unfolding queue_noticing noticed if_there
-  queue_noticing-is views [] k queue waits =
+      → queue_alerted views hints k queue
+      ≡ staying k.key (alerted views hints k) queue ++ coming (alerted views hints k) queue
+  unfolding queue_alerted alerted if_there
+  queue_alerted-is views [] k queue waits =
       sym (ap (λ b. queue ++ keys_of (cond b (k ∷ []) [])) (waits_already k.active k.enabled (has_key k.key queue) waits)
       ∙ append-nil queue)
-  queue_noticing-is views (hint ∷ hints) k queue waits =
-      queue_with-is k (noticed views (hint ∷ hints) k) queue (noticed-follows views (hint ∷ hints) k) waits
+  queue_alerted-is views (hint ∷ hints) k queue waits =
+      queue_with-is k (alerted views (hint ∷ hints) k) queue (alerted-follows views (hint ∷ hints) k) waits
 
   -- ---- what is found among the knotes afterwards
 
