@@ -77,7 +77,7 @@ fn take(knote: &mut Knote, hint: Hint)
 }
 
 /// Tells a knote a hint for its target, and says whether it is to go.
-#[tactic(auto, unfolding(kq_model::specs::Hints::after_hint, kq_model::specs::Hints::is_done))]
+#[tactic(auto, unfolding(kq_model::specs::Alerting::after_hint, kq_model::specs::Alerting::is_done))]
 fn tell(knote: &mut Knote, hint: Hint) -> bool
     ensures knote { knote.new ≡ after_hint hint knote.old }
     ensures done { result ≡ is_done hint knote.old }

@@ -15,7 +15,7 @@ impl State {
     /// The step of the world: what the record at this place does, or the first reason why it is
     /// impossible; then it changes nothing. Nothing that is named was made at this place or later. After
     /// Memory nothing has changed.
-    #[tactic(auto, unfolding(kq_model::specs::Plans::plan, kq_model::specs::Holding::made_names))]
+    #[tactic(auto, unfolding(kq_model::specs::Plans::plan, kq_model::specs::Holders::made_names))]
     pub fn apply(&mut self, place: u64, event: &Event, effect: &mut Effect) -> Result<(), Memory>
         requires { IsCountedWorld place (state_of self.old) }
         ensures effect { OnOk result (IsEffectBy (plan place event.now) self.old effect.new) }
