@@ -10,7 +10,7 @@ use crate::fault::Fault;
 use crate::fold::Fold;
 use kq_merge::TextChunks;
 use kq_model::{Event, Memory};
-use kq_trace::{Sink, Source, read_trace_into};
+use kq_trace::{Decoders, Sink, Source, read_trace_into};
 use std::alloc::Global;
 use std::sync::Wait;
 use std::thread::Threads;
@@ -68,8 +68,8 @@ impl Sink for Folder {
         Ok(())
     }
 
-    fn spare_threads(&self) -> u32 {
-        0
+    fn decoders(&self) -> Decoders {
+        Decoders::Started { count: 0 }
     }
 }
 

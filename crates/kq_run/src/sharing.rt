@@ -14,14 +14,14 @@ use crate::shared_fold::SharedFold;
 use kq_merge::TextChunks;
 use kq_model::{Event, Memory};
 use kq_shares::{MOST_SHARES, ShareFault, births_in, dealing_for};
-use kq_trace::{Sink, Source, read_trace_into};
+use kq_trace::{Decoders, Sink, Source, read_trace_into};
 use std::alloc::Global;
 use std::mem::replace;
 use std::sync::Wait;
 use std::thread::Threads;
 
-/// Two threads read: the calling one takes what another decodes.
-const READERS: u32 = 2;
+/// By few workers a share pays from so many kqueues on.
+const LEAST_KQUEUES: usize = 4;
 
 /// How far a trace was folded.
 #[derive(Drop)]
@@ -113,13 +113,15 @@ fn first_births(alloc: Global, pieces: &[Vec<Event>]) -> Result<Vec<u64>, Memory
 }
 
 /// How many shares pay where so many kqueues are made first. A thread writes lines beside them and, by three workers
-/// and more, one reads ahead.
+/// and more, one reads ahead. By two and three workers two shares do, where each has some kqueues.
 fn shares_for(workers: u32, births: usize) -> u32
     ensures most { result ≤ MOST_SHARES }
     ensures births { result ≤ births }
 {
-    let most = if workers < 4 { 2 } else { workers - 1 };
-    let most = most.min(MOST_SHARES);
+    if workers < 4 {
+        return if births < 2 * LEAST_KQUEUES { 1 } else { 2 };
+    }
+    let most = (workers - 1).min(MOST_SHARES);
     if births < most as usize {
         births as u32
     } else {
@@ -179,17 +181,22 @@ impl Sink for Sharer {
         Ok(())
     }
 
-    fn spare_threads(&self) -> u32 {
-        match &self.folding {
-            Folding::Whole(_) => READERS,
-            _ => self.workers.saturating_sub(2),
-        }
+    fn decoders(&self) -> Decoders {
+        let count = match &self.folding {
+            Folding::Whole(_) => self.workers.saturating_sub(1),
+            Folding::Shared(fold) => self.workers.saturating_sub(fold.shares.count()),
+            // It may be shared next, by two workers with no thread to spare.
+            Folding::New | Folding::Begun { .. } | Folding::Refused => {
+                self.workers.saturating_sub(2).min(1)
+            }
+        };
+        Decoders::Started { count }
     }
 }
 
 /// The report of the trace that a source has, by so many workers, two or more: of as many threads as that at a time,
-/// the calling one aside, one writes the lines of the rows before, one reads and decodes what comes behind, where it is
-/// not the last, and each other one folds a share of the kqueues beside the calling one.
+/// the calling one aside, one writes the lines of the rows before, each further share of the kqueues has one, and the
+/// others read and decode what comes behind.
 pub fn fold_by_shares<R: AllocGlobal + Threads + Wait + Sync, I: Source + Send>(
     rt: &R,
     source: &mut I,
@@ -205,6 +212,6 @@ pub fn fold_by_shares<R: AllocGlobal + Threads + Wait + Sync, I: Source + Send>(
         workers,
         folding: Folding::New,
     };
-    let _ = read_trace_into(rt, source, READERS, &mut sharer)?;
+    let _ = read_trace_into(rt, source, workers, &mut sharer)?;
     sharer.folding.report(alloc)
 }

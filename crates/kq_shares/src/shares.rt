@@ -45,6 +45,11 @@ impl Shares {
         Ok(Shares { shares })
     }
 
+    /// How many they are.
+    pub fn count(&self) -> u32 {
+        self.shares.len().min(u32::MAX as usize) as u32
+    }
+
     /// The shares after these pieces of records more. All take the records at the same time, the first on the calling
     /// thread and each other one on a thread of its own. Their rows together are those of the whole system; `merge`
     /// of kq_merge brings them into order.

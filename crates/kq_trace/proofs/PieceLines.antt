@@ -4,7 +4,7 @@ use Rattle.std.proofs.Common.{Vec, Global, ◌≡◌, ℕ, ◌+◌, ◌≤◌, L
 use Rattle.std.proofs.lemmas.Grind.{flat_map-append}
 use Rattle.std.proofs.lemmas.List.Folds.{flat_map-map}
 use Rattle.std.specs.List.{AllZip}
-use Rattle.rayon.proofs.ListFacts.{AllZip-through}
+use Rattle.rayon.proofs.ListFacts.{AllZip-append, AllZip-through}
 use Rattle.kq_model.specs.declared.event.Event.{Event}
 use Rattle.kq_model.specs.Limits.{most_records}
 use Rattle.kq_model.specs.Reading.{Good, read_records}
@@ -41,6 +41,25 @@ pieces_read pieces batches each =
       map lines pieces,
       flat_map-map (λ (part : List (List ℕ)). part) lines pieces,
       AllZip-through lines (λ (piece : Bor (List ℕ)) (b : Batch). IsReadAs (lines_behind piece.now) b) IsReadAs (λ piece b is. is) pieces batches each,
+    )
+
+-- a piece alone is read as its batch
+pub piece_read : (piece : Bor (List ℕ)) (batch : Batch) → IsReadAs (lines_behind piece.now) batch
+    → AreReadAs (lines_in (piece ∷ [])) (batch ∷ [])
+piece_read piece batch is = pieces_read (piece ∷ []) (batch ∷ []) (is, tt)
+
+-- the pieces before the last are read as their batches, and the last as its own
+pub pieces_read-last : (others : List (Bor (List ℕ))) (batches : List Batch) (last : Bor (List ℕ)) (batch : Batch)
+    → AreReadAs (lines_in others) batches → IsReadAs (lines_behind last.now) batch
+    → AreReadAs (lines_in (others ++ last ∷ [])) (batches ++ batch ∷ [])
+pieces_read-last others batches last batch read is =
+    let lines = λ (piece : Bor (List ℕ)). lines_behind piece.now in
+    let part : List (List ℕ) = lines_behind last.now in (
+      read.0 ++ part ∷ [],
+      flat_map-append (λ (p : List (List ℕ)). p) read.0 (part ∷ [])
+      ∙ ap (λ l. l ++ (part ++ [])) read.1
+      ∙ sym (flat_map-append lines others (last ∷ [])),
+      AllZip-append IsReadAs read.0 (part ∷ []) batches (batch ∷ []) read.2 (is, tt),
     )
 
 -- ---- batches that are gathered

@@ -6,6 +6,7 @@ ghost use Rattle.kq_trace.specs.Unread.{AreRecordsFrom, IsFaultFrom};
 
 use crate::TraceError;
 use crate::batches::events_alone;
+use crate::decoders::Decoders;
 use crate::decoding::late_fault;
 use crate::header::FIRST_RECORD_LINE;
 use crate::line::{first_line, lines_up_to};
@@ -13,16 +14,16 @@ use crate::part::Part;
 use crate::pieces::records_in;
 use kq_model::limits::MOST_RECORDS;
 use std::alloc::Global;
+use std::sync::Wait;
 use std::thread::Threads;
 
-/// The records on the lines of a block, of which the first has this number, by at most so many threads, of which the
-/// calling one is the first. On `Bad` that line is the first that has a fault; a thread that does not start is no
-/// error.
-pub fn part_of<R: AllocGlobal + Threads + Sync>(
+/// The records on the lines of a block, of which the first has this number. On `Bad` that line is the first that has a
+/// fault.
+pub fn part_of<R: AllocGlobal + Threads + Wait + Sync>(
     rt: &R,
     number: u64,
     block: &[u8],
-    threads: u32,
+    decoders: Decoders,
 ) -> Result<Part, TraceError>
     requires number { number ≤ 1000002 }
     ensures part { IfOk result (AreRecordsFrom number (lines_behind block.now)) }
@@ -30,7 +31,7 @@ pub fn part_of<R: AllocGlobal + Threads + Sync>(
 {
     let alloc = rt.alloc();
     let most = FIRST_RECORD_LINE + MOST_RECORDS - number;
-    match records_in(rt, alloc, block, most, threads)? {
+    match records_in(rt, alloc, block, most, decoders)? {
         Some(part) => Ok(part),
         None => part_alone(alloc, number, block),
     }

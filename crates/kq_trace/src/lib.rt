@@ -7,6 +7,7 @@ mod blocks;
 mod change;
 mod changes;
 mod chunk;
+mod decoders;
 mod decoding;
 mod event;
 mod fault;
@@ -28,6 +29,7 @@ mod trace_reader;
 mod values;
 
 pub use changes::{change_list, is_change_list};
+pub use decoders::Decoders;
 pub use fault::TraceError;
 pub use input_error::InputError;
 pub use kq_spell::write_trace;

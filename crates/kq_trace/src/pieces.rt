@@ -5,12 +5,15 @@ ghost use Rattle.kq_trace.specs.Batches.{AreReadAs, AreRecordsAnywhere, IsReadAs
 ghost use Rattle.kq_trace.specs.Rest.{lines_behind, lines_in};
 
 use crate::batches::{Batch, batch_of};
+use crate::decoders::Decoders;
 use crate::line::{cut_behind, lines_up_to};
 use crate::part::Part;
+use kq_join::join;
 use kq_model::Memory;
 use rayon::prelude::*;
 use std::alloc::{AllocError, Global};
 use std::collections::VecDeque;
+use std::sync::Wait;
 use std::thread::Threads;
 
 /// So few bytes are decoded together at least, and the line that they end in.
@@ -91,19 +94,55 @@ fn gathered(alloc: Global, batches: Vec<Batch>, most: u64) -> Result<Option<Part
     Ok(Some(part))
 }
 
-/// The records on the lines of a text, decoded by at most so many threads, of which the calling one is the first; 0
-/// and 1 start none. None where a line is no record, or where there are more than so many.
-pub fn records_in<R: Threads + Sync>(
+/// What the lines of each piece are, the first decoded on the calling thread and each other one on a thread of its own.
+/// Memory also comes where such a thread does not start.
+fn batches_beside<R: Threads + Wait>(
+    rt: &R,
+    alloc: Global,
+    pieces: &[&[u8]],
+) -> Result<Vec<Batch>, Memory>
+    ensures { IfOk result (λ batches. AreReadAs (lines_in pieces.now) batches.items) }
+{
+    let Some((last, others)) = pieces.split_last() else {
+        return Ok(Vec::new(alloc));
+    };
+    if others.is_empty() {
+        let mut batches = Vec::new(alloc);
+        batches.push(batch_in(alloc, last))?;
+        return Ok(batches);
+    }
+    let joined = join(
+        rt,
+        move || -> Batch
+            ensures { IsReadAs (lines_behind last.entry.now.now) result }
+        { batch_in(alloc, last) },
+        move || -> Result<Vec<Batch>, Memory>
+            ensures { IfOk result (λ batches. AreReadAs (lines_in others.entry.now) batches.items) }
+        { batches_beside(rt, alloc, others) },
+    );
+    if !joined.has_started {
+        return Err(Memory);
+    }
+    let mut batches = joined.second?;
+    batches.push(joined.first)?;
+    Ok(batches)
+}
+
+/// The records on the lines of a text. None where a line is no record, or where there are more than so many.
+pub fn records_in<R: Threads + Wait + Sync>(
     rt: &R,
     alloc: Global,
     text: &[u8],
     most: u64,
-    threads: u32,
+    decoders: Decoders,
 ) -> Result<Option<Part>, Memory>
     ensures read { IfOk result (λ part. IfSome part (AreRecordsAnywhere (lines_behind text.now))) }
     ensures few { IfOk result (λ part. IfSome part (λ events. length events ≤ most)) }
 {
-    let pieces = pieces_of(alloc, text, piece_bytes(text.len(), threads))?;
-    let batches = batches_in(rt, alloc, pieces.as_slice())?;
+    let pieces = pieces_of(alloc, text, piece_bytes(text.len(), decoders.most()))?;
+    let batches = match decoders {
+        Decoders::Pool { .. } => batches_in(rt, alloc, pieces.as_slice())?,
+        Decoders::Started { .. } => batches_beside(rt, alloc, pieces.as_slice())?,
+    };
     gathered(alloc, batches, most)
 }

@@ -29,13 +29,13 @@ use std::thread::Threads;
 
 /// Reads the trace that a source has, while it comes, and gives its records to the sink: the version that its header
 /// names. By two threads and more the calling one has the sink take a part of the records, while another decodes what
-/// came behind it, helped by as many as are asked for but two, and then reads on; so no more of the text is held than
-/// two blocks of it. By 0 and 1 the calling one does all, and so it does where the sink leaves no thread.
+/// came behind it, helped by as many as are asked for but two and the sink leaves, and then reads on; so no more of the
+/// text is held than two blocks of it. By 0 and 1 the calling one does all, and so it does where the sink leaves none.
 ///
 /// [`InputError::Read`]: a read failed, whatever is wrong with what came before. `Bad`: the first line that has a
 /// fault, once all was read. `Memory` also comes where the sink answered it, and where the thread beside the calling
-/// one does not start, though a thread that would have helped that one is no error. After an error nothing is known of the sink, and
-/// part of the source is used up.
+/// one does not start, or one that would have helped it, but for those of a pool. After an error nothing is known of
+/// the sink, and part of the source is used up.
 pub fn read_trace_into<R: AllocGlobal + Threads + Wait + Sync, S: Source + Send, K: Sink>(
     rt: &R,
     source: &mut S,
@@ -120,7 +120,8 @@ fn read_blocks<R: AllocGlobal + Threads + Wait + Sync, S: Source + Send, K: Sink
     text.coming.next(source, &mut text.next)?;
     let (version, first) = opened(alloc, &text.next)?;
     sink.begin(version)?;
-    let part = part_of(rt, FIRST_RECORD_LINE, first, threads.saturating_sub(1))?;
+    let decoders = sink.decoders().at_most(threads.saturating_sub(1));
+    let part = part_of(rt, FIRST_RECORD_LINE, first, decoders)?;
     text.coming.next(source, &mut text.block)?;
     let mut decoded = Decoded { before: 0, part };
     'rounds: while !decoded.part.is_empty() || !text.block.is_empty() {
@@ -173,7 +174,7 @@ fn round<R: AllocGlobal + Threads + Wait + Sync, S: Source + Send, K: Sink>(
         block,
         next,
     } = text;
-    let decoders = threads.saturating_sub(1).min(sink.spare_threads());
+    let decoders = sink.decoders().at_most(threads.saturating_sub(1));
     let mut prepare = ||
         requires { IsSync R.row × (number ≤ 1000002) × EndsWith coming.now (S.ahead source.now) }
         ensures part { IfOk result.1 (AreRecordsFrom number (lines_behind block.entry.now.items)) }
@@ -193,7 +194,7 @@ fn round<R: AllocGlobal + Threads + Wait + Sync, S: Source + Send, K: Sink>(
             → K.took version sink.entry.now so_far
             → K.took version sink.exit.now (so_far ++ flat_map (λ piece. piece.items) pieces.entry.items)) }
     { sink.accept(rt, before, replace(&mut pieces, Vec::new(alloc))) };
-    if decoders == 0 {
+    if decoders.most() == 0 {
         // Each takes what was made last, so that it still stands in the cache.
         let taken = take();
         let (read, part) = prepare();

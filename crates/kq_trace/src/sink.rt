@@ -6,6 +6,7 @@ ghost use Rattle.kq_model.specs.declared.event.Event.{Event};
 ghost use Rattle.kq_model.specs.Limits.{IsVersion};
 ghost use Rattle.kq_trace.specs.Sink.{HasTaken};
 
+use crate::decoders::Decoders;
 use kq_model::{Event, Memory};
 use std::alloc::Global;
 use std::sync::Wait;
@@ -39,8 +40,8 @@ pub trait Sink {
             → took version self.old so_far
             → took version self.new (so_far ++ flat_map (λ piece. piece.items) pieces.items)) };
 
-    /// How many threads it leaves to others while it takes the next part. Where it leaves none, nobody reads ahead then.
-    fn spare_threads(&self) -> u32;
+    /// The threads that may decode while it takes the next part. Where they are none, nobody reads ahead then.
+    fn decoders(&self) -> Decoders;
 }
 
 /// Keeps the records.
@@ -92,7 +93,7 @@ impl Sink for Kept {
         Ok(())
     }
 
-    fn spare_threads(&self) -> u32 {
-        u32::MAX
+    fn decoders(&self) -> Decoders {
+        Decoders::Pool { most: u32::MAX }
     }
 }
