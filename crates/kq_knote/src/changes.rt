@@ -10,7 +10,7 @@ ghost use Rattle.kq_model.specs.Retrieval.{rested};
 use crate::{Knote, Tally};
 use bitflags::Flags;
 use kq_model::notes::{NOTE_FFAND, NOTE_FFLAGSMASK, NOTE_TRIGGER};
-use kq_model::{Change, EvFlags, Filter, Target};
+use kq_model::{Change, EvFlags, Filter, Target, Version};
 use kq_timer::Timing;
 
 /// The user's bits after a change, by its control: NOTE_FFNOP 0 leaves them, NOTE_FFAND 1,
@@ -76,7 +76,7 @@ struct Beginning {
 /// How a change starts a timer at the moment `now`, by the rules of this version of the trace format; a change that
 /// does not say what the timer is to do is refused.
 #[tactic(auto, unfolding(kq_model::specs::ChangedKnote::start_in, kq_model::specs::ChangedKnote::period_in))]
-fn begin(change: &Change, version: u32, now: u64) -> Beginning
+fn begin(change: &Change, version: Version, now: u64) -> Beginning
     ensures start { result.start ≡ start_in now (timing_of version change.now.datum change.now.fflags) }
     ensures period { result.period ≡ period_in (timing_of version change.now.datum change.now.fflags) }
     ensures come { result.come ≡ has_come now (timing_of version change.now.datum change.now.fflags) }
@@ -100,7 +100,7 @@ impl Knote {
     /// enabled unless the change says DISABLE. A timer starts at the moment `now`; of a user event the
     /// low 24 bits are stored, whatever the control bits. `target` is what the change names.
     #[tactic(auto, unfolding(kq_model::specs::ChangedKnote::begun, kq_model::specs::ChangedKnote::fresh))]
-    pub fn first(change: &Change, target: Option<Target>, version: u32, now: u64) -> Knote
+    pub fn first(change: &Change, target: Option<Target>, version: Version, now: u64) -> Knote
         ensures { (caller : Caller) → target
             ≡ target_of caller.views caller.owner change.now.filter change.now.ident
             → version ≡ caller.version → now ≡ caller.views.now
@@ -120,7 +120,7 @@ impl Knote {
 
     /// As a timer that starts at the moment `now`; one whose moment is not later has expired already.
     #[tactic(auto, unfolding(kq_model::specs::ChangedKnote::started))]
-    fn started(self, change: &Change, version: u32, now: u64) -> Knote
+    fn started(self, change: &Change, version: Version, now: u64) -> Knote
         ensures { (caller : Caller) → version ≡ caller.version → now ≡ caller.views.now
             → result ≡ started caller change.now self }
     {
@@ -136,7 +136,7 @@ impl Knote {
     /// With ADD a timer starts anew at the moment `now`: what it heard is forgotten, and it is not
     /// active.
     #[tactic(auto, unfolding(kq_model::specs::ChangedKnote::restarted))]
-    pub fn restart(&mut self, change: &Change, version: u32, now: u64)
+    pub fn restart(&mut self, change: &Change, version: Version, now: u64)
         ensures { (caller : Caller) → version ≡ caller.version → now ≡ caller.views.now
             → self.new ≡ restarted change.now.filter caller change.now self.old }
     {

@@ -27,6 +27,7 @@ mod series;
 mod side;
 mod spreading;
 mod trace;
+mod version;
 mod views;
 mod why;
 
@@ -53,5 +54,6 @@ pub use series::Series;
 pub use side::Side;
 pub use spreading::spread;
 pub use trace::Trace;
+pub use version::Version;
 pub use views::Views;
 pub use why::Why;

@@ -1,4 +1,5 @@
 pub mod NextTick
 mod Counts
+pub mod Single
 pub mod TimerLaws
 pub mod Sorted

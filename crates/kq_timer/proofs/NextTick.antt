@@ -1,5 +1,5 @@
 -- What `next_after` computes, one period after the last whole one, is the next tick.
-use Rattle.std.proofs.Common.{◌≡◌, ℕ, ◌+◌, ◌-◌, ◌%◌, ◌<◌, ◌≤◌, max, ℤ, pos, negsuc, ◌<ℤ◌, unsigned_abs, ◌==◌, false, cond, ◌⊎◌, inl, inr, refl, ap, arith}
+use Rattle.std.proofs.Common.{◌≡◌, ℕ, ◌+◌, ◌-◌, ◌%◌, ◌<◌, ◌≤◌, max, ℤ, pos, negsuc, ◌<ℤ◌, unsigned_abs, ◌==◌, false, cond, ◌⊎◌, inl, inr, ap, arith}
 use Rattle.std.specs.Int.{int_max}
 use Rattle.std.proofs.lemmas.Bool.{cases_lt, ne_eqb}
 use Rattle.std.proofs.lemmas.Int.{ints, clamps}

@@ -3,7 +3,7 @@ ghost use Rattle.kq_timer.specs.Timings.{started_at, ticks_of, IsFirstAfter};
 ghost use Rattle.kq_timer.specs.declared.ticker.Kind.TheVariants as kind_of;
 
 use crate::repeating::Repeating;
-use crate::{Period, Timing};
+use crate::{Moment, Period, Timing};
 use std::marker::Model;
 
 /// A timer that was started at a moment, with the moments at which it expires: start + k times the period for
@@ -16,7 +16,7 @@ pub struct Ticker {
 #[derive(Debug, Drop, Clone, Copy, PartialEq, Eq)]
 enum Kind {
     Repeats(Repeating),
-    Once(i64),
+    Once(Moment),
 }
 
 impl Model for Ticker {
@@ -53,8 +53,8 @@ impl Ticker {
         }
     }
 
-    /// How often the timer expires after the moment `from` and not after `to`; `from` may be before
-    /// the start.
+    /// How often the timer expires after the moment `from` and not after `to`, whether it repeats or expires once;
+    /// `from` may be before the start.
     pub fn ticks(&self, from: i64, to: i64) -> i64
         requires past { pos 0 ≤ℤ from }
         requires ordered { from ≤ℤ to }
@@ -62,18 +62,18 @@ impl Ticker {
     {
         match self.kind {
             Kind::Repeats(repeating) => repeating.ticks(from, to),
-            Kind::Once(moment) => { if from < moment && moment <= to { 1 } else { 0 } }
+            Kind::Once(moment) => moment.ticks(from, to),
         }
     }
 
-    /// The moment of the first expiration after `from`, where there is one up to 2^63 - 1. `from` may
-    /// be any number, also a negative one.
+    /// The moment of the first expiration after `from`, where there is one up to 2^63 - 1, whether the timer
+    /// repeats or expires once. `from` may be any number, also a negative one.
     pub fn first_after(&self, from: i64) -> Option<i64>
         ensures { IsFirstAfter self.now from result }
     {
         match self.kind {
             Kind::Repeats(repeating) => repeating.first_after(from),
-            Kind::Once(moment) => { if from < moment { Some(moment) } else { None } }
+            Kind::Once(moment) => moment.first_after(from),
         }
     }
 }

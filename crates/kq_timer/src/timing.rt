@@ -1,21 +1,20 @@
-ghost use Rattle.std.specs.Prelude.{◌≡◌, ◌≤◌, IfErr, IfOk, None, Some};
+ghost use Rattle.std.specs.Prelude.{◌≡◌, IfErr, IfOk, None, Some};
 ghost use Rattle.std.specs.Option.{ok_or, option_map};
 ghost use Rattle.kq_model.specs.ChangedKnote.{start_in, period_in, has_come};
-ghost use Rattle.kq_model.specs.Ticks.{is_absolute, last_moment, named_moment, timing_of};
+ghost use Rattle.kq_model.specs.Ticks.{is_absolute, timing_of};
 ghost use Rattle.kq_timer.specs.Timings.{coded, timing};
 
-use crate::Period;
-use crate::period::unit_of_flags;
-use kq_model::Errno;
+use crate::{Moment, Period};
 use kq_model::notes::NOTE_ABSTIME;
+use kq_model::{Errno, Version};
 
 /// What a timer is to do (kqueue(2), EVFILT_TIMER and NOTE_ABSTIME).
 #[derive(Debug, Drop, Clone, Copy, PartialEq, Eq)]
 pub enum Timing {
     /// To expire one period after the other from its start on.
     Every(Period),
-    /// To expire once, at this moment, in nanoseconds from the clock's first one.
-    At(i64),
+    /// To expire once, at this moment.
+    At(Moment),
 }
 
 impl Timing {
@@ -25,15 +24,15 @@ impl Timing {
     ///
     /// EINVAL where two units or any other bit are named, where `datum` is negative, and where the period or
     /// the moment is over 2^63 - 1 nanoseconds.
-    pub fn new(version: u32, datum: i64, fflags: u32) -> Result<Timing, Errno>
+    pub fn new(version: Version, datum: i64, fflags: u32) -> Result<Timing, Errno>
         ensures exact { result ≡ ok_or (option_map coded (timing_of version datum fflags)) Errno.EINVAL }
         // The same as users of a timing want it.
         ensures said { IfOk result (λ t. Some (timing t) ≡ timing_of version datum fflags) }
         ensures refused { IfErr result (λ _. None ≡ timing_of version datum fflags) }
     {
         if is_absolute(version, fflags) {
-            let moment = named_moment(datum, fflags.saturating_sub(NOTE_ABSTIME))?;
-            return Ok(Timing::At(moment as i64));
+            let moment = Moment::new(datum, fflags.saturating_sub(NOTE_ABSTIME))?;
+            return Ok(Timing::At(moment));
         }
         let period = Period::new(datum, fflags)?;
         Ok(Timing::Every(period))
@@ -49,7 +48,7 @@ impl Timing {
     {
         match *self {
             Timing::Every(_) => now,
-            Timing::At(moment) => moment.unsigned_abs(),
+            Timing::At(moment) => moment.nanoseconds(),
         }
     }
 
@@ -71,29 +70,14 @@ impl Timing {
     {
         match *self {
             Timing::Every(_) => false,
-            Timing::At(moment) => moment.unsigned_abs() <= now,
+            Timing::At(moment) => moment.nanoseconds() <= now,
         }
     }
 }
 
 /// Whether the data of a timer is a moment, by the rules of this version of the trace format.
-fn is_absolute(version: u32, fflags: u32) -> bool
+fn is_absolute(version: Version, fflags: u32) -> bool
     ensures { result ≡ is_absolute version fflags }
 {
-    version != 1 && fflags & NOTE_ABSTIME == NOTE_ABSTIME
-}
-
-/// The moment that is so many of the named units after the clock's first one.
-fn named_moment(datum: i64, fflags: u32) -> Result<u64, Errno>
-    ensures exact { result ≡ ok_or (named_moment datum fflags) Errno.EINVAL }
-    ensures bounded { IfOk result (λ moment. moment ≤ last_moment) }
-{
-    let unit = unit_of_flags(fflags).ok_or(Errno::EINVAL)?;
-    if datum < 0 {
-        return Err(Errno::EINVAL);
-    }
-    match (datum as u64).checked_mul(unit) {
-        Some(moment) if moment <= i64::MAX as u64 => Ok(moment),
-        _ => Err(Errno::EINVAL),
-    }
+    version.number() != 1 && fflags & NOTE_ABSTIME == NOTE_ABSTIME
 }

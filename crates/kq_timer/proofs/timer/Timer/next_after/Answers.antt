@@ -1,9 +1,8 @@
 -- The next expiration of a timer that expires once, and of one that goes on.
-use Rattle.std.proofs.Common.{◌≡◌, ◌+◌, ◌-◌, ◌%◌, ◌<◌, ◌≤◌, ℕ, max, true, false, sym, ap, ◌∙◌, arith, rules}
+use Rattle.std.proofs.Common.{◌≡◌, ◌+◌, ◌-◌, ◌%◌, ◌<◌, ℕ, true, false, sym, ap, ◌∙◌, arith}
 use Rattle.kq_model.specs.Ticks.{Ticking, expires, last_moment}
 use Rattle.kq_model.specs.NextTicks.{next_tick}
 use Rattle.kq_model.proofs.Ticks.{moment_after}
-use Rattle.kq_timer.specs.Once.{once_after}
 use Rattle.kq_timer.proofs.TimerLaws.{no-period, has-period, once-single, still-single, single-next, periodic-next, periodic-never, moment_after-found, too_far}
 use Rattle.kq_timer.proofs.timer.Timer.next_after.Goals as goal
 use Rattle.kq_timer.proofs.timer.Timer.next_after.Goals.{then-self-via-then-self, then-self-via-else-self+then-is_single_moment}

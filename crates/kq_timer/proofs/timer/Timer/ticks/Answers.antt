@@ -1,9 +1,7 @@
 -- How often a timer expires that does so once, and one that goes on.
-use Rattle.std.proofs.Common.{◌≡◌, ◌+◌, ◌-◌, ◌/◌, ◌<◌, ◌≤◌, ℕ, true, false, leb, cond, refl, sym, ap, ap₂, ◌∙◌, arith, rules}
-use Rattle.std.proofs.lemmas.Bool.{le-leb, lt-leb}
-use Rattle.kq_model.specs.Ticks.{Ticking, expires, last_moment}
+use Rattle.std.proofs.Common.{◌≡◌, ◌+◌, ◌-◌, ◌/◌, ◌<◌, ℕ, true, false, leb, cond, sym, ap, ap₂, ◌∙◌, rules}
+use Rattle.kq_model.specs.Ticks.{Ticking, expires}
 use Rattle.kq_model.specs.NextTicks.{ticks_between}
-use Rattle.kq_timer.specs.Once.{once_after}
 use Rattle.kq_timer.proofs.TimerLaws.{no-period, has-period, once-single, still-single, single-ticks, periodic-ticks}
 use Rattle.kq_timer.proofs.timer.Timer.ticks.Goals as goal
 use Rattle.kq_timer.proofs.timer.Timer.ticks.Goals.{then-self-via-then-self, then-self-via-else-self+then-is_single_moment}
