@@ -10,7 +10,7 @@ use crate::Kq;
 use crate::refusals::{is_malformed, is_unopened, own_refusal};
 use crate::register::asks;
 use kq_knote::Knote;
-use kq_model::{Change, Errno, EvFlags, Views};
+use kq_model::{Change, Errno, EvFlags, Version, Views};
 use kq_table::Placed;
 
 /// What a change is to do.
@@ -31,7 +31,7 @@ pub enum Decision {
 #[tactic(auto, unfolding(kq_model::specs::Registration::decided, kq_model::specs::Registration::unless_refused))]
 fn decided<V: Views>(
     owner: u32,
-    version: u32,
+    version: Version,
     present: Option<Placed<Knote>>,
     change: &Change,
     views: &V,

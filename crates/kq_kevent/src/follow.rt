@@ -98,7 +98,7 @@ impl Kq {
         ensures version { self.new.version ≡ self.old.version }
         ensures limit { limit self.new ≡ limit self.old }
     {
-        if self.version == 1 {
+        if self.version.number() == 1 {
             return;
         }
         for told in hints {
@@ -166,7 +166,7 @@ impl Kq {
         // Memory comes only where children are followed, and where there was less room than hints.
         ensures missing { OnErr result ((self.old.version ≡ 1 → ⊥) × (self.old.room < length hints.now)) }
     {
-        if self.version == 1 {
+        if self.version.number() == 1 {
             return Ok(());
         }
         let children = children_in(hints);

@@ -2,7 +2,7 @@ ghost use Rattle.std.specs.Prelude.{◌≡◌, ◌<◌, OnOk, OnErr, max};
 ghost use Rattle.kq_model.specs.Kqueue.{HaveOwnKeys, IsSound, empty_kqueue};
 
 use kq_knote::Knotes;
-use kq_model::Memory;
+use kq_model::{Memory, Version};
 use std::alloc::Global;
 use std::marker::Model;
 
@@ -11,7 +11,7 @@ use std::marker::Model;
 #[derive(Drop)]
 pub struct Kq {
     pub(crate) owner: u32,
-    pub(crate) version: u32,
+    pub(crate) version: Version,
     pub(crate) knotes: Knotes,
 }
 
@@ -40,11 +40,11 @@ impl Kq {
         ensures version { result.version ≡ 1 }
         ensures room { result.room ≡ 0 }
     {
-        Kq::in_version(alloc, owner, 1)
+        Kq::in_version(alloc, owner, Version::new(1))
     }
 
     /// An empty kqueue of the process with the pid `owner`, by the rules of this version of the trace format.
-    pub fn in_version(alloc: Global, owner: u32, version: u32) -> Self
+    pub fn in_version(alloc: Global, owner: u32, version: Version) -> Self
         ensures kq { result.kq ≡ empty_kqueue }
         ensures owner { result.owner ≡ owner }
         ensures version { result.version ≡ version }

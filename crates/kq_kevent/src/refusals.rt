@@ -9,7 +9,7 @@ ghost use Rattle.std.specs.Option.{is_none};
 
 use crate::register::asks;
 use kq_model::notes::NOTE_TRACK;
-use kq_model::{Change, Errno, EvFlags, Filter, Named, View, Views, named_in, process_in};
+use kq_model::{Change, Errno, EvFlags, Filter, Named, Version, View, Views, named_in, process_in};
 use kq_timer::Timing;
 
 /// Whether changes of a filter do something; those of all others are refused.
@@ -104,7 +104,7 @@ fn is_live_process(view: Option<View>) -> bool
 /// In version 1 PROC refuses to follow children, and always a process that is not there.
 #[tactic(auto, unfolding(kq_model::specs::Refusals::process_refusal))]
 fn process_refusal<V: Views>(
-    version: u32,
+    version: Version,
     is_new: bool,
     change: &Change,
     views: &V,
@@ -112,7 +112,7 @@ fn process_refusal<V: Views>(
     ensures { (by : Caller) → by.views ≡ V.sees views.now → by.version ≡ version
         → result ≡ process_refusal by is_new change.now }
 {
-    if version == 1 && change.fflags & NOTE_TRACK == NOTE_TRACK {
+    if version.number() == 1 && change.fflags & NOTE_TRACK == NOTE_TRACK {
         return Some(Errno::EINVAL);
     }
     if is_new && !is_live_process(process_in(change.ident, views)) {
@@ -123,7 +123,7 @@ fn process_refusal<V: Views>(
 
 /// Whether a change of a timer names no period and no moment, by the rules of this version: it names two units,
 /// unknown bits, a negative number or one that is too large.
-fn names_no_timing(version: u32, change: &Change) -> bool
+fn names_no_timing(version: Version, change: &Change) -> bool
     ensures { result ≡ is_none (timing_of version change.now.datum change.now.fflags) }
 {
     match Timing::new(version, change.datum, change.fflags) {
@@ -136,7 +136,7 @@ fn names_no_timing(version: u32, change: &Change) -> bool
 #[tactic(auto, unfolding(kq_model::specs::Refusals::own_refusal))]
 pub fn own_refusal<V: Views>(
     owner: u32,
-    version: u32,
+    version: Version,
     is_new: bool,
     change: &Change,
     views: &V,

@@ -14,10 +14,10 @@ use Rattle.kq_kevent.proofs.kq.Kq.follow.Goals as goal
 abbrev no_hint : Posted
 no_hint = (Socket 0, Readable)
 
-pub returns-then-self-eq1-clause-kq : goal.returns-then-self-eq1-clause-kq
+pub returns-then-number-eq1-clause-kq : goal.returns-then-number-eq1-clause-kq
 unfolding followed_each
-returns-then-self-eq1-clause-kq c =
-    let one = ap (λ (v : OwnedKqueue). v.version) (sym c.self.view_is) ∙ c.if-self-eq1.true in
+returns-then-number-eq1-clause-kq c =
+    let one = ap (λ (v : OwnedKqueue). v.version) (sym c.self.view_is) ∙ sym c.number.ensures.exact ∙ c.if-number-eq1.true in
     ap (λ (fs : List Fork). followed_each fs c.args.self.now.kq)
     (sym (ap (λ b. cond b [] (all_forks c.args.hints.now)) (eq-eqb c.args.self.now.version 1 one)))
 
@@ -35,7 +35,7 @@ follow_one-requires c =
     let rest = drop (i + 1) hints in
     let later = ap (λ (fs : List Fork). followed_each fs c.args.self.now.kq) (sym
     (ap (λ b. cond b [] (all_forks hints))
-    (ne_eqb c.args.self.now.version 1 (λ one. c.if-self-eq1.false (ap (λ (v : OwnedKqueue). v.version) c.self.view_is ∙ one))))) in
+    (ne_eqb c.args.self.now.version 1 (λ one. c.if-number-eq1.false (c.number.ensures.exact ∙ ap (λ (v : OwnedKqueue). v.version) c.self.view_is ∙ one))))) in
     let split = sym (at_drop_more (λ ps. followed_each (all_forks ps) kq) hints i no_hint (omega arith)) in
     let all = ap (λ (q : Kqueue). length q.knotes) (sym (each-append (forks_of p.0 p.1) (all_forks rest) kq) ∙ split ∙ c.loop-told.invariant.so_far ∙ later) in
     omega (arith, all, each-longer (all_forks rest) (followed_each (forks_of p.0 p.1) kq), c.loop-told.invariant.limit, c.requires)
@@ -63,7 +63,7 @@ returns-clause-kq c =
     let hints = c.args.hints.now in
     let later = ap (λ (fs : List Fork). followed_each fs c.args.self.now.kq) (sym
     (ap (λ b. cond b [] (all_forks hints))
-    (ne_eqb c.args.self.now.version 1 (λ one. c.if-self-eq1.false (ap (λ (v : OwnedKqueue). v.version) c.self.view_is ∙ one))))) in
+    (ne_eqb c.args.self.now.version 1 (λ one. c.if-number-eq1.false (c.number.ensures.exact ∙ ap (λ (v : OwnedKqueue). v.version) c.self.view_is ∙ one))))) in
     sym (at_drop_all (λ ps. followed_each (all_forks ps) c.loop-told.self.kq) hints c.loop-told.told-index (omega arith))
     ∙ c.loop-told.invariant.so_far ∙ later
 

@@ -8,12 +8,12 @@ use Rattle.kq_model.proofs.Following.{each-most, notified-most}
 use Rattle.kq_kevent.specs.Owned.{OwnedKqueue}
 use Rattle.kq_kevent.proofs.kq.Kq.reserve_to_follow.Goals as goal
 
-pub returns-then-self-eq1-clause-room : goal.returns-then-self-eq1-clause-room
+pub returns-then-number-eq1-clause-room : goal.returns-then-number-eq1-clause-room
 unfolding followed_each
-returns-then-self-eq1-clause-room c views =
+returns-then-number-eq1-clause-room c views =
     let hints = c.args.hints.now in
     let kq = c.args.self.now.kq in
-    let one = ap (λ (v : OwnedKqueue). v.version) (sym c.self.view_is) ∙ c.if-self-eq1.true in
+    let one = ap (λ (v : OwnedKqueue). v.version) (sym c.self.view_is) ∙ sym c.number.ensures.exact ∙ c.if-number-eq1.true in
     let none = ap (λ b. length (followed_each (cond b [] (all_forks hints)) (notified views hints kq)).knotes)
     (eq-eqb c.args.self.now.version 1 one) in
     omega (arith, none, notified-most views hints kq)
@@ -24,7 +24,7 @@ returns-clause-room c =
     let now = c.reserve_for.new.self in
     let two = c.reserve_for.ensures.version ∙ ap (λ (v : OwnedKqueue). v.version) (sym c.self.view_is) in
     let later = λ (views : _). ap (λ b. length (followed_each (cond b [] (all_forks hints)) (notified views hints now.kq)).knotes)
-    (ne_eqb now.version 1 (λ is. c.if-self-eq1.false (sym two ∙ is))) in
+    (ne_eqb now.version 1 (λ is. c.if-number-eq1.false (c.number.ensures.exact ∙ sym two ∙ is))) in
     on_ok_weaker c.reserve_for.result (λ room views. omega (
       arith,
       later views,
