@@ -5,7 +5,7 @@ use crate::private::Private;
 use crate::said::Said;
 use crate::seen::Seen;
 use crate::splitting::Splitting;
-use kq_model::{Event, Memory, Named, Row, Target, Trace, View};
+use kq_model::{Event, Memory, Named, Row, Target, Trace, Version, View};
 use std::alloc::Global;
 use std::marker::Model;
 
@@ -13,7 +13,7 @@ use std::marker::Model;
 /// the rows of those that are impossible.
 #[derive(Drop)]
 pub struct Split<'a> {
-    pub(crate) version: u32,
+    pub(crate) version: Version,
     pub(crate) events: &'a [Event],
     pub(crate) seen: Seen,
     pub(crate) said: Said,
@@ -62,7 +62,7 @@ impl<'a> Split<'a> {
         let items = self
             .said
             .log
-            .pick_reached(self.version != 1, concerned.sources.as_slice())?;
+            .pick_reached(self.version.number() != 1, concerned.sources.as_slice())?;
         Ok(Private {
             split: self,
             kqueue,
@@ -118,7 +118,7 @@ impl<'a> Split<'a> {
     }
 
     /// The version of the trace's format.
-    pub fn version(&self) -> u32
+    pub fn version(&self) -> Version
         ensures version { result ≡ self.now.version }
     {
         self.version

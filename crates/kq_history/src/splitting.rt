@@ -8,7 +8,7 @@ use crate::seen::Seen;
 use crate::split::Split;
 use crate::touched::Touched;
 use crate::tracking::track;
-use kq_model::{Event, Memory, Row, Trace};
+use kq_model::{Event, Memory, Row, Trace, Version};
 use kq_process::{Effect, World};
 use std::alloc::Global;
 
@@ -94,8 +94,9 @@ impl Splitting {
             ..
         } = self;
         let said = said.end()?;
+        let version = Version::new(trace.version);
         Ok(Split {
-            version: trace.version,
+            version,
             events,
             seen,
             said,

@@ -21,7 +21,7 @@ use crate::ticking::ring_timed;
 use crate::watching::watch_all;
 use indexmap::IndexMap;
 use kq_kevent::Kq;
-use kq_model::{Change, Hint, Memory, Reply, Target, Views};
+use kq_model::{Change, Hint, Memory, Reply, Target, Version, Views};
 
 /// So few kqueues are all shown a record.
 const FEW: usize = 1;
@@ -169,7 +169,7 @@ fn prepare_one(live: &mut Kqueues, wanted: bool, place: u64, pid: u32) -> Result
 }
 
 /// A kqueue that goes by this version of the trace's format is made by the record at a place, later than all others.
-pub fn bear(live: &mut Kqueues, version: u32, place: u64, pid: u32, number: u32)
+pub fn bear(live: &mut Kqueues, version: Version, place: u64, pid: u32, number: u32)
     requires ready { live.old.ready ≡ Some (place, pid) }
     requires absent { lookup (nat_eq place) live.old.entries ≡ None }
     ensures born { map live_of live.new.entries

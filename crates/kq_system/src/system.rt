@@ -8,7 +8,7 @@ ghost use Rattle.kq_process.specs.World.{world_of};
 use crate::all_live::{bear, call_on, happen_to_all, reserve_one, tick_all};
 use crate::following::fork_all;
 use crate::kqueues::Kqueues;
-use kq_model::{Change, Event, Memory, Named, Reply};
+use kq_model::{Change, Event, Memory, Named, Reply, Version};
 use kq_process::{Effect, World};
 use std::alloc::Global;
 use std::marker::Model;
@@ -17,7 +17,7 @@ use std::marker::Model;
 /// watches what its number names.
 #[derive(Drop)]
 pub struct System {
-    version: u32,
+    version: Version,
     pub(crate) world: World,
     pub(crate) live: Kqueues,
     pub(crate) applied: u64,
@@ -64,7 +64,7 @@ impl System {
         ensures applied { IfOk result (λ s. s.applied ≡ 0) }
     {
         Ok(System {
-            version,
+            version: Version::new(version),
             world: World::new(alloc)?,
             live: Kqueues::new(alloc),
             applied: 0,

@@ -27,6 +27,7 @@ invariant_of-result c =
       own = subst (λ (x : Traced). IsPrivate x c.args.kqueue concerned.owner c.in_ok-items.items.items) same
           (is-private t c.self.inside.said c.self.invariant.said c.args.kqueue concerned c.of-concerned.ensures
           c.in_ok-items.ensures.0 c.in_ok-items.items.items
-          (subst (λ ss. AreReached (not (t.version == 1)) c.self.inside.said.log ss c.in_ok-items.ensures.0) c.as_slice.ensures.list c.in_ok-items.ensures.1)
+          (subst (λ ss. AreReached (not (t.version == 1)) c.self.inside.said.log ss c.in_ok-items.ensures.0) c.as_slice.ensures.list
+          (subst (λ (v : ℕ). AreReached (not (v == 1)) c.self.inside.said.log c.as_slice.result.now c.in_ok-items.ensures.0) c.number.ensures.exact c.in_ok-items.ensures.1))
           c.in_ok-items.ensures.2);
     }

@@ -1,4 +1,4 @@
-use Rattle.std.proofs.Common.{List, sym, subst}
+use Rattle.std.proofs.Common.{List, ℕ, sym, subst}
 use Rattle.kq_model.specs.declared.event.Event.{Event}
 use Rattle.kq_history.specs.Split.{IsSplit}
 use Rattle.kq_history.specs.Traced.{traced}
@@ -10,10 +10,12 @@ end-requires c = (traced c.args.trace.now, c.requires.said)
 pub invariant_of-result : goal.invariant_of-result
 invariant_of-result c =
     let given = c.args.self in
-    subst (λ (xs : List Event). IsSplit (record { version = c.args.trace.now.version; events = xs }) given.seen c.in_ok-said.said given.plain.items)
+    subst (λ (v : ℕ). IsSplit (record { version = v; events = c.as_slice-events.result.now }) given.seen c.in_ok-said.said given.plain.items)
+    (sym c.new-version.ensures)
+    (subst (λ (xs : List Event). IsSplit (record { version = c.args.trace.now.version; events = xs }) given.seen c.in_ok-said.said given.plain.items)
     (sym c.as_slice-events.ensures) (record {
       shows = c.requires.tracked.shows;
       said = c.in_ok-said.ensures (traced c.args.trace.now) c.requires.said;
       plain_is = c.requires.plain_is;
       countable = c.args.trace.now.countable;
-    })
+    }))
