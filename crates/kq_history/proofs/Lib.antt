@@ -23,7 +23,6 @@ mod NamedTargets
 mod NotedKeys
 mod NotedMarks
 mod SameValues
-mod ListedRecords
 mod TracedWorlds
 mod TrackedRecords
 mod WorldNext

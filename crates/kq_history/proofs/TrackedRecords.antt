@@ -16,7 +16,7 @@ use Rattle.kq_history.specs.Touched.{touched_numbers, touched_targets}
 use Rattle.kq_history.specs.Spoken.{opened_numbers, spoken_numbers, spoken_targets}
 use Rattle.kq_history.specs.Traced.{Traced, longer, seen_at}
 use Rattle.kq_history.proofs.AnyWithin.{any-within}
-use Rattle.kq_history.proofs.ListedRecords.{listed-record}
+use Rattle.kq_model.proofs.ListedRecords.{listed-record}
 use Rattle.kq_history.proofs.TouchedKeys.{to_pair}
 use Rattle.kq_history.proofs.TracedWorlds.{end, next, now, seen-longer, seen-stands}
 use Rattle.kq_history.proofs.UntouchedRecords.{untouched_number, untouched_view}

@@ -21,7 +21,6 @@ pub mod CalmPlans
 pub mod HoldWakes
 pub mod WorldWakes
 pub mod Announced
-pub mod Listed
 pub mod Sound
 pub mod Runs
 pub mod Lives

@@ -26,7 +26,7 @@ use Rattle.kq_laws.specs.Wakes.{IsAnnounced}
 use Rattle.kq_laws.proofs.ActWakes.{AreCalm}
 use Rattle.kq_laws.proofs.Announced.{announced}
 use Rattle.kq_laws.proofs.Calm.{calm-none}
-use Rattle.kq_laws.proofs.Listed.{listed-record}
+use Rattle.kq_model.proofs.ListedRecords.{listed-record}
 use Rattle.kq_laws.proofs.WorldWakes.{TellsPlanned, tells-record}
 
 -- ---- the world of a run, whose next record has this place
@@ -48,7 +48,7 @@ module _ (place : ℕ) (e : Event) (w : World) (run : IsRunWorld place w) where
   unfolding carried_out
   possible-world p is = record {
     counted = subst (Keeps place w) is ((counted-record place w e).keeps run.counted);
-    listed = subst (StaysListed place w) is ((listed-record place w e).keeps run.counted run.listed);
+    listed = subst (StaysListed place w) is ((listed-record place e w).keeps run.counted run.listed);
     calm = (subst (TellsPlanned w) is ((tells-record place w e).tells run.counted run.listed run.calm)).1 run.calm;
   }
 

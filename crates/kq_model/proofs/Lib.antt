@@ -93,6 +93,7 @@ pub mod ListedObjects
 pub mod ListedPlans
 pub mod PlanReasons
 pub mod ListedWorld
+pub mod ListedRecords
 pub mod NumberLaws
 pub mod KnoteMiddle
 pub mod HeardAlong

@@ -32,9 +32,9 @@ use Rattle.kq_model.proofs.CountedTables.{has_pair-one, inherited-all, one_pair,
 use Rattle.kq_model.proofs.CountedWorld.{hold_all-done}
 use Rattle.kq_model.proofs.HeldNames.{counted-fewer}
 use Rattle.kq_model.proofs.KnoteLaws.{by_test}
-use Rattle.kq_model.proofs.ListedObjects.{listed-all_held, listed-all_released, listed-hold, listed-none, listed-release}
+use Rattle.kq_model.proofs.ListedObjects.{listed-all_held, listed-all_released, listed-hold, listed-none, listed-release, IsReady}
 use Rattle.kq_model.proofs.ListedPlans.{listed-plan}
-use Rattle.kq_model.proofs.NamedWorld.{more_named, named_first, named-among}
+use Rattle.kq_model.proofs.NamedWorld.{free-place, more_named, named_first, named-among}
 use Rattle.kq_model.proofs.PlanReasons.{if_live-holds, on_descriptor-holds, unless, unless_gone, unless_open-holds}
 use Rattle.kq_model.proofs.ReleasedAll.{all_done-append, release-counted, release_all-done}
 
@@ -202,11 +202,18 @@ listed-exit place pid status w =
 
 -- ---- records about objects
 
+-- what the record of a place needs of the objects
+ready : (place : ℕ) (w : World counted) → IsCountedWorld place w → IsReady place w.objects
+ready place w c = record {
+  held = c.held.description;
+  fresh = λ q later. (free-place place q w later c).description;
+}
+
 with_objects-lists : (place : ℕ) (w : World counted) (a : Act) (ds : List Descriptor) (planned : object.Planned)
     → object_planning.plan place a w.objects ≡ planned → KeepsLists place w (with_objects ds planned)
 unfolding with_objects carried_out
 with_objects-lists place w a ds (Err why) is = record { keeps = λ c l. tt }
-with_objects-lists place w a ds (Ok p) is = record { keeps = λ c l. listed-plan place a w.objects p is l }
+with_objects-lists place w a ds (Ok p) is = record { keeps = λ c l. listed-plan place a w.objects p is (ready place w c) l }
 
 pub listed-act : (place : ℕ) (a : Act) (ds : List Descriptor) (w : World counted) → KeepsLists place w (plan_act place ds a w)
 unfolding plan_act

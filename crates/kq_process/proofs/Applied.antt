@@ -6,6 +6,7 @@ use Rattle.kq_model.specs.declared.event.Event.{Event}
 use Rattle.kq_model.specs.declared.event.Event.TheVariants as event
 use Rattle.kq_model.specs.CountedWorld.{IsCountedWorld, KeepsCounts, NamesBelow}
 use Rattle.kq_model.specs.Holders.{made_names}
+use Rattle.kq_model.specs.ListedFiles.{AreListed, KeepsLists}
 use Rattle.kq_model.specs.ObjectRecordPlans.{plan_at}
 use Rattle.kq_model.specs.Objects.{counted, listed}
 use Rattle.kq_model.specs.Plans.{plan}
@@ -81,6 +82,11 @@ module _ (place : ℕ) (w : World counted) where
   pub counted-after : (p : Planned) → KeepsCounts place w p → IsCountedWorld place w → IsCountedWorld (place + 1) (world_after place p w)
   counted-after (Impossible why) keeps c = counted-later place (place + 1) w (omega arith) c
   counted-after (Possible p) keeps c = keeps.keeps c
+
+-- the lists of all files stay as they have to be
+pub lists-after : (place : ℕ) (w : World counted) (p : Planned) → KeepsLists place w p → IsCountedWorld place w → AreListed w.objects → AreListed (world_after place p w).objects
+lists-after place w (Impossible why) keeps c l = l
+lists-after place w (Possible p) keeps c l = keeps.keeps c l
 
 pub listed-after : (place : ℕ) (p : Planned) (m : World listed) → world_after place p (seen_world m) ≡ seen_world (listed_after place p m)
 listed-after place (Impossible why) m = refl

@@ -2,6 +2,7 @@ ghost use Rattle.std.specs.Prelude.{◌≡◌, ◌+◌, ◌<◌, ℕ, All, IfOk,
 ghost use Rattle.kq_model.specs.CountedWorld.{IsCountedWorld, IsOwned, NamesBelow};
 ghost use Rattle.kq_model.specs.DescriptorPlans.{plan_kevent};
 ghost use Rattle.kq_model.specs.Descriptors.{IsRising};
+ghost use Rattle.kq_model.specs.ListedFiles.{AreListed};
 ghost use Rattle.kq_model.specs.Objects.{counted, listed};
 ghost use Rattle.kq_model.specs.Plans.{plan};
 ghost use Rattle.kq_model.specs.ProcessPlans.{descriptors_of, plan_fork};
@@ -28,6 +29,8 @@ pub struct World {
     ghost owned: { All (IsOwned (state_of state).processes) (state_of state).table },
     // All that is named was made by the records up to the last one.
     ghost below: { All (NamesBelow (last + 1)) (state_of state).table },
+    // Each file lists its open descriptions and no other, in the rising order of their places.
+    ghost lists: { AreListed (state_of state).objects },
 }
 
 impl World {
@@ -44,7 +47,8 @@ impl World {
     }
 
     /// The step of the world: what the record at this place does, or the first reason why it is
-    /// impossible; then it changes nothing. Places rise. After Memory nothing has changed.
+    /// impossible; then it changes nothing. Places rise, so a file lists its open descriptions in the rising order of
+    /// the places at which they were opened. After Memory nothing has changed.
     pub fn apply(&mut self, place: u64, event: &Event) -> Result<Effect, Memory>
         requires { last_of self.old < place }
         ensures effect { IfOk result (IsEffectBy (plan place event.now) self.old) }
@@ -54,8 +58,10 @@ impl World {
         ensures same_last { OnErr result (last_of self.new ≡ last_of self.old) }
         // An impossible record is answered, whatever memory there is.
         ensures possible { OnErr result (IsPossible (plan place event.now (world_of self.old))) }
-        // All that is named was made at this place or before.
+        // All that is named was made at this place or before. Each file lists its open descriptions and no
+        // other, in the order of their birth.
         ensures next { OnOk result (IsCountedWorld (place + 1) (world_of self.new)) }
+        ensures lists { OnOk result (AreListed (world_of self.new).objects) }
         // The same for the world that keeps each object's records, for which this one stands.
         ensures listed { (m : Kept listed) → world_of self.old ≡ seen_world m
             → OnOk result (world_of self.new
@@ -82,6 +88,7 @@ impl World {
         ensures same_last { OnErr result (last_of self.new ≡ last_of self.old) }
         ensures possible { OnErr result (IsPossible (plan place event.now (world_of self.old))) }
         ensures next { OnOk result (IsCountedWorld (place + 1) (world_of self.new)) }
+        ensures lists { OnOk result (AreListed (world_of self.new).objects) }
         ensures listed { (m : Kept listed) → world_of self.old ≡ seen_world m
             → OnOk result (world_of self.new
             ≡ seen_world (listed_after place (plan place event.now (seen_world m)) m)) }

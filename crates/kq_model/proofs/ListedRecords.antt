@@ -1,4 +1,4 @@
--- Any record keeps each file's list of its open descriptions whole.
+-- Any record keeps the lists of all files whole and in order.
 use Rattle.std.proofs.Common.{ℕ, pos, negsuc}
 use Rattle.kq_model.specs.declared.act.Act.TheVariants as act
 use Rattle.kq_model.specs.declared.event.Event.{Event}
