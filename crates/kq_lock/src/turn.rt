@@ -86,7 +86,7 @@ fn pass_on<M: Machine>(
     ensures me { token.new.me ≡ (record token.old.me.0 { stage = Idle }, []) }
 {
     table.store::<PassOn>(token, SERVING, ticket + 1);
-    waiting.wake(ticket + 1);
+    waiting.wake(token, ticket + 1);
 }
 
 // Takes the step, passes the turn on and wakes who has the next tickets. After `Memory` the history has

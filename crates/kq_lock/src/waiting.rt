@@ -1,6 +1,11 @@
 //! How tickets wait until their turn comes. Those whose turn is near spin, and the others sleep. No proof sees a
 //! sleep or a wake. No wake is lost all the same: who waits announces it and then loads SERVING, and who passes the
 //! turn on stores SERVING and then wakes the ticket that has it.
+ghost use Rattle.std.specs.Prelude.{◌≡◌};
+ghost use Rattle.kq_lock.specs.declared.view.Stage.TheVariants.{Idle};
+
+use crate::machine::Machine;
+use crate::rule::TableSeat;
 use crossbeam_utils::Backoff;
 use crossbeam_utils::sync::{EventCount, Key};
 use std::array;
@@ -34,9 +39,12 @@ impl Waiting {
         &self.slots[(ticket % SLOTS as u64) as usize]
     }
 
-    /// Wakes the ticket that has the turn now, and those whose turn is near. Call it after the turn was
-    /// passed on. It waits for nobody.
-    pub fn wake(&self, ticket: u64) {
+    /// Wakes the ticket that has the turn now, and those whose turn is near. The seat is the one that had the turn
+    /// before: it has passed it on, since a ticket that is woken earlier would sleep again. It waits for nobody.
+    pub fn wake<M: Machine>(&self, passed: &TableSeat<M>, ticket: u64)
+        requires { passed.now.me.0.stage ≡ Idle }
+    {
+        let _ = passed;
         for ahead in 0..NEAR {
             self.slot(ticket.wrapping_add(ahead)).notify_all();
         }
