@@ -18,6 +18,10 @@ mod live;
 #[cfg(test)]
 mod lock;
 #[cfg(test)]
+mod merging;
+#[cfg(test)]
 mod replay;
 #[cfg(test)]
 mod room;
+#[cfg(test)]
+mod single;

@@ -1,6 +1,8 @@
 //! What no clause says: that calls succeed, which refusal comes where another call has the turn, that
 //! calls which sleep are woken, and that threads end.
+mod crowd;
 mod machines;
+mod many;
 mod single;
 mod sleeps;
 mod threads;
@@ -39,6 +41,20 @@ fn next_seat<M: Machine>(lock: &TurnLock<M>, seats: &mut Vec<TurnSeat<M>>) -> Op
     seats.pop()
 }
 
+// A lock round the machine, with one seat and so many tickets.
+fn with_one_seat<M: Machine>(
+    alloc: Global,
+    machine: M,
+    last: u64,
+) -> Result<(TurnLock<M>, TurnSeat<M>), Fail>
+    requires { last ≤ 2 ^ 62 }
+    ensures { IfOk result (λ made. made.1.lock ≡ made.0) }
+{
+    let (lock, mut seats) = TurnLock::new(alloc, machine, 1, last)?;
+    let one = next_seat(&lock, &mut seats).ok_or("a seat")?;
+    Ok((lock, one))
+}
+
 // A lock round the machine, with two seats and so many tickets.
 fn with_two_seats<M: Machine>(
     alloc: Global,
@@ -62,6 +78,7 @@ fn both_seats<M: Machine>(
     requires { EachSeat (IsFresh lock.now) seats.old.items }
     ensures one { IfOk result (λ both. both.0.lock ≡ lock.now) }
     ensures two { IfOk result (λ both. both.1.lock ≡ lock.now) }
+    ensures rest { EachSeat (IsFresh lock.now) seats.new.items }
 {
     let one = next_seat(lock, seats).ok_or("a seat")?;
     let two = next_seat(lock, seats).ok_or("a second seat")?;

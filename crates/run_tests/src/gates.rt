@@ -84,6 +84,35 @@ impl Gate for Meeting {
     }
 }
 
+/// Holds each of two places until the other was entered.
+#[derive(Drop)]
+pub struct Pair {
+    places: [u32; 2],
+    meeting: Meeting,
+}
+
+impl Pair {
+    pub fn new(places: [u32; 2]) -> Pair {
+        Pair {
+            places,
+            meeting: Meeting::new(2, 2),
+        }
+    }
+
+    /// Both were entered, and nobody gave up.
+    pub fn was_held(&self) -> bool {
+        self.meeting.was_held()
+    }
+}
+
+impl Gate for Pair {
+    fn enter(&self, thread: u32, number: u32) {
+        if number == self.places[0] || number == self.places[1] {
+            self.meeting.enter(thread, 1);
+        }
+    }
+}
+
 /// Refuses the start of this worker alone.
 #[derive(Clone, Copy)]
 pub struct Without(pub u32);

@@ -1,7 +1,9 @@
 //! What happens where a reader has no end, and where a writer fails midway.
+ghost use Rattle.kq_run.specs.Workers.{IsWorkerCount};
+
 use crate::given::{REPORT, STORED};
 use crate::narrow::{Narrow, taking};
-use kq_run::{Fault, live_report, read_in, write_out};
+use kq_run::{Fault, live_report, read_in, replay_input, write_out};
 use std::io;
 use std::io::{ErrorKind, Read};
 use std::sync::Wait;
@@ -38,6 +40,30 @@ fn a_reader_without_end_is_left(rt: HostRuntime) {
     let mut endless = Endless { reads: 0 };
     assert!(rt; matches!(read_in(rt.alloc(), &mut endless, 100), Err(Fault::Read)));
     assert_eq!(rt; endless.reads, 101);
+}
+
+/// What becomes of a replay of an input without end, of which a hundred bytes may be read: its fault, how many bytes
+/// were read and how many written.
+fn left_endless<R: AllocGlobal + Threads + Wait + Sync>(
+    rt: &R,
+    workers: u32,
+) -> (Result<(), Fault>, u64, usize)
+    requires { IsWorkerCount workers }
+{
+    let mut endless = Endless { reads: 0 };
+    let mut report = Vec::new(rt.alloc());
+    let ended = replay_input(rt, &mut endless, 100, workers, &mut report);
+    (ended, endless.reads, report.len())
+}
+
+#[test]
+fn an_input_without_end_is_left(rt: HostRuntime) {
+    for workers in [1, 2, 256] {
+        assert!(rt;
+            left_endless(&rt, workers) == (Err(Fault::Read), 101, 0),
+            "by {workers}"
+        );
+    }
 }
 
 /// Whether a write failed, and before that so many bytes of the report were taken.

@@ -1,5 +1,5 @@
 //! Calls of one thread by two seats.
-ghost use Rattle.std.specs.Prelude.{◌≡◌, IfOk, IfSome};
+ghost use Rattle.std.specs.Prelude.{◌≡◌, ◌-◌, ◌^◌, ◌≤◌, IfOk, IfSome};
 ghost use Rattle.kq_lock.specs.Seats.{EachSeat, IsFresh};
 
 use kq_live::{Book, Live, LiveError, LiveReceipt, LiveSeat};
@@ -31,8 +31,18 @@ fn both_seats(live: &Live, seats: &mut Vec<LiveSeat>) -> Result<(LiveSeat, LiveS
     Ok((one, two))
 }
 
+// A live system with one seat, for so many calls at most.
+pub fn with_one_seat(alloc: Global, last: u64) -> Result<(Live, LiveSeat), Fail>
+    requires { last ≤ 2 ^ 31 - 1 }
+    ensures { IfOk result (λ made. made.1.lock ≡ made.0.lock) }
+{
+    let (live, mut seats) = Live::with_last(alloc, 1, 1, last)?;
+    let seat = next_seat(&live, &mut seats).ok_or("a seat")?;
+    Ok((live, seat))
+}
+
 // A live system with two seats.
-pub fn with_two_seats(alloc: Global) -> Result<(Live, LiveSeat, LiveSeat), Fail>
+fn with_two_seats(alloc: Global) -> Result<(Live, LiveSeat, LiveSeat), Fail>
     ensures one { IfOk result (λ made. made.1.lock ≡ made.0.lock) }
     ensures two { IfOk result (λ made. made.2.lock ≡ made.0.lock) }
 {
@@ -186,5 +196,29 @@ fn seats_share_one_system(rt: HostRuntime) -> Result<(), Fail> {
     let (live, mut one, mut two) = with_two_seats(rt.alloc())?;
     assert_shared(&rt, rt.alloc(), &live, &mut one, &mut two);
     assert!(rt; closes(live, one)?);
+    Ok(())
+}
+
+// Two calls are answered, and the third is refused.
+fn assert_worn_out<R: Abort + Wait>(rt: &R, alloc: Global, live: &Live, seat: &mut LiveSeat)
+    requires { seat.old.lock ≡ live.now.lock }
+    ensures { seat.new.lock ≡ live.now.lock }
+{
+    let calls = [
+        (1, Ok((1, 0, None))),
+        (2, Ok((2, 1, None))),
+        (3, Err(LiveError::WornOut)),
+    ];
+    for (place, expected) in calls {
+        assert!(rt; called(rt, alloc, live, seat, place) == expected);
+    }
+}
+
+#[test]
+fn a_system_for_two_calls_is_worn_out(rt: HostRuntime) -> Result<(), Fail> {
+    let (live, mut seat) = with_one_seat(rt.alloc(), 2)?;
+    assert_worn_out(&rt, rt.alloc(), &live, &mut seat);
+    let book = live.close(seat)?;
+    assert_eq!(rt; book.len(), 2);
     Ok(())
 }

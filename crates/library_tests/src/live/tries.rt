@@ -1,8 +1,8 @@
-//! Single tries of two threads.
-ghost use Rattle.std.specs.Prelude.{◌≡◌};
+//! Single tries of eight threads.
+ghost use Rattle.std.specs.Prelude.{◌≡◌, ◌≤◌};
 
-use super::calls::with_two_seats;
-use kq_live::{Live, LiveError, LiveSeat};
+use super::calls::with_one_seat;
+use kq_live::{Live, LiveError, LiveSeat, MOST_CALLS};
 use kq_model::Event;
 use std::sync::Wait;
 use std::test::Fail;
@@ -22,22 +22,30 @@ fn hundred(live: &Live, mut seat: LiveSeat) -> (u64, LiveSeat)
     (calls, seat)
 }
 
-// The seat is cut in two, and each part makes a hundred tries in a thread of its own.
-fn by_two<R: Threads + Wait + Sync>(rt: &R, live: &Live, mut seat: LiveSeat) -> (u64, LiveSeat)
+// The seat is halved so often, and each part makes a hundred tries in a thread of its own. At the end it is one seat.
+fn by_parts<R: Threads + Wait + Sync>(
+    rt: &R,
+    live: &Live,
+    mut seat: LiveSeat,
+    halvings: u32,
+) -> (u64, LiveSeat)
     requires { seat.lock ≡ live.now.lock }
     ensures { result.1.lock ≡ live.now.lock }
 {
+    if halvings == 0 {
+        return hundred(live, seat);
+    }
     let part = live.split(&mut seat);
     let ((first, mut seat), (second, part)) = join(
         rt,
         || -> (u64, LiveSeat)
-            requires { seat.lock ≡ live.now.lock }
+            requires { (seat.lock ≡ live.now.lock) × (1 ≤ halvings) }
             ensures { result.1.lock ≡ live.entry.now.lock }
-        { hundred(live, seat) },
+        { by_parts(rt, live, seat, halvings - 1) },
         || -> (u64, LiveSeat)
-            requires { part.lock ≡ live.now.lock }
+            requires { (part.lock ≡ live.now.lock) × (1 ≤ halvings) }
             ensures { result.1.lock ≡ live.entry.now.lock }
-        { hundred(live, part) },
+        { by_parts(rt, live, part, halvings - 1) },
     );
     live.join(&mut seat, part);
     (first.saturating_add(second), seat)
@@ -53,9 +61,9 @@ fn closed(live: Live, seat: LiveSeat) -> Result<(u64, u64), LiveError>
 }
 
 #[test]
-fn a_seat_in_two_parts_tries(rt: HostRuntime) -> Result<(), Fail> {
-    let (live, seat, _) = with_two_seats(rt.alloc())?;
-    let (calls, seat) = by_two(&rt, &live, seat);
+fn a_seat_in_eight_parts_tries(rt: HostRuntime) -> Result<(), Fail> {
+    let (live, seat) = with_one_seat(rt.alloc(), MOST_CALLS)?;
+    let (calls, seat) = by_parts(&rt, &live, seat, 3);
     assert_eq!(rt; closed(live, seat)?, (calls, calls));
     // The first of them to take a ticket had nobody before it.
     assert!(rt; calls > 0);

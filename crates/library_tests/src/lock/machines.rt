@@ -1,5 +1,5 @@
 //! Machines under the lock.
-ghost use Rattle.std.specs.Prelude.{◌≡◌};
+ghost use Rattle.std.specs.Prelude.{◌≡◌, ◌+◌, ◌%◌, ◌^◌};
 
 use kq_lock::Machine;
 use kq_model::Memory;
@@ -21,6 +21,25 @@ pub fn await_word(word: &AtomicU64, wanted: u64) -> bool {
         yield_now();
     }
     false
+}
+
+/// Adds each step to a total, which it answers.
+#[derive(Drop)]
+pub struct Sum {
+    pub total: u64,
+}
+
+impl Machine for Sum {
+    type Step = u64;
+
+    type Answer = u64;
+
+    ghost leads = { λ v e a w. (w.total ≡ (v.total + e) % 2 ^ 64) × (a ≡ w.total) };
+
+    fn apply(&mut self, step: &u64) -> Result<(u64, u64), Memory> {
+        self.total = self.total.wrapping_add(*step);
+        Ok((self.total, self.total))
+    }
 }
 
 /// Answers `Memory` to its first step, and afterwards each step itself.
@@ -92,5 +111,31 @@ impl Machine for Lingering {
             }
         }
         Ok((1, 1))
+    }
+}
+
+/// Waits in its first step until the word is `callers`, and then lingers. It answers how many steps it took.
+#[derive(Drop)]
+pub struct Gathering {
+    pub word: Arc<AtomicU64, Global>,
+    pub callers: u64,
+    pub steps: u64,
+}
+
+impl Machine for Gathering {
+    type Step = ();
+
+    type Answer = u64;
+
+    ghost leads = { λ _ _ _ _. Unit {0} };
+
+    fn apply(&mut self, _step: &()) -> Result<(u64, u64), Memory> {
+        if self.steps == 0 && await_word(&self.word, self.callers) {
+            for _ in 0..LINGER {
+                yield_now();
+            }
+        }
+        self.steps = self.steps.wrapping_add(1);
+        Ok((self.steps, self.steps))
     }
 }
