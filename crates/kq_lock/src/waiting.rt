@@ -1,6 +1,6 @@
-//! How tickets wait until their turn comes. Those whose turn is near spin, and the others sleep. No proof sees a
-//! sleep or a wake. No wake is lost all the same: who waits announces it and then loads SERVING, and who passes the
-//! turn on stores SERVING and then wakes the ticket that has it.
+//! How tickets wait until their turn comes. Those whose turn is near spin, and the others sleep. Of sleeps and wakes
+//! proofs see one thing: who wakes has passed its turn on. No wake is lost: who waits announces it and then loads
+//! SERVING, and who passes the turn on stores SERVING and then wakes the ticket that has it.
 ghost use Rattle.std.specs.Prelude.{◌≡◌};
 ghost use Rattle.kq_lock.specs.declared.view.Stage.TheVariants.{Idle};
 

@@ -1,5 +1,5 @@
 //! Single tries of eight threads.
-ghost use Rattle.std.specs.Prelude.{◌≡◌, ◌≤◌};
+ghost use Rattle.std.specs.Prelude.{◌≡◌};
 
 use super::calls::with_one_seat;
 use kq_live::{Live, LiveError, LiveSeat, MOST_CALLS};
@@ -22,30 +22,31 @@ fn hundred(live: &Live, mut seat: LiveSeat) -> (u64, LiveSeat)
     (calls, seat)
 }
 
-// The seat is halved so often, and each part makes a hundred tries in a thread of its own. At the end it is one seat.
-fn by_parts<R: Threads + Wait + Sync>(
+// The seat in so many parts, each of which makes a hundred tries in a thread of its own. At the end it is one seat.
+fn by_parts<R: Threads + Wait>(
     rt: &R,
     live: &Live,
     mut seat: LiveSeat,
-    halvings: u32,
+    parts: u32,
 ) -> (u64, LiveSeat)
     requires { seat.lock ≡ live.now.lock }
     ensures { result.1.lock ≡ live.now.lock }
 {
-    if halvings == 0 {
+    if parts < 2 {
         return hundred(live, seat);
     }
     let part = live.split(&mut seat);
-    let ((first, mut seat), (second, part)) = join(
+    let others = parts - 1;
+    let ((first, part), (second, mut seat)) = join(
         rt,
         || -> (u64, LiveSeat)
-            requires { (seat.lock ≡ live.now.lock) × (1 ≤ halvings) }
+            requires { part.lock ≡ live.now.lock }
             ensures { result.1.lock ≡ live.entry.now.lock }
-        { by_parts(rt, live, seat, halvings - 1) },
+        { hundred(live, part) },
         || -> (u64, LiveSeat)
-            requires { (part.lock ≡ live.now.lock) × (1 ≤ halvings) }
+            requires { seat.lock ≡ live.now.lock }
             ensures { result.1.lock ≡ live.entry.now.lock }
-        { by_parts(rt, live, part, halvings - 1) },
+        { by_parts(rt, live, seat, others) },
     );
     live.join(&mut seat, part);
     (first.saturating_add(second), seat)
@@ -63,7 +64,7 @@ fn closed(live: Live, seat: LiveSeat) -> Result<(u64, u64), LiveError>
 #[test]
 fn a_seat_in_eight_parts_tries(rt: HostRuntime) -> Result<(), Fail> {
     let (live, seat) = with_one_seat(rt.alloc(), MOST_CALLS)?;
-    let (calls, seat) = by_parts(&rt, &live, seat, 3);
+    let (calls, seat) = by_parts(&rt, &live, seat, 8);
     assert_eq!(rt; closed(live, seat)?, (calls, calls));
     // The first of them to take a ticket had nobody before it.
     assert!(rt; calls > 0);

@@ -1,6 +1,7 @@
 //! More calls that wait than the lock has slots for them to sleep in: each slot has two tickets, and a wake of one of
 //! them wakes both.
 ghost use Rattle.std.specs.Prelude.{◌≡◌};
+ghost use denote.Param.Send.{IsSync};
 
 use super::machines::Gathering;
 use super::with_one_seat;
@@ -11,9 +12,7 @@ use std::sync::{Arc, Wait};
 use std::test::Fail;
 use std::thread::{Threads, join};
 
-/// How often the seat is halved: there are 128 callers, and 64 slots.
-const HALVINGS: u32 = 7;
-
+/// How many callers there are; there are 64 slots.
 const CALLERS: u64 = 128;
 
 // Counts itself among the callers, and makes one call: its answer, 0 where it was refused.
@@ -32,30 +31,30 @@ fn called<R: Wait>(
     }
 }
 
-// The seat is halved so often, and each part makes a call in a thread of its own: the sum of their answers.
-fn by_parts<R: Threads + Wait + Sync>(
+// So many callers, each in a thread of its own and with a part of the seat: the sum of their answers.
+fn by_callers<R: Threads + Wait + Sync>(
     rt: &R,
     lock: &TurnLock<Gathering>,
     word: &AtomicU64,
     mut seat: TurnSeat<Gathering>,
-    halvings: u32,
+    callers: u64,
 ) -> u64
     requires { seat.lock ≡ lock.now }
 {
-    if halvings == 0 {
+    if callers < 2 {
         return called(rt, lock, word, seat);
     }
     let part = lock.split(&mut seat);
-    let (first, second) = join(
+    let others = callers - 1;
+    let (answer, answers) = join(
         rt,
+        || called(rt, lock, word, part),
         || -> u64
-            requires { (seat.lock ≡ lock.now) × (1 ≤ halvings) }
-        { by_parts(rt, lock, word, seat, halvings - 1) },
-        || -> u64
-            requires { (part.lock ≡ lock.now) × (1 ≤ halvings) }
-        { by_parts(rt, lock, word, part, halvings - 1) },
+            requires lock { seat.lock ≡ lock.now }
+            requires sync { IsSync R.row }
+        { by_callers(rt, lock, word, seat, others) },
     );
-    first.wrapping_add(second)
+    answers.wrapping_add(answer)
 }
 
 // Each call is answered how many there were, itself included.
@@ -68,7 +67,7 @@ fn calls_that_share_a_slot_get_their_turns(rt: HostRuntime) -> Result<(), Fail> 
         steps: 0,
     };
     let (lock, seat) = with_one_seat(rt.alloc(), machine, CALLERS)?;
-    let answers = by_parts(&rt, &lock, &word, seat, HALVINGS);
+    let answers = by_callers(&rt, &lock, &word, seat, CALLERS);
     assert_eq!(rt; answers, CALLERS * (CALLERS + 1) / 2);
     Ok(())
 }
