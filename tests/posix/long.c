@@ -1,5 +1,6 @@
-/* long ROUNDS: numbers, timers and kqueues come and go, and the memory of the process does not grow with the rounds, but
- * for some megabytes of tables that grow at first. */
+/* long ROUNDS [flat]: numbers, timers and kqueues come and go. With `flat` as many rounds again, after which the process
+ * has at most a tenth more memory than before them: what was lost in each round would have doubled. The system has lists
+ * of its first 2^20 records, some megabytes in all, so the first rounds have to make as many. */
 #define _GNU_SOURCE
 #include "check.h"
 
@@ -37,15 +38,16 @@ static void turn(int kq, int round) {
 }
 
 int main(int argc, char **argv) {
-    int rounds = argc > 1 ? atoi(argv[1]) : 10000, kq = kqueue();
-    for (int round = 0; round < rounds / 10; round++)
+    int rounds = argc > 1 ? atoi(argv[1]) : 100000, kq = kqueue();
+    long start = resident(), once, twice;
+    for (int round = 0; round < rounds; round++)
         turn(kq, round);
-    long before = resident();
-    for (int round = rounds / 10; round < rounds; round++)
-        turn(kq, round);
-    long more = resident() - before;
-    WANT(more < 16384);
-    if (more >= 16384)
-        printf("long: %ld kB more\n", more);
+    once = resident() - start;
+    for (int round = 0; argc > 2 && round < rounds; round++)
+        turn(kq, rounds + round);
+    twice = resident() - start;
+    if (argc > 2)
+        printf("long: %ld kB more after %d rounds, %ld kB after twice as many\n", once, rounds, twice);
+    WANT(twice <= once + once / 10);
     return check_end("long");
 }

@@ -353,7 +353,8 @@ static void storms_of_signals(void) {
     signal(SIGUSR1, on_storm);
     is_interrupted = false;
     WANT(pthread_create(&thread, NULL, storm, &self) == 0);
-    for (int i = 0; i < 300 || (storms < 100 && i < 100000); i++) {
+    int64_t start = milliseconds_now();
+    for (int i = 0; i < 300 || (storms < 100 && milliseconds_now() - start < SOON); i++) {
         char one;
         int count = write(ends[1], "x", 1) == 1 ? take(kq, 0) : 0;
         WANT(count == 1 && got[0].data == 1 && read(ends[0], &one, 1) == 1);
