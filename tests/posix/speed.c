@@ -1,5 +1,5 @@
 /* speed [COUNT]: how often a second a pipe is written, waited for and read, beside so many idle ones, by kevent and by
- * epoll. It prints; it tests nothing. */
+ * epoll: the best of some turns. It prints; it tests nothing. */
 #define _GNU_SOURCE
 #include <sys/event.h>
 
@@ -11,7 +11,7 @@
 #include <unistd.h>
 
 static const int idle_counts[] = {0, 100, 1000, 5000};
-enum { STEPS = sizeof idle_counts / sizeof *idle_counts };
+enum { STEPS = sizeof idle_counts / sizeof *idle_counts, TURNS = 100 };
 static int busy[2], kq, epoll;
 
 static double now(void) {
@@ -47,8 +47,13 @@ static double rate(int (*wait)(void), int count) {
     return count / (now() - from);
 }
 
+static void better(double *best, double it) {
+    if (it > *best)
+        *best = it;
+}
+
 int main(int argc, char **argv) {
-    int count = argc > 1 ? atoi(argv[1]) : 200000, made = 0, ends[2];
+    int count = argc > 1 ? atoi(argv[1]) : 2000, made = 0, ends[2];
     struct rlimit most = {20000, 20000};
     if (setrlimit(RLIMIT_NOFILE, &most) != 0 || pipe(busy) != 0)
         return 1;
@@ -61,7 +66,11 @@ int main(int argc, char **argv) {
                 return 1;
             watch(ends[0]);
         }
-        double kevents = rate(by_kevent, count), epolls = rate(by_epoll, count);
+        double kevents = 0, epolls = 0;
+        for (int turn = 0; turn < TURNS; turn++) {
+            better(&kevents, rate(by_kevent, count));
+            better(&epolls, rate(by_epoll, count));
+        }
         printf("%5d idle: kevent %.0f a second, epoll %.0f, %.2f of it\n", made, kevents, epolls, kevents / epolls);
     }
     return 0;
