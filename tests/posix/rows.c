@@ -16,6 +16,7 @@
 #include <sys/pidfd.h>
 #include <sys/socket.h>
 #include <sys/stat.h>
+#include <sys/syscall.h>
 #include <sys/wait.h>
 #include <unistd.h>
 
@@ -551,6 +552,23 @@ static void numbers(void) {
     close(ends[1]);
 }
 
+/* A number that was closed, and nobody said so, names another thing: its next change finds that. */
+static void numbers_unseen(void) {
+    int ends[2], others[2];
+    char one;
+    WANT(pipe(ends) == 0 && change(kq, ends[0], EVFILT_READ, EV_ADD, 0, 0) == 0);
+    WANT(write(ends[1], "xy", 2) == 2 && take(kq, SOON) == 1 && got[0].data == 2);
+    WANT(syscall(SYS_close_range, ends[0], ends[0], 0) == 0 && pipe(others) == 0 && others[0] == ends[0]);
+    WANT(change(kq, others[0], EVFILT_READ, EV_ADD, 0, 0) == 0 && take(kq, 0) == 0);
+    for (int turn = 0; turn < 2; turn++) {
+        WANT(write(others[1], "x", 1) == 1 && take(kq, SOON) == 1 && got[0].data == 1);
+        WANT(read(others[0], &one, 1) == 1 && take(kq, 0) == 0);
+    }
+    close(ends[1]);
+    close(others[0]);
+    close(others[1]);
+}
+
 int main(void) {
     kq = kqueue();
     WANT(kq >= 0);
@@ -561,7 +579,7 @@ int main(void) {
     if (has_processes())
         processes(), pids_again();
     files(), files_of_two(), directories();
-    errors(), receipts(), many_changes(), pollable(), numbers();
+    errors(), receipts(), many_changes(), pollable(), numbers(), numbers_unseen();
     WANT(close(kq) == 0 && take(kq, 0) == -1 && errno == EBADF);
     return check_end("rows");
 }

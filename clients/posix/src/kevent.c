@@ -55,6 +55,9 @@ static int expect_descriptor(struct kqueue *kqueue, const struct kevent *change,
     if (change->ident > INT_MAX || change->ident == (uintptr_t)kqueue->fd || is_kqueue((int)change->ident))
         return 0; /* (the system refuses it) */
     struct thing *thing = thing_met((int)change->ident);
+    /* (behind that, which takes the filters of another thing away) */
+    if (!shadow_expect(&kqueue->shadow, change))
+        return ENOMEM;
     if (thing == NULL || !(change->flags & (EV_ADD | EV_ENABLE)) || change->flags & EV_DELETE)
         return 0;
     int error = change->flags & EV_ADD ? watch_thing(kqueue, thing, bit) : 0;
@@ -93,10 +96,10 @@ static int expect_signal(struct kqueue *kqueue, const struct kevent *change) {
 
 static int expect(struct kqueue *kqueue, struct kevent *change) {
     unsigned char bit = filter_bit(change->filter);
-    if (!shadow_expect(&kqueue->shadow, change))
-        return ENOMEM;
     if (bit != 0)
         return expect_descriptor(kqueue, change, bit);
+    if (!shadow_expect(&kqueue->shadow, change))
+        return ENOMEM;
     if (change->filter == EVFILT_PROC)
         return expect_process(kqueue, change);
     if (change->filter == EVFILT_SIGNAL)
