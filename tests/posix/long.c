@@ -39,15 +39,16 @@ static void turn(int kq, int round) {
 
 int main(int argc, char **argv) {
     int rounds = argc > 1 ? atoi(argv[1]) : 100000, kq = kqueue();
-    long start = resident(), once, twice;
+    long start = resident();
     for (int round = 0; round < rounds; round++)
         turn(kq, round);
-    once = resident() - start;
-    for (int round = 0; argc > 2 && round < rounds; round++)
-        turn(kq, rounds + round);
-    twice = resident() - start;
-    if (argc > 2)
+    if (argc > 2) {
+        long once = resident() - start;
+        for (int round = 0; round < rounds; round++)
+            turn(kq, rounds + round);
+        long twice = resident() - start;
         printf("long: %ld kB more after %d rounds, %ld kB after twice as many\n", once, rounds, twice);
-    WANT(twice <= once + once / 10);
+        WANT(twice <= once + once / 10);
+    }
     return check_end("long");
 }
