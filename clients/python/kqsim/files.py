@@ -3,7 +3,7 @@ from __future__ import annotations
 
 import os
 import stat
-from typing import Container
+from typing import Container, Tuple
 
 from .sim import Sim
 from .things import MOST_SIZE, Thing
@@ -89,7 +89,7 @@ def path_of(fd: int) -> str:
         return ""
 
 
-def owner_of(status: os.stat_result) -> tuple:
+def owner_of(status: os.stat_result) -> Tuple[int, int, int]:
     return status.st_mode, status.st_uid, status.st_gid
 
 

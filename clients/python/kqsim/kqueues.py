@@ -2,6 +2,7 @@
 from __future__ import annotations
 
 import contextlib
+import importlib
 import os
 import select
 import sys
@@ -48,19 +49,29 @@ class kevent:
         return f"<select.kevent {' '.join(members)}>"
 
     def __eq__(self, other: object) -> bool:
-        return self._key() == other._key() if isinstance(other, kevent) else NotImplemented
+        if not isinstance(other, kevent):
+            return NotImplemented
+        return self._key() == other._key()
 
     def __lt__(self, other: object) -> bool:
-        return self._key() < other._key() if isinstance(other, kevent) else NotImplemented
+        if not isinstance(other, kevent):
+            return NotImplemented
+        return self._key() < other._key()
 
     def __le__(self, other: object) -> bool:
-        return self._key() <= other._key() if isinstance(other, kevent) else NotImplemented
+        if not isinstance(other, kevent):
+            return NotImplemented
+        return self._key() <= other._key()
 
     def __gt__(self, other: object) -> bool:
-        return self._key() > other._key() if isinstance(other, kevent) else NotImplemented
+        if not isinstance(other, kevent):
+            return NotImplemented
+        return self._key() > other._key()
 
     def __ge__(self, other: object) -> bool:
-        return self._key() >= other._key() if isinstance(other, kevent) else NotImplemented
+        if not isinstance(other, kevent):
+            return NotImplemented
+        return self._key() >= other._key()
 
     __hash__ = None  # type: ignore[assignment]
 
@@ -150,11 +161,10 @@ class kqueue:
 
 def install() -> ModuleType:
     """Gives the module select a kqueue, and returns selectors, loaded anew, whose default is then KqueueSelector."""
-    select.kqueue, select.kevent = kqueue, kevent
-    for name, value in CONSTANTS.items():
+    names: Dict[str, Any] = {"kqueue": kqueue, "kevent": kevent, **CONSTANTS}
+    for name, value in names.items():
         setattr(select, name, value)
     sys.modules.pop("selectors", None)
-    import selectors
-
-    selectors.DefaultSelector = selectors.KqueueSelector
+    selectors = importlib.import_module("selectors")
+    setattr(selectors, "DefaultSelector", selectors.KqueueSelector)
     return selectors

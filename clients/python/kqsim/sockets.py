@@ -57,7 +57,8 @@ def connections(fd: int, found: int) -> int:
     with borrowed(fd) as it:
         if it.family in (socket.AF_INET, socket.AF_INET6):
             with contextlib.suppress(OSError):
-                return UNACKED.unpack(it.getsockopt(socket.IPPROTO_TCP, socket.TCP_INFO, UNACKED.size))[0]
+                info = it.getsockopt(socket.IPPROTO_TCP, socket.TCP_INFO, UNACKED.size)
+                return int(UNACKED.unpack(info)[0])
     return 1 if found & select.POLLIN else 0
 
 
