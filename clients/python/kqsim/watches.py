@@ -96,11 +96,12 @@ class Watches:
         except (OSError, OverflowError):
             del self.filters[fd]
 
-    def watch_process(self, pidfd: Optional[int]) -> None:
-        """Wakes those who wait once the process has exited."""
-        if pidfd is not None:
+    def watch_other(self, fd: Optional[int]) -> None:
+        """Wakes those who wait at an edge of what is no descriptor of the program: a process has exited, or a signal
+        was delivered."""
+        if fd is not None:
             with contextlib.suppress(FileExistsError):
-                self.reads.register(pidfd, select.EPOLLIN | select.EPOLLET)
+                self.reads.register(fd, select.EPOLLIN | select.EPOLLET)
 
     def _unwatch(self, fd: int, name: str) -> None:
         filters = self.filters.get(fd)

@@ -12,6 +12,7 @@ from typing import Any, Dict, List, Mapping, Optional, Sequence
 from .files import OTHERS, File
 from .pipes import Reader, Writer, is_reader
 from .processes import Processes
+from .signals import Signals
 from .sim import Ended, Sim
 from .sockets import Other, Socket
 from .things import Thing
@@ -42,6 +43,7 @@ class World:
         self.sim = CountingSim(log)
         self.sim.proc(self.pid)
         self._processes = Processes(self.sim, self.pid)
+        self._signals = Signals(self.sim, self.pid)
         self._start = time.monotonic_ns()
         self._things: Dict[int, Thing] = {}
         self._kqueues: Dict[int, Watches] = {}
@@ -115,6 +117,7 @@ class World:
                 waiter.bell.hush()
                 if self._watches(number) is not watches:
                     raise closed_error()
+                self._sample_signals()
                 self._sample_all(watches, number)
                 due = watches.timers.next(waiter.asked)
                 if self.sim.told == waiter.told and (due is None or due > self._now()):
@@ -168,6 +171,7 @@ class World:
 
     def _sample_before(self, watches: Watches, number: int, changes: Sequence[Record], room: int) -> None:
         """Samples what the changes are about, and where there is room all that the kqueue watches."""
+        self._sample_signals()
         touched = sorted({it["ident"] for it in changes if it["filter"] in OF_DESCRIPTORS})
         for fd in touched:
             self._meet(fd)
@@ -182,12 +186,21 @@ class World:
         # Behind the samples, so that one that has exited, and was not waited for, is added, and then its exit told.
         for change in changes:
             if change["filter"] == "PROC" and "ADD" in change["flags"]:
-                watches.watch_process(self._processes.meet(change["ident"]))
+                watches.watch_other(self._processes.meet(change["ident"]))
+            if change["filter"] == "SIGNAL" and "ADD" in change["flags"]:
+                watches.watch_other(self._signals.meet(change["ident"]))
+
+    def _sample_signals(self) -> None:
+        if self._signals.sample():
+            self._wake_all()
+
+    def _wake_all(self) -> None:
+        for each in self._kqueues.values():
+            each.wake()
 
     def _sample_all(self, watches: Watches, number: int) -> None:
         if self._processes.sample():
-            for each in self._kqueues.values():
-                each.wake()
+            self._wake_all()
         watches.drain()
         for fd in sorted(watches.filters):
             self._sample(watches, number, fd)
@@ -252,6 +265,7 @@ class World:
     def leave(self) -> None:
         """In a child of fork: closes what belongs to the parent's kqueues."""
         self._processes.leave()
+        self._signals.leave()
         for watches in self._kqueues.values():
             watches.close_in_child()
 
