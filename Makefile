@@ -3,8 +3,8 @@
 # make run       the report of an example, within two minutes on a fresh machine
 # make test      proves and tests everything; the last line is 'N passed, M failed'
 # make bench     measures the program beside one that only reads
-# make install   puts the programs into PREFIX/bin, their manual pages into PREFIX/share/man, libkqsim.a into PREFIX/lib
-#                and kqsim.h into PREFIX/include
+# make install   puts the programs and kqview into PREFIX/bin, their manual pages into PREFIX/share/man, libkqsim.a into
+#                PREFIX/lib and kqsim.h into PREFIX/include
 #
 # Needed: the kit's `rt`, bash, make, cc and python3.
 
@@ -21,7 +21,7 @@ PREFIX ?= /usr/local
 # proved takes up to 3 GB.
 JOBS ?= $(shell echo $$((2 * $$(nproc))))
 
-.PHONY: all libkqsim libkqsim-joined run test bench install install-man
+.PHONY: all libkqsim libkqsim-joined run test bench install install-view install-man
 
 # (rt all check proves what has changed of the libraries, side by side where they do not stand on each other; rt run
 # proves and builds a program over that, by as many jobs as there is room for, and runs it, so it is given its stored
@@ -62,15 +62,24 @@ bench: all
 	bench/live $(KQSIM)
 	bench/workers $(KQSIM) $(REPLAY_BENCH)
 
-install: all install-man
+install: all install-view install-man
 	install -D -m 755 $(KQSIM) $(DESTDIR)$(PREFIX)/bin/kqsim
 	install -D -m 755 $(KQSTEP) $(DESTDIR)$(PREFIX)/bin/kqstep
 	install -D -m 755 $(KQCHECK) $(DESTDIR)$(PREFIX)/bin/kqcheck
 	install -D -m 644 $(LIBKQSIM) $(DESTDIR)$(PREFIX)/lib/libkqsim.a
 	install -D -m 644 include/kqsim.h $(DESTDIR)$(PREFIX)/include/kqsim.h
 
+# (kqview is Python: its package in an archive, which is one file that runs)
+install-view:
+	install -d $(DESTDIR)$(PREFIX)/bin
+	room=$$(mktemp -d) && cp -R clients/python/kqsim "$$room" && rm -rf "$$room"/kqsim/__pycache__ "$$room"/kqsim/*/__pycache__ && \
+	  python3 -m zipapp "$$room" -m kqsim.view.command:run -p "/usr/bin/env python3" \
+	  -o $(DESTDIR)$(PREFIX)/bin/kqview && rm -rf "$$room"
+	chmod 755 $(DESTDIR)$(PREFIX)/bin/kqview
+
 install-man:
 	install -D -m 644 man/kqsim.1 $(DESTDIR)$(PREFIX)/share/man/man1/kqsim.1
 	install -D -m 644 man/kqstep.1 $(DESTDIR)$(PREFIX)/share/man/man1/kqstep.1
 	install -D -m 644 man/kqcheck.1 $(DESTDIR)$(PREFIX)/share/man/man1/kqcheck.1
+	install -D -m 644 man/kqview.1 $(DESTDIR)$(PREFIX)/share/man/man1/kqview.1
 	install -D -m 644 man/kqsim.5 $(DESTDIR)$(PREFIX)/share/man/man5/kqsim.5

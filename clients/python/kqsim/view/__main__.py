@@ -1,0 +1,4 @@
+"""python -m kqsim.view"""
+from .command import run
+
+run()
