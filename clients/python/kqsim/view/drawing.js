@@ -169,7 +169,16 @@ function draw(left, top, width, height) {
   });
   plot.setAttribute("width", width);
   plot.setAttribute("height", height);
+  plot.setAttribute("viewBox", `0 0 ${width} ${height}`);
   plot.innerHTML = out + drawnHead(left, from, to, width) + drawnLabels(shown, height);
+}
+
+// What fits on a sheet of paper, round the present place.
+function drawForPrint() {
+  const columns = 25, most = 60;
+  const begin = Math.max(first, Math.min(here - 12, last - columns + 1));
+  const count = rowsBetween(begin, Math.min(last, begin + columns - 1)).length;
+  draw((begin - first) * COLUMN, 0, LABEL + columns * COLUMN, HEAD + Math.min(count, most) * ROW + 4);
 }
 
 let isDrawing = false;

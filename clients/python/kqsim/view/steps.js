@@ -52,7 +52,7 @@ function begin() {
   scroller.addEventListener("scroll", redraw);
   window.addEventListener("resize", redraw);
   window.addEventListener("hashchange", () => go(Number(location.hash.slice(1))));
-  window.addEventListener("beforeprint", () => draw(Math.max(0, (here - first - 12) * COLUMN), 0, 1040, 1400));
+  window.addEventListener("beforeprint", drawForPrint);
   window.addEventListener("afterprint", redraw);
   plot.addEventListener("click", (event) => {
     const at = event.clientX - plot.getBoundingClientRect().left;
