@@ -3,8 +3,8 @@
 # make run       the report of an example, within two minutes on a fresh machine
 # make test      proves and tests everything; the last line is 'N passed, M failed'
 # make bench     measures the program beside one that only reads
-# make install   puts the programs and kqview into PREFIX/bin, their manual pages into PREFIX/share/man, libkqsim.a into
-#                PREFIX/lib and kqsim.h into PREFIX/include
+# make install   puts the programs, kqview and kqshrink into PREFIX/bin, their manual pages into PREFIX/share/man,
+#                libkqsim.a into PREFIX/lib and kqsim.h into PREFIX/include
 #
 # Needed: the kit's `rt`, bash, make, cc and python3.
 
@@ -69,17 +69,19 @@ install: all install-view install-man
 	install -D -m 644 $(LIBKQSIM) $(DESTDIR)$(PREFIX)/lib/libkqsim.a
 	install -D -m 644 include/kqsim.h $(DESTDIR)$(PREFIX)/include/kqsim.h
 
-# (kqview is Python: its package in an archive, which is one file that runs)
+# (these are Python: the package in an archive each, which is one file that runs)
 install-view:
 	install -d $(DESTDIR)$(PREFIX)/bin
-	room=$$(mktemp -d) && cp -R clients/python/kqsim "$$room" && rm -rf "$$room"/kqsim/__pycache__ "$$room"/kqsim/*/__pycache__ && \
-	  python3 -m zipapp "$$room" -m kqsim.view.command:run -p "/usr/bin/env python3" \
-	  -o $(DESTDIR)$(PREFIX)/bin/kqview && rm -rf "$$room"
-	chmod 755 $(DESTDIR)$(PREFIX)/bin/kqview
+	room=$$(mktemp -d) && cp -R clients/python/kqsim "$$room" && find "$$room" -name __pycache__ -exec rm -r {} + && \
+	  for name in view shrink; do \
+	    python3 -m zipapp "$$room" -m kqsim.$$name.command:run -p "/usr/bin/env python3" \
+	      -o $(DESTDIR)$(PREFIX)/bin/kq$$name && chmod 755 $(DESTDIR)$(PREFIX)/bin/kq$$name || exit 1; \
+	  done && rm -rf "$$room"
 
 install-man:
 	install -D -m 644 man/kqsim.1 $(DESTDIR)$(PREFIX)/share/man/man1/kqsim.1
 	install -D -m 644 man/kqstep.1 $(DESTDIR)$(PREFIX)/share/man/man1/kqstep.1
 	install -D -m 644 man/kqcheck.1 $(DESTDIR)$(PREFIX)/share/man/man1/kqcheck.1
 	install -D -m 644 man/kqview.1 $(DESTDIR)$(PREFIX)/share/man/man1/kqview.1
+	install -D -m 644 man/kqshrink.1 $(DESTDIR)$(PREFIX)/share/man/man1/kqshrink.1
 	install -D -m 644 man/kqsim.5 $(DESTDIR)$(PREFIX)/share/man/man5/kqsim.5

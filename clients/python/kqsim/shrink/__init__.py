@@ -1,0 +1,1 @@
+"""kqshrink: a small trace with the same fault. See man/kqshrink.1."""

@@ -1,0 +1,4 @@
+"""python -m kqsim.shrink"""
+from .command import run
+
+run()
