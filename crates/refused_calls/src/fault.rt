@@ -1,5 +1,6 @@
 use kq_live::LiveError;
 use kq_model::{LineFault, Memory};
+use kq_run::Fault as ReplayFault;
 use kq_trace::TraceError;
 use std::alloc::AllocError;
 use std::io;
@@ -9,7 +10,7 @@ use thiserror::Error;
 /// Why nothing is printed. Its text is the line on standard error.
 #[derive(Debug, Drop, Clone, Copy, PartialEq, Error)]
 pub enum Fault {
-    #[error("usage: refused_calls apply | seats")]
+    #[error("usage: refused_calls apply | seats | alone N")]
     Usage,
     /// Standard input could not be read, or standard output not be written.
     #[error("cannot read or write")]
@@ -22,13 +23,17 @@ pub enum Fault {
     /// A live system took no further call, or the turn was not free.
     #[error("a call was refused")]
     Refused,
+    /// There is no report, and memory is not why.
+    #[error(transparent)]
+    Replay(ReplayFault),
 }
 
 impl Fault {
-    /// The exit status: that of `kqsim` where a growth was refused.
+    /// The exit status: that of `kqsim` where a growth was refused, and after a replay.
     pub fn status(self) -> u8 {
         match self {
-            Fault::Memory => 5,
+            Fault::Memory => ReplayFault::Memory.status(),
+            Fault::Replay(fault) => fault.status(),
             _ => 1,
         }
     }
@@ -51,6 +56,15 @@ impl From<TraceError> for Fault {
         match error {
             TraceError::Memory => Fault::Memory,
             TraceError::Bad { line, fault } => Fault::Trace { line, fault },
+        }
+    }
+}
+
+impl From<ReplayFault> for Fault {
+    fn from(fault: ReplayFault) -> Fault {
+        match fault {
+            ReplayFault::Memory => Fault::Memory,
+            fault => Fault::Replay(fault),
         }
     }
 }

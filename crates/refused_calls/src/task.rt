@@ -3,14 +3,19 @@
 pub enum Task {
     Apply,
     Seats,
+    Alone { workers: u32 },
 }
 
 impl Task {
-    /// The task of this word.
-    pub fn named(word: &str) -> Option<Task> {
-        match word {
-            "apply" => Some(Task::Apply),
-            "seats" => Some(Task::Seats),
+    /// The task of these words.
+    pub fn named(word: Option<&str>, count: Option<&str>) -> Option<Task> {
+        match (word, count) {
+            (Some("apply"), None) => Some(Task::Apply),
+            (Some("seats"), None) => Some(Task::Seats),
+            (Some("alone"), Some(count)) => {
+                let workers = count.parse().ok()?;
+                Some(Task::Alone { workers })
+            }
             _ => None,
         }
     }
