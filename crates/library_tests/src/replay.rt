@@ -6,7 +6,7 @@ use crate::gates::{Meeting, Without};
 use kq_gate::{Always, Gate, Open, Starts};
 use kq_history::Split;
 use kq_model::{Memory, Reply, Row, Rows, Trace};
-use kq_replay::{Replay, RunFault, replay_all_with};
+use kq_replay::{Replay, RunFault, replay_all, replay_all_with};
 use std::alloc::Global;
 use std::process::Abort;
 use std::sync::Wait;
@@ -83,6 +83,27 @@ fn all_come_by<R: Threads + Wait + Sync, G: Gate + Sync, S: Starts>(
     Ok(are_all(kqueues.as_slice()))
 }
 
+/// Whether all rows come of a call that asks no starts, with this gate.
+fn all_come_in<R: AllocGlobal + Threads + Wait + Sync, G: Gate + Sync>(
+    rt: &R,
+    trace: &Trace,
+    workers: u32,
+    gate: &G,
+) -> Result<bool, RunFault> {
+    let split = Split::of(rt.alloc(), trace)?;
+    all_come_from(rt, &split, workers, gate)
+}
+
+fn all_come_from<R: Threads + Wait + Sync, G: Gate + Sync>(
+    rt: &R,
+    split: &Split,
+    workers: u32,
+    gate: &G,
+) -> Result<bool, RunFault> {
+    let kqueues = replay_all(rt, split, workers, gate)?;
+    Ok(are_all(kqueues.as_slice()))
+}
+
 /// Where the third kqueue was made.
 fn third(rt: &impl Abort, split: &Split) -> u64
     ensures { IsBorn result split.now }
@@ -123,6 +144,15 @@ fn two_workers_are_inside_at_once(rt: HostRuntime) {
     let gate = Meeting::new(2, 2);
     assert!(rt; all_come(&rt, rt.alloc(), 2, &gate, &Always) == Ok(true));
     assert!(rt; gate.was_held());
+}
+
+#[test]
+fn two_workers_are_inside_at_once_where_no_starts_are_asked(rt: HostRuntime) -> Result<(), Fail> {
+    let trace = dup_over(rt.alloc())?;
+    let gate = Meeting::new(2, 2);
+    assert!(rt; all_come_in(&rt, &trace, 2, &gate) == Ok(true));
+    assert!(rt; gate.was_held());
+    Ok(())
 }
 
 #[test]
