@@ -36,7 +36,7 @@ pub enum Source {
 impl What {
     ghost use Rattle.kq_history.specs.Items.{source_of};
 
-    pub fn source(self) -> Source
+    pub(crate) fn source(self) -> Source
         ensures { result ≡ source_of self }
     {
         match self {

@@ -22,6 +22,6 @@ mod touched;
 mod tracking;
 
 pub use at::HistoryAt;
-pub use item::{Item, Source, What};
+pub use item::{Item, What};
 pub use private::Private;
 pub use split::Split;

@@ -33,6 +33,8 @@ impl<'a> Model for Split<'a> {
 }
 
 impl<'a> Split<'a> {
+    ghost use Rattle.std.specs.List.Sorted.{IsStrictlyIncreasing};
+    ghost use Rattle.kq_history.specs.Private.{IsPrivate};
     ghost use Rattle.kq_history.specs.Traced.{places_of, plain_rows_of, seen_at, traced, IsBorn};
 
     /// One pass of the world over the trace. Its cost is that of the trace. Memory: a growth was refused.
@@ -47,16 +49,19 @@ impl<'a> Split<'a> {
 
     /// The places where kqueues were made, rising.
     pub fn kqueues(&self) -> &[u64]
-        ensures { result.now ≡ places_of self.now }
+        ensures places { result.now ≡ places_of self.now }
+        ensures rising { IsStrictlyIncreasing result.now }
     {
         self.said.kqueues.places()
     }
 
-    /// What concerns the kqueue that was made at a place. Its cost is that of the list.
+    /// What concerns the kqueue that was made at a place: its private list. Its cost is that of the list. Memory: a
+    /// growth was refused.
     pub fn private<'s>(&'s self, kqueue: u64) -> Result<Private<'s, 'a>, Memory>
         requires { IsBorn kqueue self.now }
         ensures split { IfOk result (λ p. p.split.now ≡ self.now) }
         ensures kqueue { IfOk result (λ p. p.kqueue ≡ kqueue) }
+        ensures items { IfOk result (λ p. IsPrivate self.now kqueue p.owner p.items.items) }
     {
         let concerned = self.said.kqueues.of(kqueue);
         let items = self
