@@ -3,11 +3,11 @@ use Rattle.std.proofs.Common.{◌≡◌, ℕ, ◌<◌, ◌≤◌, ◌⊎◌, inl
 use Rattle.std.proofs.Common.{◌∷◌, ◌++◌, length, take, slice_set, refl, ap, arith, zero, suc}
 use Rattle.std.proofs.Math.ListN.{get_or}
 use Rattle.kq_freebsd.specs.declared.c_kevent.CKevent.{CKevent}
-use Rattle.kq_freebsd.specs.Kevents.{AreChanges, IsChange, as_c, handed_out}
+use Rattle.kq_freebsd.specs.Kevents.{AreChanges, IsMadeOf, as_c, handed_out}
 use Rattle.kq_model.specs.declared.change.Change.{Change}
 use Rattle.kq_model.specs.declared.kevent.Kevent.{Kevent}
 
-pub are_more : (ks : List CKevent) (cs : List Change) (k : CKevent) (c : Change) → AreChanges ks cs → IsChange k c
+pub are_more : (ks : List CKevent) (cs : List Change) (k : CKevent) (c : Change) → AreChanges ks cs → IsMadeOf k c
     → AreChanges (ks ++ k ∷ []) (cs ++ c ∷ [])
 are_more [] [] k c are is = (is, tt)
 are_more [] (x ∷ cs) k c are is = absurd are

@@ -1,13 +1,12 @@
-ghost use Rattle.std.specs.Prelude.{◌≡◌, ◌≤◌, ◌⊎◌, ◌∷◌, ◌++◌, [], length, take};
-ghost use Rattle.std.specs.Prelude.{Any, Err, IfOk, IfErr, OnErr};
-ghost use Rattle.kq_freebsd.specs.Kevents.{AreChanges, IsChange, IsNoChange, as_c, handed_out};
-ghost use Rattle.kq_freebsd.specs.declared.refusal.Refusal.TheVariants.{Argument, Memory};
-ghost use Rattle.kq_model.specs.declared.change.Change.{Change};
+ghost use Rattle.std.specs.Prelude.{◌≡◌, ◌≤◌, ◌⊎◌, length, take, IfOk, IfSome};
+ghost use Rattle.kq_freebsd.specs.Kevents.{AreChanges, IsChange, IsMadeOf, IsNoChange, IsNoFilter, IsRefusal};
+ghost use Rattle.kq_freebsd.specs.Kevents.{as_c, handed_out};
+ghost use Rattle.kq_freebsd.specs.Numbers.{filter_number};
+ghost use Rattle.kq_model.specs.declared.filter.Filter.TheVariants.{Empty};
 
 use crate::filters::{filter_numbered, number_of_filter};
-use crate::refusal::Refusal;
 use bitflags::Flags;
-use kq_model::{Change, EvFlags, Kevent};
+use kq_model::{Change, EvFlags, Filter, Kevent, Memory};
 use std::alloc::Global;
 
 /// The flags that a change may have: ADD, DELETE, ENABLE, DISABLE, ONESHOT, CLEAR, RECEIPT, DISPATCH, ERROR and EOF.
@@ -27,17 +26,16 @@ pub struct CKevent {
     pub udata: u64,
 }
 
-/// The change that a kevent of C asks for. [`Refusal::Argument`] where its filter or one of its flags is not known.
-fn change_of(kevent: &CKevent) -> Result<Change, Refusal>
-    ensures known { IfOk result (λ change. IsChange kevent.now change) }
-    ensures unknown { OnErr result (IsNoChange kevent.now) }
-    ensures argument { IfErr result (λ e. e ≡ Argument) }
+/// The change that a kevent of C asks for; none where its filter or one of its flags is not known.
+fn change_of(kevent: &CKevent) -> Option<Change>
+    ensures known { IfSome result (λ change. IsChange kevent.now change) }
+    ensures unknown { result ≡ None → IsNoChange kevent.now }
 {
-    let filter = filter_numbered(kevent.filter).ok_or(Refusal::Argument)?;
+    let filter = filter_numbered(kevent.filter)?;
     if kevent.flags & KNOWN != kevent.flags {
-        return Err(Refusal::Argument);
+        return None;
     }
-    Ok(Change {
+    Some(Change {
         ident: kevent.ident,
         filter,
         flags: EvFlags::from_bits_retain(kevent.flags),
@@ -47,26 +45,49 @@ fn change_of(kevent: &CKevent) -> Result<Change, Refusal>
     })
 }
 
-/// One change more at the end of a list. [`Refusal::Memory`] where there is no memory left for it.
-fn push(changes: &mut Vec<Change>, change: Change) -> Result<(), Refusal>
-    ensures pushed { IfOk result (λ _. changes.new.items ≡ changes.old.items ++ change ∷ []) }
-    ensures memory { IfErr result (λ e. e ≡ Memory) }
+/// The filter of this number, or EMPTY where there is none.
+fn filter_or_empty(number: i16) -> Filter
+    ensures { (filter_number result ≡ number) ⊎ (IsNoFilter number × (result ≡ Empty)) }
 {
-    changes.push(change).map_err(|_| Refusal::Memory)
+    match filter_numbered(number) {
+        Some(filter) => filter,
+        None => Filter::Empty,
+    }
 }
 
-/// The changes that kevents of C ask for.
-///
-/// [`Refusal::Argument`] where one of them has a filter or a flag that is not known.
-pub fn changes_of(alloc: Global, kevents: &[CKevent]) -> Result<Vec<Change>, Refusal>
-    ensures changes { IfOk result (λ changes. AreChanges kevents.now changes.items) }
-    ensures argument { result ≡ Err Argument → Any IsNoChange kevents.now }
-    ensures memory { IfErr result (λ e. (e ≡ Argument) ⊎ (e ≡ Memory)) }
+/// A change that is refused with EINVAL, in the place of a kevent whose filter or one of whose flags is not known: it
+/// would enable and disable.
+fn refusal_of(kevent: &CKevent) -> Change
+    ensures { IsRefusal kevent.now result }
+{
+    Change {
+        ident: kevent.ident,
+        filter: filter_or_empty(kevent.filter),
+        flags: EvFlags::from_bits_retain(0x000c),
+        fflags: kevent.fflags,
+        datum: kevent.datum,
+        udata: kevent.udata,
+    }
+}
+
+/// What is changed for a kevent of C.
+fn made_of(kevent: &CKevent) -> Change
+    ensures { IsMadeOf kevent.now result }
+{
+    match change_of(kevent) {
+        Some(change) => change,
+        None => refusal_of(kevent),
+    }
+}
+
+/// The changes that kevents of C ask for; where a filter or a flag is not known, one that is refused with EINVAL.
+pub fn changes_of(alloc: Global, kevents: &[CKevent]) -> Result<Vec<Change>, Memory>
+    ensures { IfOk result (λ changes. AreChanges kevents.now changes.items) }
 {
     let mut changes = Vec::new(alloc);
     for kevent in kevents {
-        let change = change_of(kevent)?;
-        push(&mut changes, change)?;
+        let change = made_of(kevent);
+        changes.push(change)?;
     }
     Ok(changes)
 }

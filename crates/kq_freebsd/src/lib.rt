@@ -10,5 +10,5 @@ mod refusal;
 pub use c_kevent::{CKevent, changes_of, hand_out};
 pub use choices::{mode_numbered, note_numbered, side_numbered};
 pub use filters::{filter_numbered, number_of_filter};
-pub use numbers::{number_of, refusal_number};
+pub use numbers::{number_of, reason_number, refusal_number};
 pub use refusal::Refusal;

@@ -22,7 +22,7 @@ pub fn number_of(answer: &Result<Reply, Refusal>) -> i32
 }
 
 /// The number of a reason why a record is impossible, 101 to 109.
-fn reason_number(why: Why) -> i32
+pub fn reason_number(why: Why) -> i32
     ensures { result ≡ reason_number why }
 {
     match why {

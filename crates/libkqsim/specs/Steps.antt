@@ -1,12 +1,12 @@
 -- What a call of the library does to the system: the clauses of `System::apply`, and the number that C gets.
 use Rattle.std.specs.Prelude.{◌≡◌, ◌≤◌, ◌+◌, ◌-◌, ◌^◌, ℕ, ℤ, List, length, take}
 use Rattle.std.specs.Prelude.{nat_lt, if◌then◌else◌}
-use Rattle.std.specs.Prelude.{Any, Option, Some, None, Result, Err, IfOk, OnErr, OnOk}
+use Rattle.std.specs.Prelude.{Option, Some, None, Result, Err, IfOk, OnErr, OnOk}
 use Rattle.kq_freebsd.specs.declared.c_kevent.CKevent.{CKevent}
 use Rattle.kq_freebsd.specs.declared.refusal.Refusal.{Refusal}
-use Rattle.kq_freebsd.specs.declared.refusal.Refusal.TheVariants.{Argument, Full}
+use Rattle.kq_freebsd.specs.declared.refusal.Refusal.TheVariants.{Argument, Full, Memory}
 use Rattle.kq_freebsd.specs.Answers.{events_of, number_of, refusal_number}
-use Rattle.kq_freebsd.specs.Kevents.{AreChanges, IsNoChange, handed_out}
+use Rattle.kq_freebsd.specs.Kevents.{AreChanges, handed_out}
 use Rattle.kq_model.specs.declared.change.Change.{Change}
 use Rattle.kq_model.specs.declared.event.Event.{Event}
 use Rattle.kq_model.specs.declared.event.Event.TheVariants as event_of
@@ -69,12 +69,9 @@ pub record IsCall (pid fd : ℕ) (changes before after : List CKevent) (old new 
   pub handed : after ≡ handed_out (events_of answer) before
   pub counted : count ≡ length (take (length before) (events_of answer))
 
--- no call was made: the changes were not read, and nothing has changed
-pub record IsNoCall (changes before after : List CKevent) (old new : SystemState) (count : ℕ) (number : ℤ)
-    : Type 0 where
-  pub refusal : Refusal
-  pub argument : refusal ≡ Argument → Any IsNoChange changes
+-- no call was made for want of memory, and nothing has changed
+pub record IsNoCall (before after : List CKevent) (old new : SystemState) (count : ℕ) (number : ℤ) : Type 0 where
   pub unchanged : IsUnchanged old new
-  pub numbered : number ≡ refusal_number refusal
+  pub numbered : number ≡ refusal_number Memory
   pub untouched : after ≡ before
   pub none : count ≡ 0

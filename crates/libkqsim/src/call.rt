@@ -4,7 +4,7 @@ ghost use Rattle.libkqsim.specs.Steps.{IsCall, IsNoCall, room_of};
 
 use crate::handle::Kqsim;
 use kq_freebsd::{CKevent, Refusal, changes_of, hand_out, number_of, refusal_number};
-use kq_model::{Change, Event, Kevent, Reply, Series};
+use kq_model::{Event, Kevent, Memory, Reply, Series};
 use std::alloc::Global;
 
 /// The room of a call for this array: its length, where that fits into 32 bits.
@@ -37,12 +37,12 @@ pub extern "C" fn kqsim_call(
     count: &mut usize,
 ) -> i32
     ensures { IsCall pid fd changes.now events.old events.new sim.old.system sim.new.system count.new result
-        ⊎ IsNoCall changes.now events.old events.new sim.old.system sim.new.system count.new result }
+        ⊎ IsNoCall events.old events.new sim.old.system sim.new.system count.new result }
 {
     *count = 0;
     let changes = match changes_of(alloc, changes) {
         Ok(changes) => Series::from_vec(changes),
-        Err(refusal) => return refusal_number(refusal),
+        Err(Memory) => return refusal_number(Refusal::Memory),
     };
     let room = room_of(events);
     let answer = sim.step(&Event::Kevent {

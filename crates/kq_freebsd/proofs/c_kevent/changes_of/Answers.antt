@@ -13,7 +13,7 @@ loop-kevent-preserved c =
     let i = c.loop-kevent.kevent-index in
     let none : CKevent = record { ident = 0; filter = pos 0; flags = 0; fflags = 0; datum = pos 0; udata = 0 } in
     let k = get_or ks i none in
-    let is = c.in_ok-change.ensures.known in
-    let are = are_more (take i ks) c.loop-kevent.changes.items k c.in_ok-change.change c.loop-kevent.invariant is in
-    subst (λ xs. AreChanges xs c.push.new.changes.items) (sym (take_more ks i none c.loop-kevent-test.true))
-    (subst (λ cs. AreChanges (take i ks ++ k ∷ []) cs) (sym c.in_ok-push.ensures.pushed) are)
+    let is = c.made_of-change.ensures in
+    let are = are_more (take i ks) c.loop-kevent.changes.items k c.made_of-change.result c.loop-kevent.invariant is in
+    subst (λ xs. AreChanges xs c.push.new.self.items) (sym (take_more ks i none c.loop-kevent-test.true))
+    (subst (λ cs. AreChanges (take i ks ++ k ∷ []) cs) (sym c.in_ok-push.ensures.items) are)
