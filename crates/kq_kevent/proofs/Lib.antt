@@ -7,6 +7,8 @@ pub mod ForkRoom
 pub mod TurnLaws
 pub mod CallLaws
 pub mod TakenLaws
+pub mod PendingLaws
+pub mod NextLaws
 pub mod AnswerLaws
 pub mod ArrangeLaws
 pub mod BeginLaws

@@ -7,7 +7,7 @@ use Rattle.kq_model.specs.Kqueue.{HaveOwnKeys}
 use Rattle.kq_model.specs.Tallied.{Knote, Kqueue}
 use Rattle.kq_model.proofs.KnoteMiddle.{apart-middle, found-middle, with-middle}
 use Rattle.kq_knote.proofs.WalkLaws.{after, after-middle}
-use Rattle.kq_kevent.specs.Ringing.{first_of, ticks_of, rung, rung_each, firsts_at, AreOutside}
+use Rattle.kq_kevent.specs.Ringing.{first_of, ticks_of, rung, rung_each, firsts_at, AreOutside, IsReached}
 use Rattle.kq_kevent.specs.Telling.{StandsFor}
 use Rattle.kq_kevent.proofs.RingLaws.{rung-key, rung_times-target, rung_times-idle}
 
@@ -99,6 +99,23 @@ module _ (from low : ℕ) (ks : List Knote) where
         outside = outside-more least closer at.past k (subst (λ n. n ≤ least) (sym closer_is) near.0) at.outside
             (subst (λ n. (first_of from k ≤ low) ⊎ (n ≤ first_of from k)) (sym closer_is) near.1);
       }
+
+  pub look-there : HaveOwnKeys ks → (k : Knote) (left least : ℕ) → IsLooking (Some k) left least → find_knote k.key ks ≡ Some k
+  look-there own k left least at =
+      let split = split_ahead at.ahead k at.next_is in
+      let parts = at.parts ∙ ap (λ more. at.past ++ more) split.is in
+      let middle = apart-middle at.past k split.rest (subst HaveOwnKeys parts own) in
+      ap (find_knote k.key) parts ∙ found-middle at.past k split.rest middle.0
+
+-- a knote expires first at the moment found, as at the one so far
+pub nearer-reached : (from to low first least : ℕ) (ks : List Knote) (k : Knote) → find_knote k.key ks ≡ Some k → first ≡ first_of from k → IsReached from to ks least
+    → IsReached from to ks (cond (leb first low) least (min least first))
+nearer-reached from to low first least ks k there is old = by_place (cases_lt low first) (cases_lt least first)
+  where
+    by_place : (low < first) ⊎ (first ≤ low) → (least < first) ⊎ (first ≤ least) → IsReached from to ks (cond (leb first low) least (min least first))
+    by_place (inr h) _ = rw (le-leb first low h) old
+    by_place (inl h) (inl earlier) = let e : least ≡ min least first = omega arith in rw (lt-leb first low h) (subst (IsReached from to ks) e old)
+    by_place (inl h) (inr later) = let e : first ≡ min least first = omega arith in rw (lt-leb first low h) (subst (IsReached from to ks) e (inr (k, there, sym is)))
 
 -- the moment found is after `low`, as the one so far
 pub nearer-later : (low first least : ℕ) → low < least → low < cond (leb first low) least (min least first)

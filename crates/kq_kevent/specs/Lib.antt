@@ -5,3 +5,4 @@ pub mod Telling
 pub mod Ringing
 pub mod Beginning
 pub mod Arranged
+pub mod Foretold

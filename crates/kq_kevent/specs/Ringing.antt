@@ -1,5 +1,5 @@
 -- Timers that ring one after the other, each with all its expirations at once, as the code does it.
-use Rattle.std.specs.Prelude.{◌≡◌, ℕ, ◌≤◌, ◌==◌, ◌⊎◌, List, [], ◌∷◌, ◌++◌, filter}
+use Rattle.std.specs.Prelude.{◌≡◌, ℕ, ◌+◌, ◌≤◌, ◌==◌, ◌⊎◌, List, [], ◌∷◌, ◌++◌, filter, Some}
 use Rattle.std.specs.List.{AllByRecursion}
 use Rattle.std.specs.Option.{option_map}
 use Rattle.kq_model.specs.declared.key.Key.{Key}
@@ -42,6 +42,11 @@ firsts_at from moment ks = filter (λ k. first_of from k == moment) ks
 abbrev pub AreOutside : ℕ → ℕ → ℕ → List Knote → Type 0
 AreOutside from low high ks =
     AllByRecursion (λ k. (first_of from k ≤ low) ⊎ (high ≤ first_of from k)) ks
+
+-- one of them expires first at this moment, or it is the one behind `to`
+abbrev pub IsReached : ℕ → ℕ → List Knote → ℕ → Type 0
+IsReached from to ks moment =
+    (moment ≡ to + 1) ⊎ ((k : Knote) × (find_knote k.key ks ≡ Some k) × (first_of from k ≡ moment))
 
 -- What the clock does from `from` to `to`, for a user: each knote has its expirations and stays as it is otherwise,
 -- none comes or goes, and the queue keeps what it has and may have more behind it.

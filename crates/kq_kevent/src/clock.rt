@@ -11,7 +11,7 @@ ghost use Rattle.kq_model.specs.Views as world;
 ghost use Rattle.kq_model.specs.WatchedNumbers.{WatchTheirNumbers};
 ghost use Rattle.kq_knote.specs.Expiring.{expiring};
 ghost use Rattle.kq_kevent.specs.Owned.{limit, span_of};
-ghost use Rattle.kq_kevent.specs.Ringing.{AreOutside, IsClocked, firsts_at, rung_each, with_rung};
+ghost use Rattle.kq_kevent.specs.Ringing.{AreOutside, IsClocked, IsReached, firsts_at, rung_each, with_rung};
 
 use crate::Kq;
 use kq_knote::Knote;
@@ -19,7 +19,7 @@ use kq_model::Key;
 use kq_table::Placed;
 
 /// The last moment of the clock.
-const LAST_MOMENT: u64 = i64::MAX as u64;
+pub(crate) const LAST_MOMENT: u64 = i64::MAX as u64;
 
 /// The lesser of two moments, where the first is after `low`; else the second.
 fn nearer(low: u64, first: u64, least: u64) -> u64
@@ -190,15 +190,16 @@ impl Kq {
         }
     }
 
-    /// A moment after `low`, and not after the one behind `to`, before which no timer expires that did
-    /// not expire up to `low`; of each timer its first expiration after `from` counts alone.
-    fn next_moment(&self, from: u64, low: u64, to: u64) -> u64
+    /// The first moment after `low` at which a timer expires that did not expire up to `low`, or the one behind `to`
+    /// where that is less; of each timer its first expiration after `from` counts alone.
+    pub(crate) fn next_moment(&self, from: u64, low: u64, to: u64) -> u64
         requires begun { from ≤ low }
         requires ordered { low ≤ to }
         requires within { to ≤ last_moment }
         ensures later { low < result }
         ensures bounded { result ≤ to + 1 }
         ensures none { AreOutside from low result self.now.kq.knotes }
+        ensures reached { IsReached from to self.now.kq.knotes result }
     {
         let mut least = to + 1;
         let mut next = self.knotes.first();

@@ -7,6 +7,7 @@ mod clock;
 mod close;
 mod decide;
 mod follow;
+mod foretell;
 mod kq;
 mod look;
 mod notify;

@@ -1,9 +1,10 @@
-use Rattle.std.proofs.Common.{◌-◌, ◌+◌, ◌<◌, ◌≤◌, Option, length, slice_get, sym, ap, ◌∙◌, subst, arith}
+use Rattle.std.proofs.Common.{◌-◌, ◌+◌, ◌<◌, ◌≤◌, Option, length, slice_get, inl, refl, sym, ap, ◌∙◌, subst, arith}
 use Rattle.kq_model.specs.Kqueue.{HaveOwnKeys}
 use Rattle.kq_model.specs.Tallied.{Knote}
 use Rattle.kq_knote.proofs.WalkLaws.{after}
 use Rattle.kq_kevent.specs.Owned.{OwnedKqueue}
-use Rattle.kq_kevent.proofs.RingWalk.{IsLooking, look-start, look-stops, look-ends, look-goes, nearer-later, nearer-bounded}
+use Rattle.kq_kevent.specs.Ringing.{IsReached}
+use Rattle.kq_kevent.proofs.RingWalk.{IsLooking, look-start, look-stops, look-ends, look-goes, look-there, nearer-later, nearer-bounded, nearer-reached}
 use Rattle.kq_kevent.proofs.kq.Kq.next_moment.Goals as goal
 
 pub loop-step-init : goal.loop-step-init
@@ -14,6 +15,7 @@ loop-step-init c =
           (c.first-next.ensures ∙ ap (λ (v : OwnedKqueue). slice_get v.kq.knotes 0) c.self.view_is) (omega arith);
       later = omega arith;
       bounded = omega arith;
+      reached = inl refl;
     }
 
 pub loop-step-preserved : goal.loop-step-preserved
@@ -31,6 +33,9 @@ loop-step-preserved c =
       later = subst (λ n. c.args.low < n) (sym c.nearer-least.ensures) (nearer-later c.args.low c.first_after-first.result c.loop-step.least c.loop-step.invariant.later);
       bounded = subst (λ n. n ≤ c.args.to + 1) (sym c.nearer-least.ensures)
           (nearer-bounded c.args.low c.first_after-first.result c.loop-step.least (c.args.to + 1) c.loop-step.invariant.bounded);
+      reached = subst (IsReached c.args.from c.args.to ks) (sym c.nearer-least.ensures)
+          (nearer-reached c.args.from c.args.to c.args.low c.first_after-first.result c.loop-step.least ks c.in-Some.knote
+          (look-there c.args.from c.args.low ks own c.in-Some.knote left c.loop-step.least at) c.first_after-first.ensures c.loop-step.invariant.reached);
     }
 
 pub returns-in_default-clause-none : goal.returns-in_default-clause-none
