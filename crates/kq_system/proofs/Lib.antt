@@ -25,3 +25,4 @@ pub mod BeginTallied
 pub mod NamedLemmas
 pub mod NearLemmas
 pub mod ShareLemmas
+pub mod AskLemmas

@@ -5,3 +5,4 @@ pub mod Forking
 pub mod Beginning
 pub mod Dealing
 pub mod Sharing
+pub mod Asked

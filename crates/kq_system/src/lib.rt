@@ -3,6 +3,7 @@
 #![tactic(auto)]
 
 mod all_live;
+mod asking;
 mod beginning;
 mod dealing;
 mod fold;
