@@ -4,7 +4,7 @@
 # make test      proves and tests everything; the last line is 'N passed, M failed'
 # make bench     measures the program beside one that only reads
 # make install   puts the programs, kqview and kqshrink into PREFIX/bin, their manual pages into PREFIX/share/man,
-#                libkqsim.a into PREFIX/lib and kqsim.h into PREFIX/include
+#                libkqsim.a into PREFIX/lib, kqsim.pc into PREFIX/lib/pkgconfig and kqsim.h into PREFIX/include
 #
 # Needed: the kit's `rt`, bash, make, cc and python3.
 
@@ -21,7 +21,7 @@ PREFIX ?= /usr/local
 # proved takes up to 3 GB.
 JOBS ?= $(shell echo $$((2 * $$(nproc))))
 
-.PHONY: all libkqsim libkqsim-joined run test bench install install-view install-man
+.PHONY: all libkqsim libkqsim-joined run test bench install install-view install-man install-pc
 
 # (rt all check proves what has changed of the libraries, side by side where they do not stand on each other; rt run
 # proves and builds a program over that, by as many jobs as there is room for, and runs it, so it is given its stored
@@ -62,7 +62,7 @@ bench: all
 	bench/live $(KQSIM)
 	bench/workers $(KQSIM) $(REPLAY_BENCH)
 
-install: all install-view install-man
+install: all install-view install-man install-pc
 	install -D -m 755 $(KQSIM) $(DESTDIR)$(PREFIX)/bin/kqsim
 	install -D -m 755 $(KQSTEP) $(DESTDIR)$(PREFIX)/bin/kqstep
 	install -D -m 755 $(KQCHECK) $(DESTDIR)$(PREFIX)/bin/kqcheck
@@ -85,3 +85,7 @@ install-man:
 	install -D -m 644 man/kqview.1 $(DESTDIR)$(PREFIX)/share/man/man1/kqview.1
 	install -D -m 644 man/kqshrink.1 $(DESTDIR)$(PREFIX)/share/man/man1/kqshrink.1
 	install -D -m 644 man/kqsim.5 $(DESTDIR)$(PREFIX)/share/man/man5/kqsim.5
+
+install-pc:
+	install -d $(DESTDIR)$(PREFIX)/lib/pkgconfig
+	sed -e 's|@PREFIX@|$(PREFIX)|' -e "s|@VERSION@|$$(cat VERSION)|" kqsim.pc.in > $(DESTDIR)$(PREFIX)/lib/pkgconfig/kqsim.pc

@@ -3,10 +3,10 @@
  *
  * kqsim: a simulated FreeBSD kqueue, for C99 and C++.
  *
- * A `struct kqsim` is a system of processes with descriptors and kqueues. Each function below but the first and the
- * last tells it one thing that happened, or makes one call of kevent(2) in it. docs/TRACE.md says what each record
- * does and asks for. Nothing waits and nothing is shared: each call answers at once, a system is used by one thread
- * at a time, and two systems know nothing of each other.
+ * A `struct kqsim` is a system of processes with descriptors and kqueues. A function tells it one thing that happened,
+ * makes one call of kevent(2) in it, or asks what comes of a kqueue. docs/TRACE.md says what each record does and asks
+ * for. Nothing waits and nothing is shared: each call answers at once, a system is used by one thread at a time, and
+ * two systems know nothing of each other.
  *
  * Link with libkqsim.a. It calls malloc, realloc and free. Numbers and pointers have to be of 64 bits (LP64).
  */
@@ -20,6 +20,13 @@
 #ifdef __cplusplus
 extern "C" {
 #endif
+
+/* The version of this header: as text, and as 10,000 times the first number, 100 times the second and the third. */
+#define KQSIM_VERSION "0.16.0"
+#define KQSIM_VERSION_NUMBER 1600
+
+/* The number of the library's version. */
+uint32_t kqsim_version(void);
 
 struct kqsim;
 
@@ -44,11 +51,35 @@ enum kqsim_error {
     KQSIM_USED_FILE = 107,
     KQSIM_CLOCK_BACK = 108,
     KQSIM_TOO_MANY = 109,
-    /* an argument is none that the function takes: the version, a filter, a flag, a side, a mode or a note */
+    /* an argument is none that the function takes: the version, a filter, a side, a mode or a note */
     KQSIM_ARGUMENT = 201,
     /* the system has taken 2^31 - 1 records */
     KQSIM_FULL = 202
 };
+
+/* What a number says, in a few words. */
+static inline const char *kqsim_strerror(int number) {
+    switch (number) {
+    case KQSIM_OK: return "Done";
+    case KQSIM_ENOENT: return "No such knote";
+    case KQSIM_ESRCH: return "No such process to watch";
+    case KQSIM_EBADF: return "The descriptor is not open";
+    case KQSIM_EINVAL: return "Invalid change";
+    case KQSIM_ENOMEM: return "No memory";
+    case KQSIM_NO_PROCESS: return "The process is not live";
+    case KQSIM_USED_PID: return "The pid was used";
+    case KQSIM_NO_DESCRIPTOR: return "The number is not open";
+    case KQSIM_USED_DESCRIPTOR: return "The number is open";
+    case KQSIM_WRONG_KIND: return "The number names another kind of object";
+    case KQSIM_ABSENT: return "What the record needs is not there";
+    case KQSIM_USED_FILE: return "The file is there";
+    case KQSIM_CLOCK_BACK: return "The clock does not go back";
+    case KQSIM_TOO_MANY: return "Too many";
+    case KQSIM_ARGUMENT: return "Unknown argument";
+    case KQSIM_FULL: return "The system takes no more records";
+    default: return "Unknown number";
+    }
+}
 
 /* A kevent as sys/event.h has it, without `ext` of FreeBSD 12 and later: the simulator keeps none, so a program that
  * uses it does not compile. With KQSIM_AS_KQUEUE its name is `struct kevent`. */
@@ -66,6 +97,10 @@ struct KQSIM_KEVENT {
     void *udata;         /* given back in each event */
 };
 
+/* No array of these lengths is possible where numbers and pointers have other sizes. */
+typedef char kqsim_needs_lp64[sizeof(void *) == 8 && sizeof(long) == 8 && sizeof(size_t) == 8 ? 1 : -1];
+typedef char kqsim_kevent_has_32_bytes[sizeof(struct KQSIM_KEVENT) == 32 ? 1 : -1];
+
 /* FreeBSD's numbers. The filters from AIO on are answered EINVAL. */
 #define KQSIM_EVFILT_READ (-1)
 #define KQSIM_EVFILT_WRITE (-2)
@@ -80,6 +115,7 @@ struct KQSIM_KEVENT {
 #define KQSIM_EVFILT_USER (-11)
 #define KQSIM_EVFILT_SENDFILE (-12)
 #define KQSIM_EVFILT_EMPTY (-13)
+#define KQSIM_EVFILT_SYSCOUNT 13
 
 #define KQSIM_EV_ADD 0x0001
 #define KQSIM_EV_DELETE 0x0002
@@ -89,11 +125,18 @@ struct KQSIM_KEVENT {
 #define KQSIM_EV_CLEAR 0x0020
 #define KQSIM_EV_RECEIPT 0x0040
 #define KQSIM_EV_DISPATCH 0x0080
+#define KQSIM_EV_FORCEONESHOT 0x0100
+#define KQSIM_EV_KEEPUDATA 0x0200
+#define KQSIM_EV_SYSFLAGS 0xf000
+#define KQSIM_EV_DROP 0x1000
+#define KQSIM_EV_FLAG1 0x2000
+#define KQSIM_EV_FLAG2 0x4000
 #define KQSIM_EV_ERROR 0x4000
 #define KQSIM_EV_EOF 0x8000
 
 /* READ, WRITE */
 #define KQSIM_NOTE_LOWAT 0x0001
+#define KQSIM_NOTE_FILE_POLL 0x0002
 /* VNODE */
 #define KQSIM_NOTE_DELETE 0x0001
 #define KQSIM_NOTE_WRITE 0x0002
@@ -110,7 +153,10 @@ struct KQSIM_KEVENT {
 #define KQSIM_NOTE_EXIT 0x80000000U
 #define KQSIM_NOTE_FORK 0x40000000U
 #define KQSIM_NOTE_EXEC 0x20000000U
+#define KQSIM_NOTE_PCTRLMASK 0xf0000000U
+#define KQSIM_NOTE_PDATAMASK 0x000fffffU
 #define KQSIM_NOTE_TRACK 0x00000001U
+#define KQSIM_NOTE_TRACKERR 0x00000002U
 #define KQSIM_NOTE_CHILD 0x00000004U
 /* TIMER */
 #define KQSIM_NOTE_SECONDS 0x00000001U
@@ -172,19 +218,85 @@ int kqsim_clock(struct kqsim *sim, int64_t ns);
 int kqsim_call(struct kqsim *sim, uint32_t pid, uint32_t kq, const struct KQSIM_KEVENT *changes, size_t nchanges,
                struct KQSIM_KEVENT *events, size_t nevents, size_t *n);
 
+/* A change with a filter that is not there is made as one of EMPTY, which is refused: its event gets its own filter
+ * back. Events with EV_ERROR stand in the order of their changes. */
+static inline void kqsim_own_filters(const struct KQSIM_KEVENT *changes, size_t nchanges, struct KQSIM_KEVENT *events,
+                                     size_t n) {
+    size_t i = 0, at;
+    for (at = 0; at < n; at++) {
+        if (events[at].filter != KQSIM_EVFILT_EMPTY)
+            continue;
+        while (i < nchanges && changes[i].filter >= KQSIM_EVFILT_SENDFILE && changes[i].filter <= KQSIM_EVFILT_READ)
+            i++;
+        if (i < nchanges)
+            events[at].filter = changes[i++].filter;
+    }
+}
+
+/* The most changes of a call. */
+#define KQSIM_MOST_CHANGES 1024
+
+/* The same where the arrays overlap. */
+static inline int kqsim_call_in_place(struct kqsim *sim, uint32_t pid, uint32_t kq, const struct KQSIM_KEVENT *changes,
+                                      size_t nchanges, struct KQSIM_KEVENT *events, size_t nevents, size_t *n) {
+    struct KQSIM_KEVENT copy[KQSIM_MOST_CHANGES], no_events[1] = {{0, 0, 0, 0, 0, NULL}};
+    size_t i;
+    int number;
+    if (nchanges > KQSIM_MOST_CHANGES)
+        return kqsim_call(sim, pid, kq, changes, nchanges, no_events, 0, n);
+    for (i = 0; i < nchanges; i++)
+        copy[i] = changes[i];
+    number = kqsim_call(sim, pid, kq, copy, nchanges, events, nevents, n);
+    kqsim_own_filters(copy, nchanges, events, *n);
+    return number;
+}
+
 /* The record `kevent`: the process calls kevent(2) on its kqueue. At most `nevents` events are written to `events`,
- * and `*n` is their number, 0 after an error. An array of length 0 may be NULL. More than 1,024 changes, or room for
- * more than 65,536 events, is KQSIM_TOO_MANY. */
+ * and `*n` is their number, 0 after an error. An array of length 0 may be NULL, and one array may serve as both. A
+ * change with a filter or a flag that is not known is answered EINVAL. More than 1,024 changes, or room for more than
+ * 65,536 events, is KQSIM_TOO_MANY. */
 static inline int kqsim_kevent(struct kqsim *sim, uint32_t pid, uint32_t kq, const struct KQSIM_KEVENT *changes,
                                size_t nchanges, struct KQSIM_KEVENT *events, size_t nevents, size_t *n) {
     struct KQSIM_KEVENT no_changes[1] = {{0, 0, 0, 0, 0, NULL}}, no_events[1] = {{0, 0, 0, 0, 0, NULL}};
+    int number;
     if ((changes == NULL && nchanges > 0) || (events == NULL && nevents > 0)) {
         *n = 0;
         return KQSIM_ARGUMENT;
     }
-    return kqsim_call(sim, pid, kq, nchanges > 0 ? changes : no_changes, nchanges, nevents > 0 ? events : no_events,
-                      nevents, n);
+    if (nchanges > 0 && nevents > 0 && (uintptr_t)changes < (uintptr_t)(events + nevents)
+        && (uintptr_t)events < (uintptr_t)(changes + nchanges))
+        return kqsim_call_in_place(sim, pid, kq, changes, nchanges, events, nevents, n);
+    changes = nchanges > 0 ? changes : no_changes;
+    events = nevents > 0 ? events : no_events;
+    number = kqsim_call(sim, pid, kq, changes, nchanges, events, nevents, n);
+    kqsim_own_filters(changes, nchanges, events, *n);
+    return number;
 }
+
+/* ---- Questions about the kqueue that a number names. Nothing is changed, and no record is applied. The number is 0 or
+ * that of the reason why a call of kevent(2) is impossible; then nothing is written. */
+
+/* The first moment after the clock's at which a timer expires, in ns, or -1 where none does. A timer that is disabled
+ * expires too. */
+int kqsim_next(const struct kqsim *sim, uint32_t pid, uint32_t kq, int64_t *ns);
+
+/* How many events a call with no changes and room for `nevents` would give now. */
+int kqsim_pending(const struct kqsim *sim, uint32_t pid, uint32_t kq, uint32_t nevents, uint32_t *n);
+
+/* What is registered for an ident and a filter. */
+struct kqsim_knote {
+    void *udata;
+    int64_t data;          /* of the last change that set it, as fflags */
+    unsigned int fflags;
+    unsigned short flags;  /* of KQSIM_EV_ONESHOT, _CLEAR and _DISPATCH */
+    bool enabled;
+    bool active;           /* its condition was seen to hold, and nothing has taken that back */
+};
+typedef char kqsim_knote_has_24_bytes[sizeof(struct kqsim_knote) == 24 ? 1 : -1];
+
+/* KQSIM_ENOENT where nothing is, and KQSIM_ARGUMENT where no filter has this number. */
+int kqsim_find(const struct kqsim *sim, uint32_t pid, uint32_t kq, uintptr_t ident, short filter,
+               struct kqsim_knote *knote);
 
 #ifdef __cplusplus
 }
@@ -199,6 +311,9 @@ static inline int kqsim_kevent(struct kqsim *sim, uint32_t pid, uint32_t kq, con
 #ifdef KQSIM_AS_KQUEUE
 #include <errno.h>
 #include <time.h>
+
+/* C99 alone does not define it */
+struct timespec;
 
 struct kqsim_process {
     struct kqsim *sim;
@@ -267,6 +382,7 @@ static inline int kevent(int kq, const struct kevent *changelist, int nchanges, 
 #define EVFILT_USER KQSIM_EVFILT_USER
 #define EVFILT_SENDFILE KQSIM_EVFILT_SENDFILE
 #define EVFILT_EMPTY KQSIM_EVFILT_EMPTY
+#define EVFILT_SYSCOUNT KQSIM_EVFILT_SYSCOUNT
 #define EV_ADD KQSIM_EV_ADD
 #define EV_DELETE KQSIM_EV_DELETE
 #define EV_ENABLE KQSIM_EV_ENABLE
@@ -275,9 +391,16 @@ static inline int kevent(int kq, const struct kevent *changelist, int nchanges, 
 #define EV_CLEAR KQSIM_EV_CLEAR
 #define EV_RECEIPT KQSIM_EV_RECEIPT
 #define EV_DISPATCH KQSIM_EV_DISPATCH
+#define EV_FORCEONESHOT KQSIM_EV_FORCEONESHOT
+#define EV_KEEPUDATA KQSIM_EV_KEEPUDATA
+#define EV_SYSFLAGS KQSIM_EV_SYSFLAGS
+#define EV_DROP KQSIM_EV_DROP
+#define EV_FLAG1 KQSIM_EV_FLAG1
+#define EV_FLAG2 KQSIM_EV_FLAG2
 #define EV_ERROR KQSIM_EV_ERROR
 #define EV_EOF KQSIM_EV_EOF
 #define NOTE_LOWAT KQSIM_NOTE_LOWAT
+#define NOTE_FILE_POLL KQSIM_NOTE_FILE_POLL
 #define NOTE_DELETE KQSIM_NOTE_DELETE
 #define NOTE_WRITE KQSIM_NOTE_WRITE
 #define NOTE_EXTEND KQSIM_NOTE_EXTEND
@@ -292,7 +415,10 @@ static inline int kevent(int kq, const struct kevent *changelist, int nchanges, 
 #define NOTE_EXIT KQSIM_NOTE_EXIT
 #define NOTE_FORK KQSIM_NOTE_FORK
 #define NOTE_EXEC KQSIM_NOTE_EXEC
+#define NOTE_PCTRLMASK KQSIM_NOTE_PCTRLMASK
+#define NOTE_PDATAMASK KQSIM_NOTE_PDATAMASK
 #define NOTE_TRACK KQSIM_NOTE_TRACK
+#define NOTE_TRACKERR KQSIM_NOTE_TRACKERR
 #define NOTE_CHILD KQSIM_NOTE_CHILD
 #define NOTE_SECONDS KQSIM_NOTE_SECONDS
 #define NOTE_MSECONDS KQSIM_NOTE_MSECONDS

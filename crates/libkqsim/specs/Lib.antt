@@ -1,3 +1,4 @@
 pub mod Handles
 pub mod Kept
 pub mod Steps
+pub mod Asked

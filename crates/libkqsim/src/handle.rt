@@ -1,9 +1,11 @@
 ghost use Rattle.std.specs.Prelude.{◌≡◌};
 ghost use Rattle.kq_system.specs.SystemState.{SystemState};
 ghost use Rattle.kq_system.specs.contracts.system.System as system_row;
+ghost use Rattle.libkqsim.specs.Asked.{IsTold};
 ghost use Rattle.libkqsim.specs.Handles.{held};
 ghost use Rattle.libkqsim.specs.Steps.{IsAnswered};
 
+use crate::asked::{Answer, Asked, tell};
 use crate::step::step;
 use kq_freebsd::Refusal;
 use kq_model::{Event, Reply};
@@ -46,5 +48,14 @@ impl Kqsim {
     {
         let system = self.at as *mut System;
         unsafe { step(&mut *system, event) }
+    }
+
+    /// Asks the system, which stays as it is.
+    pub(crate) fn ask(&mut self, asked: &Asked) -> Answer
+        ensures told { IsTold asked.now self.old.system result }
+        ensures same { self.new.system ≡ self.old.system }
+    {
+        let system = self.at as *mut System;
+        unsafe { tell(&mut *system, asked) }
     }
 }

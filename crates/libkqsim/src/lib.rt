@@ -1,6 +1,9 @@
 //! The simulated system for C: `include/kqsim.h` declares what is exported here.
 #![tactic(auto)]
 
+mod asked;
+mod asking;
+mod c_knote;
 mod call;
 mod descriptors;
 mod files;
@@ -11,3 +14,4 @@ mod published;
 mod record;
 mod sockets;
 mod step;
+mod version;
