@@ -99,6 +99,15 @@ impl Kq {
         turn_round(&mut self.knotes, others);
     }
 
+    /// How many keys the queue has. None stands in it twice.
+    pub fn waiting_len(&self) -> usize
+        ensures len { result ≡ length self.now.kq.queue }
+        // Of every kqueue.
+        ensures once { AreOnce self.now.kq.queue }
+    {
+        self.knotes.queue_len()
+    }
+
     /// The key that is at the front of the queue, whose knote a retrieval looks at first.
     pub fn first_waiting(&self) -> Option<Key>
         ensures { result ≡ slice_get self.now.kq.queue 0 }
