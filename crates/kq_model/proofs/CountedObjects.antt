@@ -9,7 +9,7 @@ use Rattle.kq_model.specs.declared.doing.DescriptionRecord.{DescriptionRecord}
 use Rattle.kq_model.specs.declared.doing.FileRecord.{FileRecord}
 use Rattle.kq_model.specs.declared.doing.Doing.{Doing}
 use Rattle.kq_model.specs.declared.doing.Doing.TheVariants.{ToSocket, ToPipe, ToDescription, ToFile}
-use Rattle.kq_model.specs.Books.{Book, plus, less, total, balance}
+use Rattle.kq_model.specs.Accounts.{Account, plus, less, total, balance}
 use Rattle.kq_model.specs.Sockets as sockets
 use Rattle.kq_model.specs.Pipes as pipes
 use Rattle.kq_model.specs.Files as files
@@ -53,12 +53,12 @@ file-told r rs = refl
 
 -- ---- a book of quantities stands for a book of records
 
-pub record Counts {R Q S : Type 0} (b : Book R Q S) (c : Book R Q Q) : Type 0 where
+pub record Counts {R Q S : Type 0} (b : Account R Q S) (c : Account R Q Q) : Type 0 where
   fresh : b.quantities b.fresh ≡ c.fresh
   told : (r : R) (s : S) → b.quantities (b.told r s) ≡ c.told r (b.quantities s)
   itself : (q : Q) → c.quantities q ≡ q
 
-module _ {R Q S : Type 0} (b : Book R Q S) (c : Book R Q Q) (counts : Counts b c) where
+module _ {R Q S : Type 0} (b : Account R Q S) (c : Account R Q Q) (counts : Counts b c) where
   told_of-counted : (r : R) (x : Option S) → b.quantities (told_of b r x) ≡ told_of c r (option_map b.quantities x)
   told_of-counted r None = counts.told r b.fresh ∙ ap (c.told r) counts.fresh
   told_of-counted r (Some s) = counts.told r s

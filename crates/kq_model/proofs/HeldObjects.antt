@@ -5,7 +5,7 @@ use Rattle.std.proofs.lemmas.Bool.Decides.{nat_tests}
 use Rattle.kq_model.specs.declared.doing.DescriptionRecord.{DescriptionRecord}
 use Rattle.kq_model.specs.declared.doing.PipeRecord.{PipeRecord}
 use Rattle.kq_model.specs.declared.doing.SocketRecord.{SocketRecord}
-use Rattle.kq_model.specs.Books.{plus, less}
+use Rattle.kq_model.specs.Accounts.{plus, less}
 use Rattle.kq_model.specs.Sockets as sockets
 use Rattle.kq_model.specs.Pipes as pipes
 use Rattle.kq_model.specs.Files as files

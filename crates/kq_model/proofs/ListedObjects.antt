@@ -20,7 +20,7 @@ use Rattle.kq_model.specs.declared.mode.Mode.{Mode}
 use Rattle.kq_model.specs.declared.object.Named.{Named}
 use Rattle.kq_model.specs.declared.object.Named.TheVariants.{Socket, PipeRead, PipeWrite, Open, Kqueue}
 use Rattle.kq_model.specs.declared.object.Target.TheVariants as target
-use Rattle.kq_model.specs.Books.{instead}
+use Rattle.kq_model.specs.Accounts.{instead}
 use Rattle.kq_model.specs.Files.{DescriptionState, FileState, description_after, file_after, file_of, opened, is_description_held}
 use Rattle.kq_model.specs.Holding.{hold_doings, leaving, left, release, release_doings, is_last}
 use Rattle.kq_model.specs.Holders.{description_holders, holders_of, hold, all_held, all_released, times, IsCounted, IsNamed}

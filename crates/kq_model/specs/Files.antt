@@ -12,7 +12,7 @@ use Rattle.kq_model.specs.declared.doing.FileRecord.{FileRecord}
 use Rattle.kq_model.specs.declared.doing.FileRecord.TheVariants as file
 use Rattle.kq_model.specs.declared.mode.Mode.{Mode}
 use Rattle.kq_model.specs.declared.mode.Mode.TheVariants as mode
-use Rattle.kq_model.specs.Books.{plus, less, instead, balance, latest, once}
+use Rattle.kq_model.specs.Accounts.{plus, less, instead, balance, latest, once}
 
 -- ---- open file descriptions
 

@@ -34,7 +34,7 @@ pub mod Close
 pub mod TimerWalk
 pub mod Clock
 -- The world: objects, descriptors and processes, and the plan of each record.
-pub mod Books
+pub mod Accounts
 pub mod Sockets
 pub mod Pipes
 pub mod Files

@@ -15,7 +15,7 @@ use Rattle.kq_model.specs.declared.object.Target.{Target}
 use Rattle.kq_model.specs.declared.object.Target.TheVariants as target
 use Rattle.kq_model.specs.declared.object.View.{View}
 use Rattle.kq_model.specs.declared.object.View.TheVariants as view
-use Rattle.kq_model.specs.Books.{Book}
+use Rattle.kq_model.specs.Accounts.{Account}
 use Rattle.kq_model.specs.Sockets.{SocketState, socket_state, socket_after, no_socket, is_socket_held, socket_view}
 use Rattle.kq_model.specs.Pipes.{PipeState, pipe_state, pipe_after, no_pipe, is_pipe_held, pipe_view}
 use Rattle.kq_model.specs.Files.{DescriptionState, description_state, description_after, no_description}
@@ -24,10 +24,10 @@ use Rattle.kq_model.specs.Files.{is_description_held, FileState, file_state, fil
 -- ---- how objects are kept
 
 pub record Keeping (A B C D : Type 0) : Type 0 where
-  pub sockets : Book SocketRecord SocketState A
-  pub pipes : Book PipeRecord PipeState B
-  pub descriptions : Book DescriptionRecord DescriptionState C
-  pub files : Book FileRecord FileState D
+  pub sockets : Account SocketRecord SocketState A
+  pub pipes : Account PipeRecord PipeState B
+  pub descriptions : Account DescriptionRecord DescriptionState C
+  pub files : Account FileRecord FileState D
 
 -- every record, the latest first
 abbrev pub listed : Keeping (List SocketRecord) (List PipeRecord) (List DescriptionRecord) (List FileRecord)
@@ -73,16 +73,16 @@ quantities {k = k} o = record {
 -- ---- noting
 
 -- what is kept of an object after one more record, the first one for an object that is not there
-abbrev pub told_of : {R Q S : Type 0} → Book R Q S → R → Option S → S
+abbrev pub told_of : {R Q S : Type 0} → Account R Q S → R → Option S → S
 told_of b r None = b.told r b.fresh
 told_of b r (Some s) = b.told r s
 
 -- the object, if its quantities say that it is to be kept
-abbrev pub kept : {R Q S : Type 0} → Book R Q S → (Q → Bool) → S → Option S
+abbrev pub kept : {R Q S : Type 0} → Account R Q S → (Q → Bool) → S → Option S
 kept b stays s = if stays (b.quantities s) then Some s else None
 
 -- one more record of the object at a place; all others stay as they are
-abbrev pub told_at : {R Q S : Type 0} → Book R Q S → (Q → Bool) → ℕ → R → (ℕ → Option S) → ℕ
+abbrev pub told_at : {R Q S : Type 0} → Account R Q S → (Q → Bool) → ℕ → R → (ℕ → Option S) → ℕ
     → Option S
 told_at b stays place r objects p = if place == p then kept b stays (told_of b r (objects p)) else objects p
 

@@ -6,7 +6,7 @@ use Rattle.kq_model.specs.declared.doing.PipeRecord.TheVariants.{Made, Read, Wri
 use Rattle.kq_model.specs.declared.object.View.{View}
 use Rattle.kq_model.specs.declared.object.View.TheVariants as view
 use Rattle.kq_model.specs.declared.side.Side.TheVariants as side
-use Rattle.kq_model.specs.Books.{plus, less, instead, balance, latest}
+use Rattle.kq_model.specs.Accounts.{plus, less, instead, balance, latest}
 
 pub record PipeState : Type 0 where
   -- how many bytes the pipe holds at most

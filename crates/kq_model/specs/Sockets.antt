@@ -12,7 +12,7 @@ use Rattle.kq_model.specs.declared.doing.SocketRecord.TheVariants.{Held, Release
 use Rattle.kq_model.specs.declared.object.View.{View}
 use Rattle.kq_model.specs.declared.object.View.TheVariants as view
 use Rattle.kq_model.specs.declared.side.Side.TheVariants as side
-use Rattle.kq_model.specs.Books.{plus, less, instead, balance, latest, once}
+use Rattle.kq_model.specs.Accounts.{plus, less, instead, balance, latest, once}
 
 pub record SocketState : Type 0 where
   pub receive_buffer : ℕ

@@ -2,12 +2,12 @@
 use Rattle.std.proofs.Common.{◌≡◌, ◌∙◌, ◌==◌, ℕ, Bool, true, false, cond, Option, None, Some, refl, sym, ap, if◌then◌else◌, eqb-true}
 use Rattle.kq_model.specs.declared.doing.SocketRecord.{SocketRecord}
 use Rattle.kq_model.specs.declared.doing.SocketRecord.TheVariants as socket
-use Rattle.kq_model.specs.Books.{Book}
+use Rattle.kq_model.specs.Accounts.{Account}
 use Rattle.kq_model.specs.Objects.{kept, told_of, told_at}
 use Rattle.kq_model.specs.Sockets.{socket_after, no_socket, is_socket_held}
 use Rattle.kq_objects.specs.Fits.{FitsSocketAt}
 
-module _ {R Q S : Type 0} (b : Book R Q S) (stays : Q → Bool) where
+module _ {R Q S : Type 0} (b : Account R Q S) (stays : Q → Bool) where
   kept_new : (r : R) (x : Option S) (v : S) → x ≡ None → v ≡ b.told r b.fresh → stays (b.quantities v) ≡ true
       → Some v ≡ kept b stays (told_of b r x)
   kept_new r x v none new held =

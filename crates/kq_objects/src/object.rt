@@ -1,5 +1,5 @@
 ghost use Rattle.std.specs.Prelude.{◌≡◌, ℕ, Bool, true, Option, None, Some};
-ghost use Rattle.kq_model.specs.Books.{Book};
+ghost use Rattle.kq_model.specs.Accounts.{Account};
 
 /// What descriptors name, as a socket: its first record makes it, and it is there until no descriptor names
 /// it any more.
@@ -7,7 +7,7 @@ pub trait Object: Drop {
     type Record: Copy + Drop;
 
     // What its records make of it.
-    ghost book: { Book Self.Record Self Self };
+    ghost book: { Account Self.Record Self Self };
 
     // Whether a descriptor names it.
     ghost stays: { Self → Bool };

@@ -5,7 +5,7 @@ use Rattle.std.specs.Prelude.{ℕ, ℤ, pos, ◌+ℤ◌, ◌-ℤ◌, Bool, false
 use Rattle.std.specs.Prelude.{Option, Some, None}
 
 -- R are the records of an object, Q its quantities, S what is kept of it
-pub record Book (R Q S : Type 0) : Type 0 where
+pub record Account (R Q S : Type 0) : Type 0 where
   pub fresh : S
   pub told : R → S → S
   pub quantities : S → Q
