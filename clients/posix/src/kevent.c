@@ -42,9 +42,12 @@ static bool is_kqueue(int fd) {
 
 /* The descriptor is in the epoll before it is sampled, so that what comes later is an edge. */
 static int watch_thing(struct kqueue *kqueue, struct thing *thing, unsigned char bit) {
+    int error = watch_expect(&kqueue->watches, thing->fd, bit);
+    if (error != 0)
+        return error;
     if (thing->kind != REGULAR)
         return watch_begin(&kqueue->watches, thing->fd, bit);
-    int error = file_watch(thing);
+    error = file_watch(thing);
     if (error == 0 && !kqueue->has_files)
         error = watch_source(kqueue->fd, files_descriptor(), FROM_FILES, 0, EPOLLIN | EPOLLET);
     kqueue->has_files |= error == 0;
@@ -55,9 +58,6 @@ static int expect_descriptor(struct kqueue *kqueue, const struct kevent *change,
     if (change->ident > INT_MAX || change->ident == (uintptr_t)kqueue->fd || is_kqueue((int)change->ident))
         return 0; /* (the system refuses it) */
     struct thing *thing = thing_met((int)change->ident);
-    /* (behind that, which takes the filters of another thing away) */
-    if (!shadow_expect(&kqueue->shadow, change))
-        return ENOMEM;
     if (thing == NULL || !(change->flags & (EV_ADD | EV_ENABLE)) || change->flags & EV_DELETE)
         return 0;
     int error = change->flags & EV_ADD ? watch_thing(kqueue, thing, bit) : 0;
@@ -98,12 +98,11 @@ static int expect(struct kqueue *kqueue, struct kevent *change) {
     unsigned char bit = filter_bit(change->filter);
     if (bit != 0)
         return expect_descriptor(kqueue, change, bit);
-    if (!shadow_expect(&kqueue->shadow, change))
-        return ENOMEM;
     if (change->filter == EVFILT_PROC)
         return expect_process(kqueue, change);
     if (change->filter == EVFILT_SIGNAL)
         return expect_signal(kqueue, change);
+    kqueue->has_timers |= change->filter == EVFILT_TIMER;
     return 0;
 }
 
@@ -111,9 +110,8 @@ static int expect(struct kqueue *kqueue, struct kevent *change) {
 
 static void changed(struct kqueue *kqueue, const struct kevent *change, bool is_sure) {
     unsigned char bit = filter_bit(change->filter);
-    shadow_change(&kqueue->shadow, change, world_clock(), is_sure);
     if (bit != 0 && change->ident <= INT_MAX && thing_at(change->ident) != NULL)
-        watch_changed(&kqueue->watches, &kqueue->shadow, (int)change->ident, bit);
+        watch_changed(&kqueue->watches, change, bit, is_sure);
     bool is_deleted = is_sure && change->flags & EV_DELETE;
     if (change->filter == EVFILT_SIGNAL && is_deleted && change->ident < 64 && kqueue->signals >> change->ident & 1) {
         kqueue->signals &= ~((uint64_t)1 << change->ident);
@@ -128,7 +126,7 @@ static void gave(struct call *call) {
         if (event->filter == EVFILT_PROC)
             event->ident = process_pid(event->ident);
         if (bit != 0 && !(event->flags & EV_ERROR))
-            watch_given(&call->kqueue->watches, &call->kqueue->shadow, event, bit);
+            watch_given(&call->kqueue->watches, event, bit);
     }
 }
 
@@ -142,19 +140,12 @@ static int error_of(int number) {
     }
 }
 
-static bool is_timed(const struct kevent *changes, size_t count) {
-    for (size_t i = 0; i < count; i++)
-        if (changes[i].filter == EVFILT_TIMER)
-            return true;
-    return shadow_has_timers();
-}
-
 /* Makes the record with the next changes, at most `count`: 0, or an errno. */
 static int apply(struct call *call, size_t count, size_t room) {
     struct kqueue *kqueue = call->kqueue;
     const struct kevent *changes = call->changes;
     signals_sample();
-    if (is_timed(changes, count))
+    if (kqueue->has_timers)
         world_tell_clock();
     int number = record_call((uint32_t)kqueue->fd, changes, count, call->events, room, &call->given);
     /* (without room for a further entry later changes are not made) */
@@ -165,9 +156,8 @@ static int apply(struct call *call, size_t count, size_t room) {
     call->count -= count;
     if (number != KQSIM_OK)
         return error_of(number);
-    shadow_answer(&kqueue->shadow, call->events, call->given, room);
     gave(call);
-    if (count > 0 || (call->given > 0 && shadow_may_wait(&kqueue->shadow)))
+    if (kqueue->waiting > 0 && (count > 0 || (call->given > 0 && record_is_pending((uint32_t)kqueue->fd))))
         kqueue_wake(kqueue); /* (for another thread) */
     return 0;
 }
@@ -177,8 +167,8 @@ static int apply(struct call *call, size_t count, size_t room) {
 static void take_one(struct kqueue *kqueue, enum source source, uint32_t number, uint32_t found) {
     uint64_t before = records_told();
     switch (source) {
-    case FROM_DESCRIPTOR: watch_take_in(&kqueue->watches, &kqueue->shadow, (int)number, found); return;
-    case FROM_OUT: watch_take_out(&kqueue->watches, &kqueue->shadow); return;
+    case FROM_DESCRIPTOR: watch_take_in(&kqueue->watches, (int)number, found); return;
+    case FROM_OUT: watch_take_out(&kqueue->watches); return;
     case FROM_FILES: files_sample(); break;
     case FROM_PROCESS: process_ended(number); break;
     case FROM_WAKE:
@@ -209,7 +199,7 @@ static void observe(struct kqueue *kqueue) {
         count = epoll_wait(kqueue->fd, found, TAKEN, 0);
         take(kqueue, found, count, false);
     } while (count == TAKEN);
-    watch_sample_hot(&kqueue->watches, &kqueue->shadow);
+    watch_sample_hot(&kqueue->watches);
 }
 
 /* ---- the wait */
@@ -225,7 +215,7 @@ static int wait_for(int epoll, struct epoll_event *found, const struct timespec 
 
 /* The time from now on until the call's end or the next timer; false: there is neither. */
 static bool is_limited(const struct call *call, struct timespec *left) {
-    int64_t next = shadow_next(&call->kqueue->shadow, world_clock());
+    int64_t next = call->kqueue->has_timers ? record_next((uint32_t)call->kqueue->fd) : INT64_MAX;
     int64_t until = next < call->end ? next : call->end;
     if (until == INT64_MAX)
         return false;
@@ -263,7 +253,7 @@ static int wait_once(struct call *call) {
     struct kqueue *kqueue = call->kqueue;
     struct epoll_event found[TAKEN];
     unsigned long heard = signals_heard(), handled = signals_handled(), drops = world_drops();
-    kqueue_set_pending(kqueue, false);
+    kqueue_say_none(kqueue);
     int count = sleep_in(call, found), error = count < 0 ? errno : 0;
     if (kqueue->is_closed)
         return EBADF;
@@ -275,7 +265,7 @@ static int wait_once(struct call *call) {
     if (count < 0 || count == TAKEN)
         observe(kqueue);
     else
-        watch_sample_hot(&kqueue->watches, &kqueue->shadow);
+        watch_sample_hot(&kqueue->watches);
     return error == EINTR && (signals_heard() == heard || signals_handled() != handled) ? EINTR : 0;
 }
 
@@ -300,8 +290,8 @@ static int run(struct call *call) {
     kqueue->watches.round++;
     int error = make_changes(call), interrupted = 0;
     /* Where nothing can wait in the queue, and nothing was ready, the wait does for the samples too. */
-    bool is_wait_first = call->count == 0 && kqueue->watches.hot_count == 0 && !shadow_may_wait(&kqueue->shadow) &&
-                         call->end != 0 && call->room > 0;
+    bool is_wait_first = call->count == 0 && kqueue->watches.hot_count == 0 && call->end != 0 && call->room > 0 &&
+                         !record_is_pending((uint32_t)kqueue->fd);
     if (error == 0 && !is_wait_first) {
         if (call->room > 0)
             observe(kqueue);
@@ -361,7 +351,7 @@ static int enter(struct call *call, int kq, const struct kevent *changelist, siz
     int error = run(call);
     struct kqueue *kqueue = call->kqueue;
     if (!kqueue->is_closed)
-        kqueue_set_pending(kqueue, kqueue->watches.hot_count > 0 || shadow_may_wait(&kqueue->shadow));
+        kqueue_say_pending(kqueue);
     else if (kqueue->waiting == 0)
         kqueue_free(kqueue);
     return error;

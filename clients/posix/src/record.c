@@ -19,6 +19,18 @@ static bool is_debugged;
 
 uint64_t records_told(void) { return told; }
 
+int64_t record_next(uint32_t kq) {
+    int64_t next = -1;
+    kqsim_next(system_of, self, kq, &next);
+    return next < 0 ? INT64_MAX : next;
+}
+
+bool record_is_pending(uint32_t kq) {
+    uint32_t count = 0;
+    kqsim_pending(system_of, self, kq, 1, &count);
+    return count > 0;
+}
+
 int record_begin(uint32_t pid, bool is_child) {
     is_debugged = getenv("KQSIM_DEBUG") != NULL;
     if (kqsim_new(2, &system_of) != KQSIM_OK)

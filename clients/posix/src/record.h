@@ -24,6 +24,10 @@ int record_begin(uint32_t pid, bool is_child);
 void record_forget(void);
 /* How many records were told, but calls. */
 uint64_t records_told(void);
+/* The first moment after the system's clock at which a timer of the kqueue expires; INT64_MAX where none does. */
+int64_t record_next(uint32_t kq);
+/* Whether a call would be given an event now. */
+bool record_is_pending(uint32_t kq);
 
 int record_process(uint32_t pid);
 int record_exit(uint32_t pid, uint32_t status);

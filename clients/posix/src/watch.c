@@ -13,7 +13,8 @@ enum { TAKEN = 256 };
 
 /* What is watched of one number. */
 struct watch {
-    bool is_in, is_out; /* it stands in that epoll */
+    unsigned char filters; /* that it may have; exact but after a call that failed */
+    bool is_in, is_out;    /* it stands in that epoll */
     unsigned char hot;  /* filters whose condition may hold */
     unsigned char cold; /* filters whose event was given and reset, and of which nothing was heard since */
     int place;          /* in the list of hot ones, from 1; or 0 */
@@ -39,6 +40,15 @@ static struct watch *watch_made(struct watches *watches, int fd) {
     return &watches->all[fd];
 }
 
+unsigned char filter_bit(short filter) {
+    switch (filter) {
+    case EVFILT_READ: return READ_FILTER;
+    case EVFILT_WRITE: return WRITE_FILTER;
+    case EVFILT_VNODE: return VNODE_FILTER;
+    default: return 0;
+    }
+}
+
 /* ---- the epolls */
 
 int watch_source(int epoll, int fd, enum source source, uint32_t number, uint32_t events) {
@@ -56,11 +66,17 @@ int watches_begin(struct watches *watches, int in) {
     return watches->out < 0 ? errno : watch_source(in, watches->out, FROM_OUT, 0, EPOLLIN | EPOLLET);
 }
 
-int watch_begin(struct watches *watches, int fd, unsigned char bit) {
+int watch_expect(struct watches *watches, int fd, unsigned char bit) {
     struct watch *watch = watch_made(watches, fd);
-    const struct thing *thing = thing_at((uintptr_t)fd);
     if (watch == NULL)
         return ENOMEM;
+    watch->filters |= bit;
+    return 0;
+}
+
+int watch_begin(struct watches *watches, int fd, unsigned char bit) {
+    struct watch *watch = &watches->all[fd];
+    const struct thing *thing = thing_at((uintptr_t)fd);
     bool is_writing = bit == WRITE_FILTER, *is_there = is_writing ? &watch->is_out : &watch->is_in;
     /* (what has no inode of its own may have been closed, and nobody said so) */
     if (*is_there && thing != NULL && thing->kind != OTHER)
@@ -84,18 +100,18 @@ static bool is_writable(const struct thing *thing) {
     return thing->is_shut[1] || (thing->is_connected && !thing->is_full);
 }
 
-static unsigned char heat_of(const struct watch *watch, const struct shadow *shadow, int fd) {
+static unsigned char heat_of(const struct watch *watch, int fd) {
     const struct thing *thing = thing_at((uintptr_t)fd);
-    unsigned char filters = shadow_filters(shadow, fd), hot = 0;
+    unsigned char hot = 0;
     if (thing == NULL)
         return 0;
     if (thing->kind == REGULAR)
-        return filters & READ_FILTER; /* (lseek(2) is no edge) */
+        return watch->filters & READ_FILTER; /* (lseek(2) is no edge) */
     if (is_readable(thing))
         hot |= READ_FILTER;
     if (is_writable(thing))
         hot |= WRITE_FILTER;
-    return hot & filters & (unsigned char)~watch->cold;
+    return hot & watch->filters & (unsigned char)~watch->cold;
 }
 
 static bool has_hot_room(struct watches *watches) {
@@ -115,11 +131,11 @@ static bool has_hot_room(struct watches *watches) {
 }
 
 /* Puts it into the list of hot ones, or takes it out. */
-static void heat(struct watches *watches, const struct shadow *shadow, int fd) {
+static void heat(struct watches *watches, int fd) {
     struct watch *watch = watch_at(watches, fd);
     if (watch == NULL)
         return;
-    watch->hot = heat_of(watch, shadow, fd);
+    watch->hot = heat_of(watch, fd);
     if (watch->hot != 0 && watch->place == 0) {
         if (!has_hot_room(watches))
             return; /* (it is sampled at its next edge) */
@@ -133,80 +149,84 @@ static void heat(struct watches *watches, const struct shadow *shadow, int fd) {
     }
 }
 
-void watch_changed(struct watches *watches, const struct shadow *shadow, int fd, unsigned char bit) {
-    struct watch *watch = watch_made(watches, fd);
+void watch_changed(struct watches *watches, const struct kevent *change, unsigned char bit, bool is_sure) {
+    int fd = (int)change->ident;
+    struct watch *watch = watch_at(watches, fd);
     if (watch == NULL)
         return;
+    if (is_sure && change->flags & EV_DELETE)
+        watch->filters &= (unsigned char)~bit;
     watch->cold &= (unsigned char)~bit;
-    heat(watches, shadow, fd);
+    heat(watches, fd);
 }
 
-void watch_given(struct watches *watches, const struct shadow *shadow, const struct kevent *event, unsigned char bit) {
+void watch_given(struct watches *watches, const struct kevent *event, unsigned char bit) {
     int fd = (int)event->ident;
     const struct thing *thing = thing_at(event->ident);
     struct watch *watch = watch_at(watches, fd);
     if (thing == NULL || watch == NULL)
         return;
+    if (event->flags & EV_ONESHOT)
+        watch->filters &= (unsigned char)~bit;
     if (event->flags & (EV_CLEAR | EV_DISPATCH))
         watch->cold |= bit;
     if (event->flags & EV_CLEAR && bit == READ_FILTER) {
         watch->was_given = true;
         watch->given_at = thing->arrivals;
     }
-    heat(watches, shadow, fd);
+    heat(watches, fd);
 }
 
 /* ---- samples */
 
-static void take(struct watches *watches, const struct shadow *shadow, int fd, uint32_t found, unsigned asked) {
+static void take(struct watches *watches, int fd, uint32_t found, unsigned asked) {
     struct watch *watch = watch_at(watches, fd);
     struct thing *thing = thing_at((uintptr_t)fd);
-    unsigned char filters = shadow_filters(shadow, fd);
     if (watch == NULL || thing == NULL)
         return;
-    if (filters == 0) {
-        watch_end(watches, shadow, fd);
+    if (watch->filters == 0) {
+        watch_end(watches, fd);
         return;
     }
     watch->cold &= (unsigned char)~(asked & POLLOUT ? WRITE_FILTER : READ_FILTER | VNODE_FILTER);
-    if (!(filters & WRITE_FILTER) || asked & POLLOUT)
+    if (!(watch->filters & WRITE_FILTER) || asked & POLLOUT)
         watch->round = watches->round; /* (else the other side is still to be asked) */
     bool is_after_event = watch->was_given && watch->given_at == thing->arrivals;
     sample(thing, found, asked, is_after_event ? EDGE_AFTER_EVENT : EDGE);
-    heat(watches, shadow, fd);
+    heat(watches, fd);
 }
 
-void watch_take_in(struct watches *watches, const struct shadow *shadow, int fd, uint32_t found) {
-    take(watches, shadow, fd, found, POLLIN | POLLRDHUP);
+void watch_take_in(struct watches *watches, int fd, uint32_t found) {
+    take(watches, fd, found, POLLIN | POLLRDHUP);
 }
 
-void watch_take_out(struct watches *watches, const struct shadow *shadow) {
+void watch_take_out(struct watches *watches) {
     struct epoll_event found[TAKEN];
     int count;
     do {
         count = epoll_wait(watches->out, found, TAKEN, 0);
         for (int i = 0; i < count; i++)
-            take(watches, shadow, (int)(uint32_t)found[i].data.u64, found[i].events, POLLOUT);
+            take(watches, (int)(uint32_t)found[i].data.u64, found[i].events, POLLOUT);
     } while (count == TAKEN);
 }
 
 /* The hot ones that were not sampled in this round; their number. */
-static nfds_t ask_hot(struct watches *watches, const struct shadow *shadow) {
+static nfds_t ask_hot(struct watches *watches) {
     nfds_t count = 0;
     for (size_t i = 0; i < watches->hot_count; i++) {
         int fd = watches->hot[i];
         if (watches->all[fd].round == watches->round)
             continue;
         short events = POLLIN | POLLRDHUP;
-        if (shadow_filters(shadow, fd) & WRITE_FILTER)
+        if (watches->all[fd].filters & WRITE_FILTER)
             events |= POLLOUT;
         watches->asked[count++] = (struct pollfd){.fd = fd, .events = events};
     }
     return count;
 }
 
-void watch_sample_hot(struct watches *watches, const struct shadow *shadow) {
-    nfds_t count = ask_hot(watches, shadow);
+void watch_sample_hot(struct watches *watches) {
+    nfds_t count = ask_hot(watches);
     if (count == 0 || poll_now(watches->asked, count) < 0)
         return;
     for (nfds_t i = 0; i < count; i++) {
@@ -216,14 +236,14 @@ void watch_sample_hot(struct watches *watches, const struct shadow *shadow) {
             world_drop(one.fd);
         else if (thing != NULL) {
             sample(thing, (unsigned)one.revents, (unsigned)one.events, NO_EDGE);
-            heat(watches, shadow, one.fd);
+            heat(watches, one.fd);
         }
     }
 }
 
 /* ---- ends */
 
-void watch_end(struct watches *watches, const struct shadow *shadow, int fd) {
+void watch_end(struct watches *watches, int fd) {
     struct watch *watch = watch_at(watches, fd);
     if (watch == NULL)
         return;
@@ -232,9 +252,9 @@ void watch_end(struct watches *watches, const struct shadow *shadow, int fd) {
         epoll_ctl(watches->in, EPOLL_CTL_DEL, fd, NULL);
     if (watch->is_out)
         epoll_ctl(watches->out, EPOLL_CTL_DEL, fd, NULL);
-    watch->cold = 0;
+    watch->filters = watch->cold = 0;
     watch->is_in = watch->is_out = watch->was_given = false;
-    heat(watches, shadow, fd);
+    heat(watches, fd);
 }
 
 void watches_end(struct watches *watches) {

@@ -16,7 +16,10 @@
 #include <stdint.h>
 #include <sys/epoll.h>
 
-#include "shadow.h"
+#include "sys/event.h"
+
+/* Filters of a descriptor. */
+enum { READ_FILTER = 1, WRITE_FILTER = 2, VNODE_FILTER = 4 };
 
 /* What stands in the epoll of a kqueue. */
 enum source { FROM_DESCRIPTOR, FROM_OUT, FROM_WAKE, FROM_SIGNALS, FROM_FILES, FROM_PROCESS, FROM_PENDING };
@@ -35,18 +38,22 @@ struct watches {
 int watch_source(int epoll, int fd, enum source source, uint32_t number, uint32_t events);
 /* `in` is the kqueue's own descriptor: 0, or an errno. */
 int watches_begin(struct watches *watches, int in);
-/* Begins to watch an open descriptor for a filter: 0, or an errno. */
+/* The bit of a filter of a descriptor; 0 of another filter. */
+unsigned char filter_bit(short filter);
+/* A change that adds a filter of an open descriptor is about to be made: 0, or an errno. */
+int watch_expect(struct watches *watches, int fd, unsigned char bit);
+/* Begins to watch it, where edges tell of its kind: 0, or an errno. */
 int watch_begin(struct watches *watches, int fd, unsigned char bit);
-/* A change of the filter, or its event with EV_CLEAR or EV_DISPATCH, was made. */
-void watch_changed(struct watches *watches, const struct shadow *shadow, int fd, unsigned char bit);
-void watch_given(struct watches *watches, const struct shadow *shadow, const struct kevent *event, unsigned char bit);
-/* The number has no filters any more. */
-void watch_end(struct watches *watches, const struct shadow *shadow, int fd);
+/* A change of the filter was made, or, where that is not sure, may have been; or its event was given. */
+void watch_changed(struct watches *watches, const struct kevent *change, unsigned char bit, bool is_sure);
+void watch_given(struct watches *watches, const struct kevent *event, unsigned char bit);
+/* The number is gone, or has no filters any more. */
+void watch_end(struct watches *watches, int fd);
 void watches_end(struct watches *watches);
 
 /* Samples a descriptor with an edge of reading, or all with an edge of writing. */
-void watch_take_in(struct watches *watches, const struct shadow *shadow, int fd, uint32_t found);
-void watch_take_out(struct watches *watches, const struct shadow *shadow);
-void watch_sample_hot(struct watches *watches, const struct shadow *shadow);
+void watch_take_in(struct watches *watches, int fd, uint32_t found);
+void watch_take_out(struct watches *watches);
+void watch_sample_hot(struct watches *watches);
 
 #endif

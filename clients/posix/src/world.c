@@ -91,8 +91,6 @@ static int64_t nanoseconds(clockid_t clock) {
 
 int64_t world_now(void) { return base + nanoseconds(CLOCK_MONOTONIC); }
 
-int64_t world_clock(void) { return told; }
-
 void world_tell_clock(void) {
     int64_t now = world_now();
     if (now > told && record_clock(now) == KQSIM_OK)
@@ -125,15 +123,25 @@ void kqueue_wake_others(const struct kqueue *but) {
             kqueue_wake(kqueue);
 }
 
-void kqueue_set_pending(struct kqueue *kqueue, bool is_pending) {
+static void set_pending(struct kqueue *kqueue, bool is_pending) {
     uint64_t count;
-    if (kqueue->pending < 0 || is_pending == kqueue->is_pending)
+    if (is_pending == kqueue->is_pending)
         return;
     kqueue->is_pending = is_pending;
     if (is_pending)
         ring(kqueue->pending);
     else if (read(kqueue->pending, &count, sizeof count) < 0)
         return; /* (it was not readable) */
+}
+
+void kqueue_say_pending(struct kqueue *kqueue) {
+    if (kqueue->pending >= 0)
+        set_pending(kqueue, kqueue->watches.hot_count > 0 || record_is_pending((uint32_t)kqueue->fd));
+}
+
+void kqueue_say_none(struct kqueue *kqueue) {
+    if (kqueue->pending >= 0)
+        set_pending(kqueue, false);
 }
 
 void kqueue_free(struct kqueue *kqueue) {
@@ -151,7 +159,6 @@ static void kqueue_end(struct kqueue *kqueue) {
         if (kqueue->signals >> number & 1)
             signal_unwatch(number);
     watches_end(&kqueue->watches);
-    shadow_end(&kqueue->shadow);
     own_close(kqueue->pending);
     kqueue->is_closed = true;
     if (kqueue->waiting > 0)
@@ -254,10 +261,8 @@ void world_drop(int fd) {
     }
     if (fd < 0 || thing_at((uintptr_t)fd) == NULL)
         return;
-    for (kqueue = kqueues; kqueue != NULL; kqueue = kqueue->next) {
-        shadow_forget(&kqueue->shadow, fd);
-        watch_end(&kqueue->watches, &kqueue->shadow, fd);
-    }
+    for (kqueue = kqueues; kqueue != NULL; kqueue = kqueue->next)
+        watch_end(&kqueue->watches, fd);
     thing_forget(fd);
 }
 
@@ -310,8 +315,7 @@ static void forget_kqueues(void) {
         real_close(kqueue->fd);
         kqueue->watches.out = -1; /* (own_close_all has closed it) */
         watches_end(&kqueue->watches);
-        shadow_end(&kqueue->shadow);
-        free(kqueue);
+            free(kqueue);
     }
 }
 
@@ -319,7 +323,6 @@ static void forget_kqueues(void) {
 static void in_child(void) {
     own_close_all();
     forget_kqueues();
-    shadow_forget_timers();
     things_forget_all();
     signals_forget_all();
     files_forget_all();

@@ -5,7 +5,6 @@
 #include <stdbool.h>
 #include <stdint.h>
 
-#include "shadow.h"
 #include "watch.h"
 
 struct kqueue {
@@ -14,9 +13,8 @@ struct kqueue {
     int wake;    /* an eventfd: another thread made a change */
     int pending; /* with KQSIM_POLLABLE an eventfd that is readable while events may wait; or -1 */
     struct watches watches;
-    struct shadow shadow;
     uint64_t signals; /* that are watched: a bit each */
-    bool has_signals, has_files, is_pending;
+    bool has_signals, has_files, has_timers, is_pending; /* has: it has, or had */
     bool is_closed; /* the last of those that wait frees it */
     unsigned waiting;
 };
@@ -35,16 +33,16 @@ struct kqueue *kqueue_at(int fd);
 void kqueue_wake(struct kqueue *kqueue);
 /* Wakes one at each other kqueue: what another has sampled may be theirs too, and no edge says so. */
 void kqueue_wake_others(const struct kqueue *but);
-/* Says whether events may wait, where KQSIM_POLLABLE is set. */
-void kqueue_set_pending(struct kqueue *kqueue, bool is_pending);
+/* Says whether events may wait, where KQSIM_POLLABLE is set; before a wait none do. */
+void kqueue_say_pending(struct kqueue *kqueue);
+void kqueue_say_none(struct kqueue *kqueue);
 void kqueue_free(struct kqueue *kqueue);
 /* A number is gone, or of another thing; and how often that was. */
 void world_drop(int fd);
 unsigned long world_drops(void);
 /* The clock of the trace: the time of day when the first kqueue was made, and monotonic from there. */
 int64_t world_now(void);
-/* The clock that the system has; and tells it the present one. */
-int64_t world_clock(void);
+/* Tells the system the present clock. */
 void world_tell_clock(void);
 
 /* ---- without the lock */
