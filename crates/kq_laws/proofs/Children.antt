@@ -1,41 +1,46 @@
 -- A fork brings a knote for the child to each kqueue whose knote of the parent follows.
 use Rattle.std.proofs.Common.{◌≡◌, ℕ, ◌+◌, ◌==◌, Bool, true, false, cond, not, ◌||◌, List, [], ◌∷◌, ◌++◌, map, filter, Option, Some, None, refl, sym, ap, ◌∙◌, subst}
 use Rattle.std.proofs.lemmas.Bool.{cond_both, true≢false}
+use Rattle.std.proofs.lemmas.List.{map-append}
 use Rattle.std.proofs.lemmas.List.Elements.{All-nil, All-cons, All-head, All-tail, All-filter, All-map}
 use Rattle.std.proofs.lemmas.Option.{none-some}
 use Rattle.std.specs.List.{All, list_any}
-use Rattle.std.specs.Option.{option_and_then}
+use Rattle.std.specs.Option.{is_some, option_and_then}
 use Rattle.kq_model.specs.declared.event.Event.{Event}
 use Rattle.kq_model.specs.declared.event.Event.TheVariants as event
 use Rattle.kq_model.specs.declared.filter.Filter.{Filter}
 use Rattle.kq_model.specs.declared.filter.Filter.TheVariants.{Proc}
+use Rattle.kq_model.specs.declared.key.Key.{Key}
 use Rattle.kq_model.specs.declared.object.Hint.{Hint}
 use Rattle.kq_model.specs.declared.object.Hint.TheVariants.{Note, Child}
 use Rattle.kq_model.specs.declared.object.Target.TheVariants.{Process}
 use Rattle.kq_model.specs.Bits.{fork_note}
-use Rattle.kq_model.specs.ChangedKnote.{activated}
 use Rattle.kq_model.specs.Clock.{clocked}
 use Rattle.kq_model.specs.Close.{has_pair}
-use Rattle.kq_model.specs.Following.{Fork, process_key, follows, is_follower, tracks, child_knote, heir, with_heir, all_forks, forks_of, followed_each, followed}
-use Rattle.kq_model.specs.Hints.{is_exit, takes, hints_for, added, kept, heard_by, hears_exit, unless_silent, alerted, notified}
+use Rattle.kq_model.specs.Following.{Fork, process_key, follows, child_knote, heir, with_heir, all_forks, forks_of, followed_each, followed}
+use Rattle.kq_model.specs.HintLaws.{begins_to_wait}
+use Rattle.kq_model.specs.Hints.{is_exit, takes, hints_for, hears_exit, alerted, if_there, knotes_alerted, notified}
 use Rattle.kq_model.specs.Knote.{find_knote}
-use Rattle.kq_model.specs.Kqueue.{IsSound}
-use Rattle.kq_model.specs.Look.{Seen, look}
+use Rattle.kq_model.specs.Kqueue.{IsSound, is_waiting}
 use Rattle.kq_model.specs.Moment.{Moment, moment_of, happened, after_call, kqueue_step}
 use Rattle.kq_model.specs.Plans.{plan}
 use Rattle.kq_model.specs.Processes.{is_live, was_used}
 use Rattle.kq_model.specs.ProcessPlans.{noted, forked, plan_fork}
+use Rattle.kq_model.specs.Registration.{queue_for, with_made}
+use Rattle.kq_model.specs.RegistrationLaws.{is_there, keys_of}
 use Rattle.kq_model.specs.System.{stepped, lived, born, step_by, step}
 use Rattle.kq_model.specs.Tallied.{Knote, Kqueue, Live, System, World}
 use Rattle.kq_model.specs.Targets.{Posted, is_target}
 use Rattle.kq_model.specs.Views.{Views}
 use Rattle.kq_model.specs.World.{Plan, Planned, Impossible, Possible, seen_world, views_of}
-use Rattle.kq_model.proofs.HintLaws.{find_knote-alerting}
+use Rattle.kq_model.proofs.HintLaws.{find_knote-alerting, notified-law}
 use Rattle.kq_model.proofs.KeyLaws.{key_eq-refl}
+use Rattle.kq_model.proofs.KeyLists.{filter_agree_among, filter_true}
 use Rattle.kq_model.proofs.KnoteLaws.{by_test, found_or, find_knote-append, find_knote-here}
 use Rattle.kq_system.proofs.QuietLemmas.{closed_none}
 use Rattle.kq_laws.specs.Children.{AwaitsChild, AwaitsThere, FollowsChildren}
 use Rattle.kq_laws.specs.Runs.{find_live}
+use Rattle.kq_laws.proofs.Lasting.{Lasting, lasting, follows-as, Stays, stays-alerted}
 use Rattle.kq_laws.proofs.Lives.{IsReady, ready-led}
 use Rattle.kq_laws.proofs.RunCalls.{live-is}
 
@@ -58,7 +63,7 @@ child-no_exit Proc child = refl
 child-no_exit _ child = refl
 
 module _ (pid child : ℕ) where
-  abbrev told : List Posted
+  abbrev pub told : List Posted
   told = forked pid child
 
   told-no_exit : (k : Knote) → hears_exit (hints_for k told) k ≡ false
@@ -74,94 +79,147 @@ module _ (pid child : ℕ) where
       (All-cons (λ (p : Posted). is_none p.1) (Process pid, Child child) [] (child-no_exit k.key.filter child)
       (All-nil (λ (p : Posted). is_none p.1)))))))
 
-  follows-added : (hint : Option Hint) (k : Knote) → follows pid (added hint k) ≡ follows pid k
-  unfolding added
-  follows-added None k = refl
-  follows-added (Some hint) k = refl
+  pub stays-told : (views : Views) (k : Knote) → Stays k (alerted views (hints_for k told) k)
+  stays-told views k = stays-alerted views (hints_for k told) k (told-no_exit k)
 
-  follows-heard : (hints : List Hint) (k : Knote) → follows pid (heard_by hints k) ≡ follows pid k
-  unfolding heard_by
-  follows-heard [] k = refl
-  follows-heard (hint ∷ hints) k =
-      follows-heard hints (added (kept k.fflags hint) k) ∙ follows-added (kept k.fflags hint) k
+  -- ---- so the kqueue keeps its knotes, in their order, and its queue
 
-  follows-activated : (seen : Option Seen) (k : Knote) → follows pid (activated seen k) ≡ follows pid k
-  unfolding activated
-  follows-activated None k = refl
-  follows-activated (Some seen) k = refl
+  keys-there : (k : Knote) (found : Option Knote) (rest : List Knote) → Stays k found
+      → keys_of (if_there found ++ rest) ≡ k.key ∷ keys_of rest
+  unfolding if_there
+  keys-there k None rest stays = absurd stays
+  keys-there k (Some x) rest stays = ap (λ key. key ∷ keys_of rest) (ap (λ (p : Lasting). p.key) stays)
 
-  still-follows : (views : Views) (hints : List Hint) (k : Knote) → hears_exit hints k ≡ false → follows pid k ≡ true
-      → is_follower pid (alerted views hints k) ≡ true
-  unfolding alerted is_follower unless_silent
-  still-follows views [] k none does = does
-  still-follows views (hint ∷ hints) k none does =
-      let heard = heard_by (hint ∷ hints) k in
-      ap (λ b. is_follower pid (unless_silent b (activated (look views heard) heard))) none
-      ∙ follows-activated (look views heard) heard ∙ follows-heard (hint ∷ hints) k ∙ does
+  same_keys : (views : Views) (ks : List Knote) → keys_of (knotes_alerted views told ks) ≡ keys_of ks
+  unfolding knotes_alerted
+  same_keys views [] = refl
+  same_keys views (k ∷ ks) =
+      keys-there k (alerted views (hints_for k told) k) (knotes_alerted views told ks) (stays-told views k)
+      ∙ ap (λ keys. k.key ∷ keys) (same_keys views ks)
 
-  found-follows : (views : Views) (found : Option Knote) → is_follower pid found ≡ true
-      → is_follower pid (option_and_then (λ (k : Knote). alerted views (hints_for k told) k) found) ≡ true
-  unfolding is_follower
-  found-follows views None does = absurd (true≢false (sym does))
-  found-follows views (Some k) does = still-follows views (hints_for k told) k (told-no_exit k) does
+  module _ (views : Views) (kq : Kqueue) (sound : IsSound kq) where
+    abbrev pub heard : Kqueue
+    heard = notified views told kq
 
-  still-tracks : (views : Views) (kq : Kqueue) → IsSound kq → tracks pid kq ≡ true
-      → tracks pid (notified views told kq) ≡ true
-  unfolding notified
-  still-tracks views kq sound does =
-      ap (is_follower pid) (find_knote-alerting views told (process_key pid) kq.knotes sound.own_keys)
-      ∙ found-follows views (find_knote (process_key pid) kq.knotes) does
+    abbrev pub left : Option Knote → Option Knote
+    left found = option_and_then (λ (k : Knote). alerted views (hints_for k told) k) found
 
-  still-none : (views : Views) (kq : Kqueue) → IsSound kq → find_knote (process_key child) kq.knotes ≡ None
-      → find_knote (process_key child) (notified views told kq).knotes ≡ None
-  unfolding notified
-  still-none views kq sound none =
-      find_knote-alerting views told (process_key child) kq.knotes sound.own_keys
-      ∙ ap (option_and_then (λ (k : Knote). alerted views (hints_for k told) k)) none
+    pub found-left : (key : Key) → find_knote key heard.knotes ≡ left (find_knote key kq.knotes)
+    unfolding notified
+    found-left key = find_knote-alerting views told key kq.knotes sound.own_keys
+
+    there : (k : Knote) (found : Option Knote) → Stays k found → is_some found ≡ true
+    there k None stays = absurd stays
+    there k (Some x) stays = refl
+
+    waiting-there : (found : Option Knote) → is_waiting found ≡ true → is_some (left found) ≡ true
+    unfolding is_waiting
+    waiting-there None waits = absurd (true≢false (sym waits))
+    waiting-there (Some k) waits = there k (alerted views (hints_for k told) k) (stays-told views k)
+
+    abbrev beginning : List Key
+    beginning = keys_of (filter (begins_to_wait kq.queue) heard.knotes)
+
+    same_queue : heard.queue ≡ kq.queue ++ beginning
+    same_queue =
+        (notified-law views told kq sound).queue
+        ∙ ap (λ queue. queue ++ beginning)
+        (filter_agree_among (λ key. is_there key heard) (λ _. true) kq.queue
+        (λ key waits. ap is_some (found-left key)
+        ∙ waiting-there (find_knote key kq.knotes) (sym (sound.waiting key) ∙ waits))
+        ∙ filter_true kq.queue)
+
+    heard-sound : IsSound heard
+    heard-sound = (notified-law views told kq sound).sound
+
+    heard-keys : keys_of heard.knotes ≡ keys_of kq.knotes
+    unfolding notified
+    heard-keys = same_keys views kq.knotes
+
+    still-none : find_knote (process_key child) kq.knotes ≡ None → find_knote (process_key child) heard.knotes ≡ None
+    still-none none = found-left (process_key child) ∙ ap left none
 
   -- ---- the child is followed
 
-  abbrev this_fork : Fork
+  abbrev pub this_fork : Fork
   this_fork = record { parent = pid; child = child }
 
-  heir-awaits : (parent present : Option Knote) (q : Kqueue) → is_follower pid parent ≡ true → present ≡ None
+  made-awaits : (parent x : Knote) (before q : Kqueue) (begins : List Key) → lasting x ≡ lasting parent → IsSound q
+      → keys_of q.knotes ≡ keys_of before.knotes → q.queue ≡ before.queue ++ begins
       → find_knote (process_key child) q.knotes ≡ None
-      → AwaitsChild this_fork (with_heir (heir this_fork parent present) q)
-  unfolding heir with_heir is_follower
-  heir-awaits None present q does none absent = absurd (true≢false (sym does))
-  heir-awaits (Some x) (Some y) q does none absent = absurd (none-some y (sym none))
-  heir-awaits (Some x) None q does none absent =
+      → AwaitsChild this_fork parent before (with_made (child_knote this_fork x) q)
+  unfolding queue_for is_waiting
+  made-awaits parent x before q begins same sound order behind absent =
       let made = child_knote this_fork x in
-      subst (λ b. AwaitsChild this_fork (with_heir (cond b (Some made) None) q)) (sym does)
-      (record {
+      let key = process_key child in
+      record {
         knote = made;
-        found = find_knote-append (process_key child) q.knotes (made ∷ [])
-            ∙ ap (λ (o : Option Knote). found_or o (find_knote (process_key child) (made ∷ []))) absent
-            ∙ find_knote-here (process_key child) made [] (key_eq-refl (process_key child));
-        enabled = refl;
-        notice = refl;
-      })
+        heir = record {
+          key = refl;
+          target = refl;
+          fflags = ap (λ (p : Lasting). p.fflags) same;
+          datum = ap (λ (p : Lasting). p.datum) same;
+          udata = ap (λ (p : Lasting). p.udata) same;
+          oneshot = ap (λ (p : Lasting). p.oneshot) same;
+          clear = ap (λ (p : Lasting). p.clear) same;
+          dispatch = ap (λ (p : Lasting). p.dispatch) same;
+          enabled = refl;
+          active = refl;
+          silent = refl;
+          notice = refl;
+        };
+        found = find_knote-append key q.knotes (made ∷ [])
+            ∙ ap (λ (o : Option Knote). found_or o (find_knote key (made ∷ []))) absent
+            ∙ find_knote-here key made [] (key_eq-refl key);
+        last = map-append (λ (k : Knote). k.key) q.knotes (made ∷ []) ∙ ap (λ keys. keys ++ key ∷ []) order;
+        beginning = begins;
+        back = ap (λ b. cond b q.queue (q.queue ++ key ∷ [])) (sound.waiting key ∙ ap is_waiting absent)
+            ∙ ap (λ queue. queue ++ key ∷ []) behind;
+      }
 
-  followed-awaits : (version : ℕ) (q : Kqueue) → (version == 1) ≡ false → tracks pid q ≡ true
-      → find_knote (process_key child) q.knotes ≡ None → AwaitsChild this_fork (followed version told q)
+  heir-awaits : (parent : Knote) (found present : Option Knote) (before q : Kqueue) (begins : List Key)
+      → Stays parent found → follows pid parent ≡ true → present ≡ None → IsSound q
+      → keys_of q.knotes ≡ keys_of before.knotes → q.queue ≡ before.queue ++ begins
+      → find_knote (process_key child) q.knotes ≡ None
+      → AwaitsChild this_fork parent before (with_heir (heir this_fork found present) q)
+  unfolding heir with_heir
+  heir-awaits parent None present before q begins stays does none sound order behind absent = absurd stays
+  heir-awaits parent (Some x) (Some y) before q begins stays does none sound order behind absent =
+      absurd (none-some y (sym none))
+  heir-awaits parent (Some x) None before q begins stays does none sound order behind absent =
+      let made = child_knote this_fork x in
+      subst (λ b. AwaitsChild this_fork parent before (with_heir (cond b (Some made) None) q))
+      (sym (follows-as pid x parent stays ∙ does))
+      (made-awaits parent x before q begins stays sound order behind absent)
+
+  followed-awaits : (views : Views) (version : ℕ) (kq : Kqueue) (parent : Knote) → (version == 1) ≡ false → IsSound kq
+      → find_knote (process_key pid) kq.knotes ≡ Some parent → follows pid parent ≡ true
+      → find_knote (process_key child) kq.knotes ≡ None
+      → AwaitsChild this_fork parent kq (followed version told (notified views told kq))
   unfolding all_forks forks_of followed_each
-  followed-awaits version q later does none =
-      subst (λ b. AwaitsChild this_fork (followed_each (cond b [] (all_forks told)) q)) (sym later)
-      (heir-awaits (find_knote (process_key pid) q.knotes) (find_knote (process_key child) q.knotes) q does none none)
+  followed-awaits views version kq parent later sound here does none =
+      let q = notified views told kq in
+      let absent = still-none views kq sound none in
+      subst (λ b. AwaitsChild this_fork parent kq (followed_each (cond b [] (all_forks told)) q)) (sym later)
+      (heir-awaits parent (find_knote (process_key pid) q.knotes) (find_knote (process_key child) q.knotes) kq q
+      (beginning views kq sound)
+      (subst (Stays parent) (sym (found-left views kq sound (process_key pid) ∙ ap (left views kq sound) here))
+      (stays-told views parent))
+      does absent (heard-sound views kq sound) (heard-keys views kq sound) (same_queue views kq sound) absent)
 
   -- ---- the record
 
-  record OnlyForks (p : Plan) : Type 0 where
-    closed : p.closed ≡ []
-    told : p.hints ≡ told
-    call : p.call ≡ None
-    clock : p.clock ≡ None
+  pub record OnlyForks (p : Plan) : Type 0 where
+    pub closed : p.closed ≡ []
+    pub told : p.hints ≡ told
+    pub call : p.call ≡ None
+    pub clock : p.clock ≡ None
 
-  abbrev IfForks : Planned → Type 0
+  abbrev pub IfForks : Planned → Type 0
   IfForks (Impossible why) = Unit {0}
   IfForks (Possible p) = OnlyForks p
 
-  only-forks : (place : ℕ) (w : World) → IfForks (plan place (event.Fork pid child) w)
+  pub only-forks : (place : ℕ) (w : World) → IfForks (plan place (event.Fork pid child) w)
   unfolding plan plan_fork
   only-forks place w =
       cond_both (not (is_live pid w.processes)) _ _ IfForks (λ _. tt)
@@ -170,21 +228,21 @@ module _ (pid child : ℕ) where
 
   module _ (m : Moment) (shut : m.closed ≡ []) (hints : m.hints ≡ told) (call : m.call ≡ None)
       (clock : m.clock ≡ None) where
-    happened-awaits : (owner : ℕ) (kq : Kqueue) → (m.version == 1) ≡ false → IsSound kq → tracks pid kq ≡ true
-        → find_knote (process_key child) kq.knotes ≡ None → AwaitsChild this_fork (happened owner m kq)
+    happened-awaits : (owner : ℕ) (kq : Kqueue) (parent : Knote) → (m.version == 1) ≡ false → IsSound kq
+        → find_knote (process_key pid) kq.knotes ≡ Some parent → follows pid parent ≡ true
+        → find_knote (process_key child) kq.knotes ≡ None → AwaitsChild this_fork parent kq (happened owner m kq)
     unfolding happened clocked
-    happened-awaits owner kq later sound does none = rw (clock, hints, shut)
-        (subst (λ (q : Kqueue). AwaitsChild this_fork (followed m.version told (notified m.views told q)))
-        (sym (closed_none owner kq))
-        (followed-awaits m.version (notified m.views told kq) later (still-tracks m.views kq sound does)
-        (still-none m.views kq sound none)))
+    happened-awaits owner kq parent later sound here does none = rw (clock, hints, shut)
+        (subst (λ (q : Kqueue). AwaitsChild this_fork parent kq (followed m.version told (notified m.views told q)))
+        (sym (closed_none owner kq)) (followed-awaits m.views m.version kq parent later sound here does none))
 
-    stepped-awaits : (l : Live) → (m.version == 1) ≡ false → IsSound l.kq → tracks pid l.kq ≡ true
-        → find_knote (process_key child) l.kq.knotes ≡ None → AwaitsChild this_fork (stepped m l).kq
+    stepped-awaits : (l : Live) (parent : Knote) → (m.version == 1) ≡ false → IsSound l.kq
+        → find_knote (process_key pid) l.kq.knotes ≡ Some parent → follows pid parent ≡ true
+        → find_knote (process_key child) l.kq.knotes ≡ None → AwaitsChild this_fork parent l.kq (stepped m l).kq
     unfolding stepped kqueue_step after_call
-    stepped-awaits l later sound does none =
-        subst (λ c. AwaitsChild this_fork (after_call l.place l.owner m c l.kq)) (sym call)
-        (happened-awaits l.owner l.kq later sound does none)
+    stepped-awaits l parent later sound here does none =
+        subst (λ c. AwaitsChild this_fork parent l.kq (after_call l.place l.owner m c l.kq)) (sym call)
+        (happened-awaits l.owner l.kq parent later sound here does none)
 
 -- ---- its kqueue goes on, where none is closed
 
@@ -212,7 +270,7 @@ found-first place (x ∷ ls) more l is =
 pub follows_children : (applied : ℕ) (e : Event) (old new : System) → new ≡ (step (applied + 1) e old).system
     → FollowsChildren applied e old new
 unfolding step step_by moment_of
-follows_children applied e old new next events led version pid child fork p is l live does none =
+follows_children applied e old new next events led version pid child fork p is l live parent here does none =
     let m = moment_of old.version (applied + 1) p old.world in
     let forks : OnlyForks pid child p =
     subst (IfForks pid child) (ap (λ (x : Event). plan (applied + 1) x (seen_world old.world)) (sym fork) ∙ is)
@@ -220,10 +278,10 @@ follows_children applied e old new next events led version pid child fork p is l
     let before = views_of (seen_world old.world) in
     let ready = live-is (IsReady before) l.place old.live l (ready-led events applied old led) live in
     let later : (old.version == 1) ≡ false = ap (λ (v : ℕ). v == 1) version in
-    subst (AwaitsThere (record { parent = pid; child = child }) l.place)
+    subst (AwaitsThere (record { parent = pid; child = child }) parent l)
     (sym (next ∙ ap (λ (q : Planned). (step_by (applied + 1) q old).system) is)) (
       stepped m l,
       found-first l.place (lived m old.live) (born (applied + 1) p.born) (stepped m l)
           (find-stepped m forks.closed l.place old.live l live),
-      stepped-awaits pid child m forks.closed forks.told forks.call forks.clock l later ready.sound does none,
+      stepped-awaits pid child m forks.closed forks.told forks.call forks.clock l parent later ready.sound here does none,
     )

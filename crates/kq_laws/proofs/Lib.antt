@@ -6,7 +6,6 @@ pub mod ToldByCall
 pub mod ToldOverLife
 pub mod Awake
 pub mod Returned
-pub mod Settled
 pub mod LifeRows
 pub mod Amounts
 pub mod Shown
@@ -28,4 +27,5 @@ pub mod RunCalls
 pub mod RunPlaces
 pub mod RunTold
 pub mod RunRows
+pub mod Lasting
 pub mod Children

@@ -1,7 +1,13 @@
-ghost use Rattle.std.specs.Prelude.{◌≡◌, ℕ, IfOk, OnErr};
+//! One kevent call, with laws over the whole life of its kqueue.
+
+ghost use Rattle.std.specs.Prelude.{◌≡◌, ◌≤◌, ◌+◌, ℕ, length, max, min, IfOk, IsOk, OnErr};
 ghost use Rattle.kq_model.specs.Call as kevent;
-ghost use Rattle.kq_model.specs.Kqueue.{IsSound};
-ghost use Rattle.kq_kevent.specs.Owned.{caller};
+ghost use Rattle.kq_model.specs.CallLaws.{IsAnswer, IsChangesThenPoll, kqueue_after_changes};
+ghost use Rattle.kq_model.specs.Hearing.{listed};
+ghost use Rattle.kq_model.specs.Kqueue.{Kqueue};
+ghost use Rattle.kq_model.specs.Recast.{IsTallied, tallied};
+ghost use Rattle.kq_model.specs.WatchedNumbers.{WatchTheirNumbers};
+ghost use Rattle.kq_kevent.specs.Owned.{caller, limit};
 ghost use Rattle.kq_laws.specs.Timers.{TellsExpirations};
 ghost use Rattle.kq_laws.specs.Wakes.{LosesNoWakeUp};
 
@@ -16,9 +22,6 @@ pub fn call<V: Views>(
     room: u32,
     views: &V,
 ) -> Result<Reply, Memory>
-    ensures called { IfOk result (λ reply. record { kq = kqueue.new.kq; reply = reply }
-        ≡ kevent.call (caller (V.sees views.now) kqueue.old) room changes.now kqueue.old.kq) }
-
     // The data of a timer's event is the number of its expirations since it was last returned or started.
     ensures timers { IfOk result (λ reply. (ident : ℕ)
         → TellsExpirations ident (caller (V.sees views.now) kqueue.old) room changes.now kqueue.old.kq reply) }
@@ -27,20 +30,38 @@ pub fn call<V: Views>(
     // of a child.
     ensures wakes { IfOk result (LosesNoWakeUp (caller (V.sees views.now) kqueue.old) room changes.now kqueue.old.kq) }
 
-    ensures owner { kqueue.new.owner ≡ kqueue.old.owner }
-    ensures version { kqueue.new.version ≡ kqueue.old.version }
-    ensures err { OnErr result (kqueue.new.kq ≡ kqueue.old.kq) }
-{
-    settle(kqueue, views);
-    kqueue.call(changes, room, views)
-}
+    // What follows is what `Kq::call` promises.
+    ensures called { IfOk result (λ reply. record { kq = kqueue.new.kq; reply = reply }
+        ≡ kevent.call (caller (V.sees views.now) kqueue.old) room changes.now kqueue.old.kq) }
 
-/// What each kqueue keeps, told by a notice of nothing, which leaves it as it is.
-fn settle<V: Views>(kqueue: &mut Kq, views: &V)
-    ensures kq { kqueue.new.kq ≡ kqueue.old.kq }
-    ensures sound { IsSound kqueue.new.kq }
+    // The same in the words of the definitions, which keep all that was heard.
+    ensures model { IfOk result (λ reply. (m : Kqueue listed) → kqueue.old.kq ≡ tallied m
+        → IsTallied kqueue.new.kq reply (kevent.call (caller (V.sees views.now) kqueue.old) room changes.now m)) }
+
+    // The answer has either entries alone, or events of what the changes left; and a call whose changes are all quiet
+    // is these changes with room 0 and then a poll.
+    ensures answer { IfOk result (IsAnswer (V.sees views.now) room
+        (kqueue_after_changes (caller (V.sees views.now) kqueue.old) room changes.now kqueue.old.kq) kqueue.new.kq) }
+    ensures poll { IsChangesThenPoll (caller (V.sees views.now) kqueue.old) room changes.now kqueue.old.kq }
+
+    // Where the READ, WRITE and VNODE knotes watch what their numbers name, they still do.
+    ensures named { IfOk result (λ _. WatchTheirNumbers (V.sees views.now) kqueue.old.owner kqueue.old.kq
+        → WatchTheirNumbers (V.sees views.now) kqueue.old.owner kqueue.new.kq) }
+
     ensures owner { kqueue.new.owner ≡ kqueue.old.owner }
     ensures version { kqueue.new.version ≡ kqueue.old.version }
+    // Room for each change is made first; what was used of it is that of the knotes that came.
+    ensures limit { IfOk result (λ _.
+        limit kqueue.new ≡ length kqueue.old.kq.knotes + max kqueue.old.room (length changes.now)) }
+    ensures room { kqueue.old.room ≤ kqueue.new.room + length changes.now }
+
+    ensures err { OnErr result (kqueue.new.kq ≡ kqueue.old.kq) }
+
+    // Memory comes only where knotes or events need a place that was not reserved.
+    ensures ok { length changes.now ≤ kqueue.old.room
+        → min room (length kqueue.old.kq.queue + length changes.now) ≡ 0 → IsOk result }
 {
-    kqueue.notify(&[], views);
+    // Its contract says what every kqueue keeps.
+    let _ = kqueue.knotes();
+    kqueue.call(changes, room, views)
 }

@@ -1,4 +1,5 @@
-//! Laws of kqueue(2) over the whole life of a kqueue, in a user's words.
+//! Laws of kqueue(2) over the whole life of a kqueue, in a user's words. They are of the fold that the code makes, in
+//! which a knote keeps a tally of what it heard.
 #![tactic(auto)]
 
 mod calling;

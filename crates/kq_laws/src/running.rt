@@ -1,7 +1,18 @@
-ghost use Rattle.std.specs.Prelude.{◌≡◌, ◌+◌, ◌-◌, ◌^◌, ◌<◌, IfOk, OnErr, OnOk};
+//! The step of the system, with laws over the whole trace.
+
+ghost use Rattle.std.specs.Prelude.{◌≡◌, ◌+◌, ◌-◌, ◌^◌, ◌<◌, List, IfOk, IsOk, OnErr, OnOk};
+ghost use Rattle.kq_model.specs.declared.event.Event.{Event};
+ghost use Rattle.kq_model.specs.ClosedNumbers.{ClosesAll};
+ghost use Rattle.kq_model.specs.Hearing.{listed};
+ghost use Rattle.kq_model.specs.Objects as objects;
+ghost use Rattle.kq_model.specs.Recast.{IsTalliedStep, tallied_system};
+ghost use Rattle.kq_model.specs.System as model;
+ghost use Rattle.kq_model.specs.System.{empty_system, step, system_after};
+ghost use Rattle.kq_model.specs.VersionOne as one;
+ghost use Rattle.kq_model.specs.WatchedNumbers.{AllWatchTheirNumbers};
 ghost use Rattle.kq_laws.specs.Children.{FollowsChildren};
 ghost use Rattle.kq_laws.specs.Runs.{AnnouncesAll, CountsExpirations, ReturnsAllDue};
-ghost use Rattle.kq_system.specs.SystemState.{IsStep, IsUnchanged, system_of};
+ghost use Rattle.kq_system.specs.SystemState.{IsImpossible, IsStep, IsUnchanged, system_of};
 
 use kq_model::{Event, Memory, Reply};
 use kq_system::System;
@@ -9,8 +20,6 @@ use kq_system::System;
 /// Applies one event, as [`System::apply`], with what a user may rely on over the whole trace.
 pub fn apply(system: &mut System, event: &Event) -> Result<Reply, Memory>
     requires { system.old.applied < 2 ^ 31 - 1 }
-    ensures reply { IfOk result
-        (IsStep (system.old.applied + 1) event.now (system_of system.old) (system_of system.new)) }
 
     // Each condition that the record makes hold is hinted to the knotes that wait for it.
     ensures hints { OnOk result
@@ -25,11 +34,34 @@ pub fn apply(system: &mut System, event: &Event) -> Result<Reply, Memory>
     ensures timers { IfOk result
         (CountsExpirations system.old.applied event.now (system_of system.old) (system_of system.new)) }
 
-    // A fork brings a knote for the child, which tells of its parent, to each kqueue that follows the parent.
+    // A fork brings a knote for the child to each kqueue that follows the parent. It has the parameters and actions of
+    // the parent's knote and the parent's pid to tell, is enabled, the last in order and at the back of the queue.
     ensures children { OnOk result
         (FollowsChildren system.old.applied event.now (system_of system.old) (system_of system.new)) }
+
+    // What follows is what `System::apply` promises.
+    ensures reply { IfOk result
+        (IsStep (system.old.applied + 1) event.now (system_of system.old) (system_of system.new)) }
+
+    // The same in the words of the definitions, which keep all that was recorded and heard.
+    ensures model { IfOk result (λ reply. (m : model.System listed objects.listed)
+        → system_of system.old ≡ tallied_system m
+        → IsTalliedStep (system_of system.new) reply (step (system.old.applied + 1) event.now m)) }
+
+    // In version 1 of the trace's format this is the reply that it gave while it had no other.
+    ensures version_one { IfOk result (λ reply. (events : List Event)
+        → system_of system.old ≡ tallied_system (system_after 1 (empty_system {k = objects.listed} 1) events)
+        → reply ≡ one.reply_after events (system.old.applied + 1) event.now) }
+
+    // No kqueue keeps a knote of a number that was closed, also where a duplicate stays open.
+    ensures closed { OnOk result
+        (ClosesAll (system.old.applied + 1) event.now (system_of system.old) (system_of system.new)) }
+
+    // Each READ, WRITE or VNODE knote of each kqueue watches what its number names now.
+    ensures watched { AllWatchTheirNumbers (system_of system.new) }
     ensures applied { IfOk result (λ _. system.new.applied ≡ system.old.applied + 1) }
     ensures memory { OnErr result (IsUnchanged system.old system.new) }
+    ensures impossible { IsImpossible (system.old.applied + 1) event.now (system_of system.old) → IsOk result }
 {
     system.apply(event)
 }
