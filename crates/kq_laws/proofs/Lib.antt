@@ -29,3 +29,8 @@ pub mod RunTold
 pub mod RunRows
 pub mod Lasting
 pub mod Children
+pub mod Childless
+pub mod ChildlessPlans
+pub mod Accounted
+pub mod Noticed
+pub mod Forked

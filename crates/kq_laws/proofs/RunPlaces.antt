@@ -1,8 +1,8 @@
 -- Over a whole run the live kqueues stand by rising place of birth. So the answer of a call is of each live kqueue that has
 -- its place, of which there is one.
-use Rattle.std.proofs.Common.{◌≡◌, ℕ, suc, ◌+◌, ◌≤◌, ◌==◌, Bool, true, cond, not, eqb-true, List, [], ◌∷◌, ◌++◌, map, filter, Option, Some, None, refl, sym, ◌∙◌, arith}
-use Rattle.std.proofs.lemmas.Bool.{cond_both, true≢false}
-use Rattle.std.proofs.lemmas.List.Elements.{All-nil, All-cons, All-weaker}
+use Rattle.std.proofs.Common.{◌≡◌, ℕ, suc, ◌+◌, ◌≤◌, ◌==◌, Bool, true, cond, not, eqb-true, List, [], ◌∷◌, ◌++◌, map, filter, Option, Some, None, refl, sym, ap, ◌∙◌, arith}
+use Rattle.std.proofs.lemmas.Bool.{cond_both, eq-eqb, true≢false}
+use Rattle.std.proofs.lemmas.List.Elements.{All-nil, All-cons, All-head, All-tail, All-weaker}
 use Rattle.std.specs.Prelude.{All}
 use Rattle.kq_model.specs.declared.event.Event.{Event}
 use Rattle.kq_model.specs.declared.reply.Reply.{Reply}
@@ -14,6 +14,7 @@ use Rattle.kq_model.specs.System.{stepped, lived, born, answer, reply_to, step_b
 use Rattle.kq_model.specs.Tallied.{Live, System}
 use Rattle.kq_model.specs.World.{Call, Planned, Impossible, Possible, seen_world}
 use Rattle.kq_model.proofs.KnoteLaws.{by_test}
+use Rattle.kq_laws.specs.Runs.{find_live}
 
 -- rising, and from one place up to another
 abbrev pub Rise : ℕ → ℕ → List Live → Type 0
@@ -66,6 +67,13 @@ pub rise-step : (place : ℕ) (e : Event) (s : System) → Rise 0 place s.live �
 unfolding step
 rise-step place e s rise = rise-by place (plan place e (seen_world s.world)) s rise
 
+-- both hold of all
+pub all-and : (P Q : Live → Type 0) (ls : List Live) → All P ls → All Q ls → All (λ (l : Live). P l × Q l) ls
+all-and P Q [] first second = All-nil (λ (l : Live). P l × Q l)
+all-and P Q (l ∷ ls) first second =
+    All-cons (λ (x : Live). P x × Q x) l ls (All-head P l ls first, All-head Q l ls second)
+    (all-and P Q ls (All-tail P l ls first) (All-tail Q l ls second))
+
 -- ---- the answer is of each kqueue of the place
 
 -- if it is called, this is what it answers
@@ -83,6 +91,19 @@ later-places low high (l ∷ ls) rise =
 -- a later place is another
 another : (a b : ℕ) (c : ℕ) → suc a ≤ b → (c == a) ≡ true → (c == b) ≡ true → ⊥
 another a b c later first second = omega (arith, later, eqb-true c a first, eqb-true c b second)
+
+-- so each is the one that is found at its place
+pub all-found : (low high : ℕ) (ls : List Live) → Rise low high ls → All (λ (l : Live). find_live l.place ls ≡ Some l) ls
+all-found low high [] rise = All-nil (λ (l : Live). find_live l.place [] ≡ Some l)
+all-found low high (l ∷ ls) rise =
+    All-cons (λ (x : Live). find_live x.place (l ∷ ls) ≡ Some x) l ls
+    (ap (λ b. cond b (Some l) (find_live l.place ls)) (eq-eqb l.place l.place refl))
+    (All-weaker (λ (x : Live). (suc l.place ≤ x.place) × (find_live x.place ls ≡ Some x))
+    (λ (x : Live). find_live x.place (l ∷ ls) ≡ Some x)
+    (λ x both. by_test (λ b. (x.place == l.place) ≡ b → cond b (Some l) (find_live x.place ls) ≡ Some x) (x.place == l.place)
+    (λ _ here. absurd (omega (arith, both.0, eqb-true x.place l.place here))) (λ _ _. both.1) refl) ls
+    (all-and (λ (x : Live). suc l.place ≤ x.place) (λ (x : Live). find_live x.place ls ≡ Some x) ls
+    (later-places (suc l.place) high ls rise.1) (all-found (suc l.place) high ls rise.1)))
 
 answers-all : (m : Moment) (c : Call) (low high : ℕ) (ls : List Live) → Rise low high ls
     → All (IsAnswered m (answer m c ls) (Some c)) ls

@@ -1,5 +1,6 @@
 pub mod Children
 pub mod Life
+pub mod Notices
 pub mod Runs
 pub mod Timers
 pub mod Wakes

@@ -11,6 +11,7 @@ ghost use Rattle.kq_model.specs.System.{empty_system, step, system_after};
 ghost use Rattle.kq_model.specs.VersionOne as one;
 ghost use Rattle.kq_model.specs.WatchedNumbers.{AllWatchTheirNumbers};
 ghost use Rattle.kq_laws.specs.Children.{FollowsChildren};
+ghost use Rattle.kq_laws.specs.Notices.{TellsOfForks};
 ghost use Rattle.kq_laws.specs.Runs.{AnnouncesAll, CountsExpirations, ReturnsAllDue};
 ghost use Rattle.kq_system.specs.SystemState.{IsImpossible, IsStep, IsUnchanged, system_of};
 
@@ -38,6 +39,9 @@ pub fn apply(system: &mut System, event: &Event) -> Result<Reply, Memory>
     // the parent's knote and the parent's pid to tell, is enabled, the last in order and at the back of the queue.
     ensures children { OnOk result
         (FollowsChildren system.old.applied event.now (system_of system.old) (system_of system.new)) }
+
+    // An event tells of a child by NOTE_CHILD only after the fork of it, and its data is the parent's pid.
+    ensures notices { IfOk result (TellsOfForks system.old.applied event.now (system_of system.old)) }
 
     // What follows is what `System::apply` promises.
     ensures reply { IfOk result
