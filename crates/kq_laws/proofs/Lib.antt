@@ -6,6 +6,8 @@ pub mod ToldByCall
 pub mod ToldOverLife
 pub mod Awake
 pub mod Returned
+pub mod Asleep
+pub mod Cleared
 pub mod LifeRows
 pub mod Amounts
 pub mod Shown

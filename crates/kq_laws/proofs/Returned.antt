@@ -70,7 +70,7 @@ found-other views key other kq (Some k) is apart =
     looked-other views other k kq (look views k)
     (ap (λ (o : Key). key_eq o other) (sym (find_knote-key key kq.knotes k is)) ∙ apart)
 
-turned-other : (views : Views) (key other : Key) (kq : Kqueue) → key_eq key other ≡ false
+pub turned-other : (views : Views) (key other : Key) (kq : Kqueue) → key_eq key other ≡ false
     → find_knote other (turned views key kq).kq.knotes ≡ find_knote other kq.knotes
 unfolding turned
 turned-other views key other kq apart = found-other views key other kq (find_knote key kq.knotes) refl apart
@@ -199,14 +199,23 @@ process-quiet caller room (c ∷ cs) placed kq quiet =
     (λ answered. absurd (true≢false (sym answered ∙ quiet.0)))
     (λ _. process-quiet caller room cs placed r.kq quiet.1)
 
-quiet-reply : (caller : Caller) (room : ℕ) (cs : List Change) (kq : Kqueue) → AreQuiet caller cs kq
-    → (call caller room cs kq).reply ≡ Events (retrieval caller.views room (kqueue_after_changes caller room cs kq)).events
-unfolding call concluded by_answer by_entries returned
-quiet-reply caller room cs kq quiet =
+quiet-call : (caller : Caller) (room : ℕ) (cs : List Change) (kq : Kqueue) → AreQuiet caller cs kq
+    → call caller room cs kq ≡ returned (retrieval caller.views room (kqueue_after_changes caller room cs kq))
+unfolding call concluded by_answer by_entries
+quiet-call caller room cs kq quiet =
     let p = process caller room cs [] kq in
     let through = process-quiet caller room cs [] kq quiet in
-    ap (λ (c : Called). c.reply)
-    (ap (by_answer caller.views room p) through.1 ∙ ap (λ es. by_entries caller.views room es p.kq) through.0)
+    ap (by_answer caller.views room p) through.1 ∙ ap (λ es. by_entries caller.views room es p.kq) through.0
+
+pub quiet-reply : (caller : Caller) (room : ℕ) (cs : List Change) (kq : Kqueue) → AreQuiet caller cs kq
+    → (call caller room cs kq).reply ≡ Events (retrieval caller.views room (kqueue_after_changes caller room cs kq)).events
+unfolding returned
+quiet-reply caller room cs kq quiet = ap (λ (c : Called). c.reply) (quiet-call caller room cs kq quiet)
+
+pub quiet-kq : (caller : Caller) (room : ℕ) (cs : List Change) (kq : Kqueue) → AreQuiet caller cs kq
+    → (call caller room cs kq).kq ≡ (retrieval caller.views room (kqueue_after_changes caller room cs kq)).kq
+unfolding returned
+quiet-kq caller room cs kq quiet = ap (λ (c : Called). c.kq) (quiet-call caller room cs kq quiet)
 
 -- ---- the law
 

@@ -1,4 +1,5 @@
 pub mod Children
+pub mod Clears
 pub mod Life
 pub mod Notices
 pub mod Runs

@@ -1,6 +1,7 @@
 //! One kevent call, with laws over the whole life of its kqueue.
 
 ghost use Rattle.std.specs.Prelude.{◌≡◌, ◌≤◌, ◌+◌, ℕ, length, max, min, IfOk, IsOk, OnErr};
+ghost use Rattle.kq_model.specs.declared.key.Key.{Key};
 ghost use Rattle.kq_model.specs.Call as kevent;
 ghost use Rattle.kq_model.specs.CallLaws.{IsAnswer, IsChangesThenPoll, kqueue_after_changes};
 ghost use Rattle.kq_model.specs.Hearing.{listed};
@@ -8,6 +9,7 @@ ghost use Rattle.kq_model.specs.Kqueue.{Kqueue};
 ghost use Rattle.kq_model.specs.Recast.{IsTallied, tallied};
 ghost use Rattle.kq_model.specs.WatchedNumbers.{WatchTheirNumbers};
 ghost use Rattle.kq_kevent.specs.Owned.{caller, limit};
+ghost use Rattle.kq_laws.specs.Clears.{ReturnsNewsAlone};
 ghost use Rattle.kq_laws.specs.Timers.{TellsExpirations};
 ghost use Rattle.kq_laws.specs.Wakes.{LosesNoWakeUp};
 
@@ -29,6 +31,10 @@ pub fn call<V: Views>(
     // What is level-triggered and enabled, and whose condition holds, is returned where there is room. So is the notice
     // of a child.
     ensures wakes { IfOk result (LosesNoWakeUp (caller (V.sees views.now) kqueue.old) room changes.now kqueue.old.kq) }
+
+    // A knote with CLEAR that was returned is returned again only where something was told to it since.
+    ensures clears { IfOk result (λ reply. (key : Key)
+        → ReturnsNewsAlone key (caller (V.sees views.now) kqueue.old) room changes.now kqueue.old.kq reply) }
 
     // What follows is what `Kq::call` promises.
     ensures called { IfOk result (λ reply. record { kq = kqueue.new.kq; reply = reply }

@@ -1,6 +1,7 @@
 //! A kevent call without changes, with the same laws.
 
 ghost use Rattle.std.specs.Prelude.{◌≡◌, ◌≤◌, ℕ, [], length, min, IfOk, IsOk, OnErr};
+ghost use Rattle.kq_model.specs.declared.key.Key.{Key};
 ghost use Rattle.kq_model.specs.Call as kevent;
 ghost use Rattle.kq_model.specs.CallLaws.{IsAnswer, IsChangesThenPoll};
 ghost use Rattle.kq_model.specs.Hearing.{listed};
@@ -8,6 +9,7 @@ ghost use Rattle.kq_model.specs.Kqueue.{Kqueue};
 ghost use Rattle.kq_model.specs.Recast.{IsTallied, tallied};
 ghost use Rattle.kq_model.specs.WatchedNumbers.{WatchTheirNumbers};
 ghost use Rattle.kq_kevent.specs.Owned.{caller, limit};
+ghost use Rattle.kq_laws.specs.Clears.{ReturnsNewsAlone};
 ghost use Rattle.kq_laws.specs.Timers.{TellsExpirations};
 ghost use Rattle.kq_laws.specs.Wakes.{LosesNoWakeUp};
 
@@ -20,6 +22,10 @@ pub fn poll<V: Views>(kqueue: &mut Kq, room: u32, views: &V) -> Result<Reply, Me
     ensures timers { IfOk result (λ reply. (ident : ℕ)
         → TellsExpirations ident (caller (V.sees views.now) kqueue.old) room [] kqueue.old.kq reply) }
     ensures wakes { IfOk result (LosesNoWakeUp (caller (V.sees views.now) kqueue.old) room [] kqueue.old.kq) }
+
+    // A knote with CLEAR that was returned is returned again only where something was told to it since.
+    ensures clears { IfOk result (λ reply. (key : Key)
+        → ReturnsNewsAlone key (caller (V.sees views.now) kqueue.old) room [] kqueue.old.kq reply) }
 
     // What follows is what `Kq::call` promises.
     ensures called { IfOk result (λ reply. record { kq = kqueue.new.kq; reply = reply }
