@@ -30,7 +30,7 @@ use Rattle.kq_model.specs.Knote.{has_nothing, find_knote}
 use Rattle.kq_model.specs.Look.{Seen, look}
 use Rattle.kq_model.specs.Refusals.{is_malformed, is_unopened, own_refusal}
 use Rattle.kq_model.specs.Registration.{Refuse, Remove, Make, Modify, unless_refused, decided, decision, carried_out, register}
-use Rattle.kq_model.specs.Retrieval.{reset, rested, knotes_after, with_idle, without_notice, with_notice_told, settled, turned_at_look, turned_at, turned, delivered, after_turn, retrieve, retrieval}
+use Rattle.kq_model.specs.Retrieval.{reset, rested, knotes_after, without_notice, with_notice_told, settled, turned_at_look, turned_at, turned, delivered, after_turn, retrieve, retrieval}
 use Rattle.kq_model.specs.Tallied.{Decision, Knote, Kqueue, Processed, Retrieved}
 use Rattle.kq_model.specs.Tallying.{Tally, tallying}
 use Rattle.kq_model.specs.Targets.{Posted, is_target, number_in, target_eq, target_of}

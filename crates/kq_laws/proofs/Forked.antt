@@ -12,8 +12,8 @@ use Rattle.kq_model.specs.declared.reply.Reply.TheVariants.{Events}
 use Rattle.kq_model.specs.Bits.{asks, error}
 use Rattle.kq_model.specs.Call.{call}
 use Rattle.kq_model.specs.CallLaws.{Each, IsAnswer, IsDue, kqueue_after_changes}
-use Rattle.kq_model.specs.Close.{Pair, closed, has_pair}
-use Rattle.kq_model.specs.Following.{follows, all_forks}
+use Rattle.kq_model.specs.Close.{Pair, has_pair}
+use Rattle.kq_model.specs.Following.{all_forks}
 use Rattle.kq_model.specs.Moment.{Moment, moment_of, kqueue_step}
 use Rattle.kq_model.specs.Plans.{plan}
 use Rattle.kq_model.specs.System.{empty_system, stepped, lived, born, step_by, step, system_after}
@@ -28,7 +28,7 @@ use Rattle.kq_laws.specs.Runs.{HaveLedTo, find_live, owner_in}
 use Rattle.kq_laws.proofs.Accounted.{IsAccounted, AreAccounted, process-accounted}
 use Rattle.kq_laws.proofs.Childless.{AreChildless}
 use Rattle.kq_laws.proofs.ChildlessPlans.{childless_plan}
-use Rattle.kq_laws.proofs.Children.{told, IfForks, OnlyForks, only-forks}
+use Rattle.kq_laws.proofs.Children.{IfForks, OnlyForks, only-forks}
 use Rattle.kq_laws.proofs.RunCalls.{live-is, reply-is}
 use Rattle.kq_laws.proofs.RunPlaces.{Rise, all-and, all-found, rise-step}
 use Rattle.kq_laws.proofs.Noticed.{by-fork, Brings, IsKept, after_call-kept}

@@ -12,8 +12,7 @@ use Rattle.kq_model.specs.Following.{process_key, forks_in}
 use Rattle.kq_model.specs.Hints.{hints_for}
 use Rattle.kq_model.specs.Knote.{key_eq, find_knote, is_timer}
 use Rattle.kq_model.specs.Tallied.{Knote, Kqueue}
-use Rattle.kq_model.specs.Views.{Views}
-use Rattle.kq_laws.specs.Life.{Life, Step, Closes, Hints, Passes, Calls, born, stepped, lived}
+use Rattle.kq_laws.specs.Life.{Life, Step, Closes, Hints, Passes, Calls, stepped, lived}
 use Rattle.kq_laws.specs.Timers.{returns}
 
 -- a call whose changes place no entry returns the knote, which has CLEAR and no notice to tell

@@ -1,6 +1,6 @@
 -- What a timer tells over the life of its kqueue (kqueue(2), EVFILT_TIMER): the data of its event is the number of its
 -- expirations since it was last returned or started.
-use Rattle.std.specs.Prelude.{◌≡◌, ◌==◌, ℕ, pos, ◌≤◌, Bool, true, false, not, ◌&&◌, List}
+use Rattle.std.specs.Prelude.{◌≡◌, ℕ, pos, ◌≤◌, Bool, true, false, not, ◌&&◌, List}
 use Rattle.std.specs.Prelude.{[], ◌∷◌, if◌then◌else◌, Some}
 use Rattle.std.specs.List.{list_any}
 use Rattle.kq_model.specs.declared.change.Change.{Change}
