@@ -33,6 +33,7 @@ pub mod Lasting
 pub mod Children
 pub mod Childless
 pub mod ChildlessPlans
+pub mod HeardNotes
 pub mod Accounted
 pub mod Noticed
 pub mod Forked

@@ -31,9 +31,10 @@ use Rattle.kq_model.proofs.KnoteLaws.{by_test, find_knote-key}
 use Rattle.kq_system.proofs.QuietLemmas.{closed_none}
 use Rattle.kq_system.proofs.SilentLemmas.{none-follow}
 use Rattle.kq_laws.specs.Notices.{TellsOfChild}
-use Rattle.kq_laws.proofs.Accounted.{no_notes, IsAccounted, AreAccounted, call-accounted, closed-accounted, notified-accounted, clocked-accounted}
+use Rattle.kq_laws.proofs.Accounted.{IsAccounted, AreAccounted, call-accounted, closed-accounted, notified-accounted, clocked-accounted}
 use Rattle.kq_laws.proofs.Childless.{AreChildless, child_bit}
 use Rattle.kq_laws.proofs.Children.{told, stays-told, found-left, this_fork}
+use Rattle.kq_laws.proofs.HeardNotes.{no_notes}
 use Rattle.kq_laws.proofs.Lasting.{Stays, follows-as}
 use Rattle.kq_laws.proofs.Lists.{found-is}
 use Rattle.kq_laws.proofs.Lives.{happened-sound}
