@@ -20,10 +20,10 @@ class Browser:
     """One page in a browser. complaints has what its console was told, and what was thrown."""
 
     def __init__(self, width=1280, height=800, scheme="light"):
-        self._folder = tempfile.TemporaryDirectory(ignore_cleanup_errors=True)
+        self._folder = tempfile.mkdtemp()
         asked, answered = os.pipe(), os.pipe()
         words = [found(), "--headless", "--no-sandbox", "--disable-gpu", "--remote-debugging-pipe", "--no-first-run"]
-        words += [f"--user-data-dir={self._folder.name}", f"--window-size={width},{height}", "--hide-scrollbars"]
+        words += [f"--user-data-dir={self._folder}", f"--window-size={width},{height}", "--hide-scrollbars"]
         # Chromium reads what it is asked from number 3, and answers into number 4.
         line = f'exec "$@" 3<&{asked[0]} 4>&{answered[1]}'
         self._process = subprocess.Popen(
@@ -58,7 +58,7 @@ class Browser:
         self._process.wait()
         self._into.close()
         self._out.close()
-        self._folder.cleanup()
+        shutil.rmtree(self._folder, ignore_errors=True)
 
     def _next(self):
         """The next message of the browser."""

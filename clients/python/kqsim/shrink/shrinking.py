@@ -86,8 +86,10 @@ def without_answers(entries: Entries, wrong: int) -> List[Entry]:
 def shrunk(entries: List[Entry], wrong: Optional[int], test: Test) -> List[Entry]:
     """What is left of entries that pass the test. wrong is the place of the wrong answer, where one is known."""
     if wrong is not None:
-        for tried in (entries[:wrong], without_answers(entries[:wrong], wrong)):
-            entries = test(tried) or entries
+        until = entries[:wrong]
+        entries = test(without_answers(until, wrong)) or test(until) or entries
+        # An answer that names few kevents is wrong for the same reason after more other records.
+        entries = fewer_events(entries, len(entries) - 1, test)
     while True:
         before: Sequence[Entry] = entries
         entries = within(without_parts(entries, test), test)
