@@ -1,12 +1,11 @@
 -- The next moment at which a timer of a kqueue expires.
-use Rattle.std.proofs.Common.{◌≡◌, ℕ, ◌+◌, ◌<◌, ◌≤◌, List, ◌⊎◌, inl, inr, Option, Some, None, false, sym, ap, ◌∙◌, subst, absurd, arith}
+use Rattle.std.proofs.Common.{◌≡◌, ℕ, ◌<◌, ◌≤◌, List, ◌⊎◌, inl, inr, Some, None, false, sym, ap, ◌∙◌, subst, arith}
 use Rattle.kq_model.specs.Clock.{expires_at}
-use Rattle.kq_model.specs.Knote.{find_knote}
 use Rattle.kq_model.specs.Tallied.{Knote}
 use Rattle.kq_model.specs.Ticks.{last_moment}
 use Rattle.kq_model.proofs.TicksFirst.{next_tick-is}
 use Rattle.kq_knote.proofs.AlarmLaws.{all-found}
-use Rattle.kq_kevent.specs.Foretold.{IsSilent, IsNextExpiry, IsNextOf}
+use Rattle.kq_kevent.specs.Foretold.{IsSilent, IsNextOf}
 use Rattle.kq_kevent.specs.Ringing.{first_of, AreOutside, IsReached}
 
 -- before it none expires

@@ -47,7 +47,7 @@ front_agrees key keys ks first agree = agree key (or_left (key_eq key key) (has_
 
 due_as : (views : Views) (first : List Knote) (key : Key) (k : Knote) (seen : Option Seen) → find_knote key first ≡ Some k → look views k ≡ seen
     → is_due views first key ≡ is_some seen
-due_as views first key k seen here sees = ap (λ (o : Option Knote). is_some (option_and_then (look views) o)) here ∙ ap (is_some {Seen}) sees
+due_as views first key k seen here sees = ap (λ (o : Option Knote). is_some (option_and_then (look views) o)) here ∙ ap (λ (o : Option Seen). is_some o) sees
 
 abbrev CountLater : Views → List Knote → List Key → Type 0
 CountLater views first keys =

@@ -285,7 +285,7 @@ Later views first keys =
     (room : ℕ) (kq : Kqueue) → Agree keys kq.knotes first → IsRun views first keys room (retrieve views keys room kq)
 
 -- what follows the turn of one key
-abbrev following : Views → List Key → ℕ → Turned → Retrieved
+abbrev pub following : Views → List Key → ℕ → Turned → Retrieved
 following views keys room t = after_turn (retrieve views keys) room t.kq t.event
 
 run_look : (views : Views) (first : List Knote) (key : Key) (keys : List Key) → has_key key keys ≡ false

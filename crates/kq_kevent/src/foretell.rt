@@ -54,6 +54,7 @@ impl Kq {
         ensures called { (call (caller (V.sees views.now) self.now) room [] self.now.kq).reply
             ≡ Events (retrieval (V.sees views.now) room self.now.kq).events }
     {
+        let _ = &self.owner;
         self.count_due(room, views)
     }
 

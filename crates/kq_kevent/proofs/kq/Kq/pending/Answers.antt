@@ -1,6 +1,5 @@
-use Rattle.std.proofs.Common.{sym, ap, ◌∙◌, subst, min, count_by}
+use Rattle.std.proofs.Common.{sym, ◌∙◌, subst}
 use Rattle.kq_model.specs.Kqueue.{IsSound}
-use Rattle.kq_kevent.specs.Foretold.{is_due}
 use Rattle.kq_kevent.specs.Owned.{OwnedKqueue, caller}
 use Rattle.kq_kevent.proofs.PendingLaws.{retrieval-count, poll-reply}
 use Rattle.kq_kevent.proofs.kq.Kq.pending.Goals as goal
