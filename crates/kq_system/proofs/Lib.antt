@@ -25,4 +25,3 @@ pub mod BeginTallied
 pub mod NamedLemmas
 pub mod NearLemmas
 pub mod ShareLemmas
-pub mod AskLemmas

@@ -1,18 +1,16 @@
-use Rattle.std.proofs.Common.{◌≡◌, ◌∙◌, ◌+◌, ◌==◌, ℕ, Bool, Option, Some, sym, ap, subst, arith}
+use Rattle.std.proofs.Common.{◌≡◌, ◌∙◌, ◌+◌, ◌==◌, ℕ, Some, sym, ap, subst, arith}
 use Rattle.std.proofs.lemmas.Bool.Decides.{nat_tests}
-use Rattle.kq_model.specs.declared.event.Event.{Event}
 use Rattle.kq_model.specs.ClosedNumbers.{ClosesAll}
 use Rattle.kq_model.specs.Tallying.{tallying}
 use Rattle.kq_model.specs.Objects.{counted}
 use Rattle.kq_model.specs.Shares.{dealt, if_own, share}
 use Rattle.kq_model.specs.System.{Stepped, step}
-use Rattle.kq_model.specs.Tallied.{System}
 use Rattle.kq_model.proofs.Shares.{share-again}
 use Rattle.kq_model.proofs.ShareSteps.{shared-step}
 use Rattle.kq_model.proofs.ShareTallied.{share_step-tallied}
 use Rattle.kq_system.specs.Dealing.{share_for}
-use Rattle.kq_system.specs.Sharing.{ShareState, own_of, IsShareStep, IsStepBeside}
-use Rattle.kq_system.specs.SystemState.{SystemState, system_of}
+use Rattle.kq_system.specs.Sharing.{ShareState, own_of, IsShareStep}
+use Rattle.kq_system.specs.SystemState.{system_of}
 use Rattle.kq_system.proofs.ShareLemmas.{share-closes}
 use Rattle.kq_system.proofs.sharing.Share.apply.Goals as goal
 
