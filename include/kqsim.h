@@ -278,10 +278,10 @@ static inline int kqsim_kevent(struct kqsim *sim, uint32_t pid, uint32_t kq, con
 
 /* The first moment after the clock's at which a timer expires, in ns, or -1 where none does. A timer that is disabled
  * expires too. */
-int kqsim_next(const struct kqsim *sim, uint32_t pid, uint32_t kq, int64_t *ns);
+int kqsim_next(struct kqsim *sim, uint32_t pid, uint32_t kq, int64_t *ns);
 
 /* How many events a call with no changes and room for `nevents` would give now. */
-int kqsim_pending(const struct kqsim *sim, uint32_t pid, uint32_t kq, uint32_t nevents, uint32_t *n);
+int kqsim_pending(struct kqsim *sim, uint32_t pid, uint32_t kq, uint32_t nevents, uint32_t *n);
 
 /* What is registered for an ident and a filter. */
 struct kqsim_knote {
@@ -295,7 +295,7 @@ struct kqsim_knote {
 typedef char kqsim_knote_has_24_bytes[sizeof(struct kqsim_knote) == 24 ? 1 : -1];
 
 /* KQSIM_ENOENT where nothing is, and KQSIM_ARGUMENT where no filter has this number. */
-int kqsim_find(const struct kqsim *sim, uint32_t pid, uint32_t kq, uintptr_t ident, short filter,
+int kqsim_find(struct kqsim *sim, uint32_t pid, uint32_t kq, uintptr_t ident, short filter,
                struct kqsim_knote *knote);
 
 #ifdef __cplusplus

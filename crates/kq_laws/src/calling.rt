@@ -32,7 +32,8 @@ pub fn call<V: Views>(
     // of a child.
     ensures wakes { IfOk result (LosesNoWakeUp (caller (V.sees views.now) kqueue.old) room changes.now kqueue.old.kq) }
 
-    // A knote with CLEAR that was returned is returned again only where something was told to it since.
+    // Where neither call places an entry, a knote with CLEAR and no notice that was returned is returned again only
+    // where something was told to it since.
     ensures clears { IfOk result (λ reply. (key : Key)
         → ReturnsNewsAlone key (caller (V.sees views.now) kqueue.old) room changes.now kqueue.old.kq reply) }
 

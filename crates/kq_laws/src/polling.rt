@@ -23,7 +23,8 @@ pub fn poll<V: Views>(kqueue: &mut Kq, room: u32, views: &V) -> Result<Reply, Me
         → TellsExpirations ident (caller (V.sees views.now) kqueue.old) room [] kqueue.old.kq reply) }
     ensures wakes { IfOk result (LosesNoWakeUp (caller (V.sees views.now) kqueue.old) room [] kqueue.old.kq) }
 
-    // A knote with CLEAR that was returned is returned again only where something was told to it since.
+    // Where neither call places an entry, a knote with CLEAR and no notice that was returned is returned again only
+    // where something was told to it since.
     ensures clears { IfOk result (λ reply. (key : Key)
         → ReturnsNewsAlone key (caller (V.sees views.now) kqueue.old) room [] kqueue.old.kq reply) }
 

@@ -39,8 +39,8 @@ impl Waiting {
         &self.slots[(ticket % SLOTS as u64) as usize]
     }
 
-    /// Wakes the ticket that has the turn now, and those whose turn is near. The seat is the one that had the turn
-    /// before: it has passed it on, since a ticket that is woken earlier would sleep again. It waits for nobody.
+    /// Wakes this ticket, and those behind it whose turn is near. The seat is that of the caller, which does not have the
+    /// turn any more: a ticket that is woken before the turn was passed on would sleep again. It waits for nobody.
     pub fn wake<M: Machine>(&self, passed: &TableSeat<M>, ticket: u64)
         requires { passed.now.me.0.stage ≡ Idle }
     {

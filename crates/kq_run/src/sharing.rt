@@ -119,7 +119,11 @@ fn shares_for(workers: u32, births: usize) -> u32
     ensures births { result ≤ births }
 {
     if workers < 4 {
-        return if births < 2 * LEAST_KQUEUES { 1 } else { 2 };
+        return if births < 2 * LEAST_KQUEUES {
+            births.min(1) as u32
+        } else {
+            2
+        };
     }
     let most = (workers - 1).min(MOST_SHARES);
     if births < most as usize {
@@ -184,7 +188,9 @@ impl Sink for Sharer {
     fn decoders(&self) -> Decoders {
         let count = match &self.folding {
             Folding::Whole(_) => self.workers.saturating_sub(1),
-            Folding::Shared(fold) => self.workers.saturating_sub(fold.shares.count()),
+            Folding::Shared(fold) => self
+                .workers
+                .saturating_sub(fold.shares.count().min(MOST_SHARES as usize) as u32),
             // It may be shared next, by two workers with no thread to spare.
             Folding::New | Folding::Begun { .. } | Folding::Refused => {
                 self.workers.saturating_sub(2).min(1)

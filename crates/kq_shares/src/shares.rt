@@ -46,8 +46,10 @@ impl Shares {
     }
 
     /// How many they are.
-    pub fn count(&self) -> u32 {
-        self.shares.len().min(u32::MAX as usize) as u32
+    pub fn count(&self) -> usize
+        ensures { result ≡ length self.now.shares.items }
+    {
+        self.shares.len()
     }
 
     /// The shares after these pieces of records more. All take the records at the same time, the first on the calling

@@ -3,9 +3,7 @@ use bitflags::Flags;
 use kq_kevent::Kq;
 use kq_knote::{Knote, Knotes, Tally};
 use kq_model::notes::{NOTE_EXIT, NOTE_TRACK};
-use kq_model::{
-    Act, Change, Errno, EvFlags, Event, Filter, Kevent, Key, Memory, Reply, Row, Series,
-};
+use kq_model::{Act, Change, Errno, EvFlags, Event, Filter, Kevent, Key, Memory, Reply, Row, Series, Version};
 use kq_objects::Objects;
 use kq_process::World;
 use kq_timer::Period;
@@ -157,7 +155,7 @@ fn following(alloc: Global) -> Result<(Kq, Reply), Memory> {
         datum: 0,
         udata: 0,
     };
-    let mut kqueue = Kq::in_version(alloc, 1, 2);
+    let mut kqueue = Kq::in_version(alloc, 1, Version::new(2));
     let reply = kqueue.call(&[change], 0, &world)?;
     Ok((kqueue, reply))
 }
