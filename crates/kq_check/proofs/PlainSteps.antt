@@ -12,6 +12,7 @@ use Rattle.kq_model.specs.System.{step}
 use Rattle.kq_model.specs.Tallied.{System}
 use Rattle.kq_check.specs.declared.verdict.Verdict.{Verdict}
 use Rattle.kq_check.specs.declared.verdict.Verdict.TheVariants.{Equal, Refused}
+use Rattle.kq_check.specs.LeftOpen.{opened}
 use Rattle.kq_check.specs.Replies.{IsReply, IsVerdictOf}
 use Rattle.kq_check.specs.Stepped.{IsStepped}
 
@@ -21,6 +22,12 @@ pub plain_step : (ignored : List Ignored) (place : ℕ) (e : Event) (given : Opt
 plain_step ignored place (event.Kevent pid fd changes room) given s r v next other stepped verdict =
     absurd (other pid fd changes room refl)
 plain_step ignored place _ given s r v next other (is, said) verdict = (subst (λ t. IsVerdictOf t given v) said verdict, is)
+
+pub opens_none : (place : ℕ) (e : Event) (given : Option Given) (s : System)
+    → ((pid fd : ℕ) (changes : List Change) (room : ℕ) → e ≡ event.Kevent pid fd changes room → ⊥)
+    → opened place e given s ≡ None
+opens_none place (event.Kevent pid fd changes room) given s other = absurd (other pid fd changes room refl)
+opens_none place _ given s other = refl
 
 pub unanswered : (r : Reply) → ((why : Why) → r ≡ reply.Impossible why → ⊥) → IsVerdictOf r None Equal
 unanswered (reply.Impossible why) possible = absurd (possible why refl)

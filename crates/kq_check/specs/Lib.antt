@@ -1,5 +1,6 @@
 pub mod Replies
 pub mod Stepped
+pub mod LeftOpen
 pub mod Judged
 pub mod Placed
 pub mod Status

@@ -30,7 +30,8 @@ pub fn is_reply(given: &Given, reply: &Reply) -> bool
     }
 }
 
-/// The events that the queue of a kqueue gives as it stands.
+/// The events that the queue of a kqueue gives as it stands. It looks at the knotes at which a retrieval looks, and at
+/// no others.
 pub fn events_in_order<V: Views>(
     alloc: Global,
     kq: &Kq,
@@ -40,11 +41,18 @@ pub fn events_in_order<V: Views>(
     ensures { IfOk result (λ events. events.items
         ≡ take room (filter_map (event_due (V.sees views.now) kq.now.kq.knotes) kq.now.kq.queue)) }
 {
-    let all = kq.waiting()?;
-    let waiting = all.as_slice();
+    let room = room as usize;
     let mut events = Vec::new(alloc);
-    for key in waiting {
-        put_due(&mut events, room as usize, event_due(kq, *key, views))?;
+    let mut next = kq.first_waiting();
+    for _turn in 0..kq.waiting_len() {
+        let Some(key) = next else {
+            return Ok(events);
+        };
+        if events.len() == room {
+            return Ok(events);
+        }
+        put_due(&mut events, room, event_due(kq, key, views))?;
+        next = kq.waiting_after(key);
     }
     Ok(events)
 }
@@ -61,7 +69,7 @@ fn put_due(events: &mut Vec<Kevent>, room: usize, due: Option<Kevent>) -> Result
 }
 
 /// The event of a key's knote, where its condition holds.
-fn event_due<V: Views>(kq: &Kq, key: Key, views: &V) -> Option<Kevent>
+pub(crate) fn event_due<V: Views>(kq: &Kq, key: Key, views: &V) -> Option<Kevent>
     ensures { result ≡ event_due (V.sees views.now) kq.now.kq.knotes key }
 {
     let knote = kq.knotes().get(key)?;

@@ -1,14 +1,17 @@
 //! The answers to a trace, one record after the other.
 
-ghost use Rattle.std.specs.Prelude.{◌≡◌, ◌+◌, ◌-◌, ◌^◌, ◌<◌, None, IfOk, OnOk};
+ghost use Rattle.std.specs.Prelude.{◌≡◌, ◌+◌, ◌-◌, ◌^◌, ◌<◌, List, [], None, Some, IfOk, OnOk};
 ghost use Rattle.std.specs.Option.{option_map};
 ghost use Rattle.kq_system.specs.SystemState.{system_of};
 ghost use Rattle.kq_check.specs.Judged.{IsJudged, IsJudgedFrom, IsNext, ended};
 ghost use Rattle.kq_check.specs.Replies.{behind_place, given_at};
+ghost use Rattle.kq_check.specs.LeftOpen.{opened, opened_by, opened_in};
 ghost use Rattle.kq_check.specs.Stepped.{IsArranged, IsArrangedOf, IsOrder, IsRead, IsStepped};
 ghost use Rattle.kq_system.specs.Beginning.{live_named};
+ghost use Rattle.kq_judge.specs.declared.member.Ignored.{Ignored as DeclaredIgnored};
 
 use crate::answering::{are_same, events_in_order, keys_of};
+use crate::left_open::{OpenOrders, events_in, kqueue_of, opened_of, place_named, waiting_in};
 use crate::outcome::Outcome;
 use crate::verdict::{Call, Verdict, verdict_of};
 use kq_answers::{Answer, Given};
@@ -17,6 +20,24 @@ use kq_model::{Event, Kevent, Memory, Trace};
 use kq_system::System;
 use std::alloc::Global;
 
+/// What a record came to, and the kqueue whose order it left open, if it did, by its place.
+#[derive(Drop, Clone, Copy)]
+pub struct Taken {
+    pub verdict: Verdict,
+    pub opened: Option<u64>,
+}
+
+/// What a record came to that left no order open.
+fn taken(verdict: Verdict) -> Taken
+    ensures verdict { result.verdict ≡ verdict }
+    ensures opened { result.opened ≡ None }
+{
+    Taken {
+        verdict,
+        opened: None,
+    }
+}
+
 /// Carries a record out, of which this is the answer, if there is one. Members that are ignored are not compared.
 pub fn step(
     alloc: Global,
@@ -24,10 +45,12 @@ pub fn step(
     event: &Event,
     given: Option<&Given>,
     ignored: &[Ignored],
-) -> Result<Verdict, Memory>
+) -> Result<Taken, Memory>
     requires { system.old.applied < 2 ^ 31 - 1 }
-    ensures stepped { IfOk result (λ v. IsStepped ignored.now (system.old.applied + 1) event.now
-        (option_map (λ g. g.now) given.entry) (system_of system.old) v (system_of system.new)) }
+    ensures stepped { IfOk result (λ t. IsStepped ignored.now (system.old.applied + 1) event.now
+        (option_map (λ g. g.now) given.entry) (system_of system.old) t.verdict (system_of system.new)) }
+    ensures opened { IfOk result (λ t. t.opened ≡ opened (system.old.applied + 1) event.now
+        (option_map (λ g. g.now) given.entry) (system_of system.old)) }
     ensures applied { OnOk result (system.new.applied ≡ system.old.applied + 1) }
 {
     match event {
@@ -37,7 +60,7 @@ pub fn step(
             changes,
             room,
         } => match system.begin_call(*pid, *fd, changes.as_slice(), *room)? {
-            Some(reply) => Ok(verdict_of(&reply, given)),
+            Some(reply) => Ok(taken(verdict_of(&reply, given))),
             None => {
                 let call = Call {
                     pid: *pid,
@@ -49,24 +72,64 @@ pub fn step(
         },
         _ => {
             let reply = system.apply(event)?;
-            Ok(verdict_of(&reply, given))
+            Ok(taken(verdict_of(&reply, given)))
         }
     }
 }
 
-/// The second step of a call: events are read in the order of the queue, or in the one that the answer has.
+/// The second step of a call.
 fn read(
     alloc: Global,
     system: &mut System,
     call: Call,
     given: Option<&Given>,
     ignored: &[Ignored],
-) -> Result<Verdict, Memory>
-    ensures read { IfOk result (λ v. IsRead ignored.now system.old.applied call.pid call.fd call.room
-        (option_map (λ g. g.now) given.entry) (system_of system.old) v (system_of system.new)) }
+) -> Result<Taken, Memory>
+    ensures read { IfOk result (λ t. IsRead ignored.now system.old.applied call.pid call.fd call.room
+        (option_map (λ g. g.now) given.entry) (system_of system.old) t.verdict (system_of system.new)) }
+    ensures opened { IfOk result (λ t. t.opened ≡ opened_by system.old.applied call.pid call.fd call.room
+        (option_map (λ g. g.now) given.entry) (system_of system.old)) }
     ensures applied { system.new.applied ≡ system.old.applied }
 {
-    match arrange(alloc, system, call, given, ignored)? {
+    match given {
+        Some(answer) => {
+            let verdict = read_answered(alloc, system, call, answer, ignored)?;
+            Ok(taken(verdict))
+        }
+        None => read_unanswered(system, call),
+    }
+}
+
+/// Events are read in the order of the queue, of a call that has no answer.
+fn read_unanswered(system: &mut System, call: Call) -> Result<Taken, Memory>
+    ensures read { IfOk result (λ t. (ignored : List DeclaredIgnored) → IsRead ignored system.old.applied call.pid call.fd
+        call.room None (system_of system.old) t.verdict (system_of system.new)) }
+    ensures opened { IfOk result (λ t. t.opened
+        ≡ opened_in system.old.applied call.pid call.fd call.room (system_of system.old)) }
+    ensures applied { system.new.applied ≡ system.old.applied }
+{
+    let waiting = waiting_in(system, call);
+    let kqueue = place_named(system, call.pid, call.fd);
+    let reply = system.read_events(call.pid, call.fd, call.room)?;
+    Ok(Taken {
+        verdict: Verdict::Equal,
+        opened: opened_of(kqueue, call.room, waiting, events_in(&reply)),
+    })
+}
+
+/// Events are read in the order of the queue, or in the one that the answer has.
+fn read_answered(
+    alloc: Global,
+    system: &mut System,
+    call: Call,
+    given: &Given,
+    ignored: &[Ignored],
+) -> Result<Verdict, Memory>
+    ensures read { IfOk result (λ v. IsRead ignored.now system.old.applied call.pid call.fd call.room
+        (Some given.now) (system_of system.old) v (system_of system.new)) }
+    ensures applied { system.new.applied ≡ system.old.applied }
+{
+    match arrange(alloc, system, call, Some(given), ignored)? {
         Verdict::Refused => Ok(Verdict::Refused),
         Verdict::Equal => {
             let _ = system.read_events(call.pid, call.fd, call.room)?;
@@ -179,9 +242,9 @@ pub enum Next {
     Over(Outcome),
 }
 
-/// Whether a run goes on behind the verdict of the record at a place.
-fn next_of(verdict: Verdict, at: u64, first: Option<u64>, permits: bool) -> Next
-    ensures { IsNext permits at verdict first result }
+/// Whether a run goes on behind the verdict of the record at a place, where the order of its kqueue is open or not.
+fn next_of(verdict: Verdict, is_open: bool, at: u64, first: Option<u64>, permits: bool) -> Next
+    ensures { IsNext permits is_open at verdict first result }
 {
     match verdict {
         Verdict::Equal => Next::On(first),
@@ -189,6 +252,7 @@ fn next_of(verdict: Verdict, at: u64, first: Option<u64>, permits: bool) -> Next
             None => Next::On(Some(at)),
             Some(first) => Next::On(Some(first)),
         },
+        Verdict::Refused if is_open => Next::Over(Outcome::Unknown { at }),
         Verdict::Refused => Next::Over(Outcome::Refused { at }),
         Verdict::Impossible(why) => {
             if permits {
@@ -237,17 +301,20 @@ fn judge_from(
 ) -> Result<Outcome, Memory>
     requires { system.old.applied ≡ 0 }
     ensures { IfOk result
-        (IsJudgedFrom ignored.now permits 1 (system_of system.old) trace.now.events answers.now None) }
+        (IsJudgedFrom ignored.now permits 1 (system_of system.old) trace.now.events answers.now None []) }
 {
     let mut rest = answers;
     let mut first = None;
+    let mut unsure = OpenOrders::new(alloc);
     let events = trace.events.as_slice();
     'records: for event in events {
         let at = system.applied() + 1;
         let (given, behind) = answer_at(rest, at);
         rest = behind;
-        let verdict = step(alloc, system, event, given, ignored)?;
-        match next_of(verdict, at, first, permits) {
+        let is_open = unsure.has(kqueue_of(event, system));
+        let done = step(alloc, system, event, given, ignored)?;
+        unsure.add(done.opened)?;
+        match next_of(done.verdict, is_open, at, first, permits) {
             Next::On(later) => first = later,
             Next::Over(outcome) => return Ok(outcome),
         }

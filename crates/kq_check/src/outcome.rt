@@ -1,3 +1,5 @@
+//! What the answers to a trace come to, and the exit status for it.
+
 ghost use Rattle.std.specs.Prelude.{◌≡◌};
 ghost use Rattle.kq_check.specs.Status.{outcome_status};
 
@@ -12,6 +14,9 @@ pub enum Outcome {
     Allowed { first: u64 },
     /// No order gives the answer at this place, and all before it are allowed.
     Refused { at: u64 },
+    /// No order gives the answer at this place as the kqueue stands, but another order of an earlier call, which has no
+    /// answer, may; all answers before it are allowed.
+    Unknown { at: u64 },
     /// The record at this place could not be, and all before it is allowed.
     Impossible { at: u64, why: Why },
 }
@@ -24,6 +29,7 @@ impl Outcome {
         match self {
             Outcome::Equal | Outcome::Allowed { .. } => 0,
             Outcome::Refused { .. } | Outcome::Impossible { .. } => 1,
+            Outcome::Unknown { .. } => 8,
         }
     }
 }

@@ -18,7 +18,7 @@ use std::io::{Read, Write};
 /// Answers each line of a trace behind its header before it reads the next one, and writes the last line of the report
 /// once none is left. The first line alone, where it is no header, is [`Fault::Header`].
 ///
-/// After `Read` and `Memory` the lines that were read whole are answered, but perhaps the last one; after `Write` a
+/// After `Read` the lines that were read whole are answered, and after `Memory` the first of them; after `Write` a
 /// beginning of their answers was written. An input of 2^64 lines is [`Fault::Read`].
 pub fn answer_all<I: Read, O: Write>(alloc: Global, input: &mut I, out: &mut O) -> Result<(), Fault>
     ensures all { OnOk result (WroteAll (I.remaining input.old) (O.contents out.old) (O.contents out.new)) }

@@ -2,10 +2,8 @@
 
 ghost use Rattle.std.specs.Prelude.{◌^◌, ◌<◌, ◌-◌};
 
-use crate::history::{Followed, History};
-use crate::story::{Story, call_of, event_at, story_before};
 use crate::text::{put_absence, put_key, put_moments, put_place, put_reply};
-use kq_check::Call;
+use kq_check::{Call, Followed, History, Story, call_of, event_at, story_before};
 use kq_judge::{Outcome, Verdict, keys_looked_at, verdict_of};
 use kq_knote::{Knote, Knotes};
 use kq_model::{Change, Key, Memory, Reply, Trace};

@@ -3,13 +3,10 @@
 
 mod explaining;
 mod fault;
-mod history;
 mod input;
 mod order;
 mod output;
 mod running;
-mod step;
-mod story;
 mod telling;
 mod text;
 mod words;

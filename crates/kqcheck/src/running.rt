@@ -32,20 +32,21 @@ kqcheck - says whether recorded answers of kevent(2) are right, and why not
 
 ANSWERS has lines as a report has them, for as many calls as one recorded
 (kqsim(5) has both formats). An answer is right where some order of the queue
-gives it; the order as it stands then is what it leaves.
+gives it, and is followed by what this order leaves.
 
     equal          each answer is the one of the queue's order
     allowed        each is right; the first in another order is named
-    not allowed    the first that is not right, and why
+    not allowed    the first that no order gives, and why
+    unknown        the same, behind a call that has no answer and could have
+                   returned others
     impossible     the first record that cannot be, unless these are permitted
 
 --ignore WRITE.data    a member that is not compared: flags, fflags, data, udata
 --explain 18           the call at place 18, kevent by kevent
 -                      standard input in place of one of the two files
 
-Exit status: 0 equal or allowed; 1 not allowed, or impossible; 2 other words;
-3 a read failed; 4 a bad line, or no call there; 5 out of memory; 7 a write
-failed.
+Exit status: 0 equal or allowed; 1 not allowed, impossible; 2 other words; 3 a
+read failed; 4 a bad line, no call; 5 no memory; 7 a write failed; 8 unknown.
 ";
 
 /// Carries an order out over the bytes of its files, and prints the line of a fault on `err`: the exit status. A
@@ -136,7 +137,7 @@ fn text_of(
 ) -> Result<Vec<u8>, Memory> {
     let mut text = Vec::new(alloc);
     put_outcome(&mut text, outcome)?;
-    if let Outcome::Refused { at } = outcome {
+    if let Outcome::Refused { at } | Outcome::Unknown { at } = outcome {
         let why = refusal_of(alloc, trace, answers, ignored, at)?;
         text.extend_from_slice(&why).map_err(|_| Memory)?;
     }

@@ -2,11 +2,11 @@
 
 ghost use Rattle.std.specs.Prelude.{◌-◌, ◌^◌, ◌<◌};
 
-use crate::history::History;
-use crate::story::{Story, call_of, event_at, story_before};
 use crate::text::{put_absence, put_difference, put_given, put_key, put_moments, put_reply};
 use kq_answers::{Answer, Given};
-use kq_check::{Call, answer_at, events_in_order, key_of};
+use kq_check::{
+    Call, History, Story, answer_at, call_of, event_at, events_in_order, key_of, story_before,
+};
 use kq_judge::{Fault, Ignored, Judgement, judge};
 use kq_model::{Change, Event, Kevent, Key, Memory, Reply, Series, Trace};
 use kq_text::{put, put_number};

@@ -4,17 +4,13 @@ ghost use Rattle.std.specs.Prelude.{OnOk};
 ghost use Rattle.kq_text.specs.Adds.{Adds};
 ghost use Rattle.kqcheck.specs.Texts.{outcome_line, place_text};
 
-use crate::history::Followed;
 use bitflags::Flags;
 use kq_answers::Given;
-use kq_check::Outcome;
+use kq_check::{Followed, Outcome};
 use kq_judge::{Absence, Member};
 use kq_knote::Knote;
 use kq_model::{EvFlags, Kevent, Key, Memory, Reply, Why};
 use kq_text::{put, put_flags, put_i64, put_number};
-
-/// How many moments of a kevent are told, the last ones.
-const MOST_MOMENTS: usize = 8;
 
 /// Adds the line of an outcome.
 #[tactic(auto, unfolding(crate::specs::Texts::outcome_line))]
@@ -25,6 +21,7 @@ pub fn put_outcome(out: &mut Vec<u8>, outcome: Outcome) -> Result<(), Memory>
         Outcome::Equal => put(out, "equal\n"),
         Outcome::Allowed { first } => put_allowed(out, first),
         Outcome::Refused { at } => put_refused(out, at),
+        Outcome::Unknown { at } => put_unknown(out, at),
         Outcome::Impossible { at, why } => put_impossible(out, at, why),
     }
 }
@@ -43,6 +40,17 @@ fn put_refused(out: &mut Vec<u8>, at: u64) -> Result<(), Memory>
     put(out, "not allowed: the call at ")?;
     put_place(out, at)?;
     put(out, "\n")
+}
+
+fn put_unknown(out: &mut Vec<u8>, at: u64) -> Result<(), Memory>
+    ensures { OnOk result (Adds out.old.items (outcome_line (Outcome.Unknown at)) out.new.items) }
+{
+    put(out, "unknown: the call at ")?;
+    put_place(out, at)?;
+    put(
+        out,
+        ": an earlier one has no answer, and could have returned others\n",
+    )
 }
 
 fn put_impossible(out: &mut Vec<u8>, at: u64, why: Why) -> Result<(), Memory>
@@ -191,14 +199,12 @@ fn put_member(out: &mut Vec<u8>, member: Member, event: &Kevent) -> Result<(), M
 
 /// Adds what a kevent went through, the last moments of it.
 pub fn put_moments(out: &mut Vec<u8>, followed: &Followed) -> Result<(), Memory> {
-    let moments = followed.moments.as_slice();
-    let earlier = moments.len().saturating_sub(MOST_MOMENTS);
-    if earlier > 0 {
+    if followed.earlier > 0 {
         put(out, "          (")?;
-        put_number(out, earlier as u64)?;
+        put_number(out, followed.earlier)?;
         put(out, " earlier)\n")?;
     }
-    for moment in &moments[earlier..] {
+    for moment in &followed.moments {
         put(out, "          at ")?;
         put_number(out, moment.at)?;
         put(out, " (")?;

@@ -1,5 +1,5 @@
 -- The fold begins with the empty system.
-use Rattle.std.proofs.Common.{◌≡◌, ◌∙◌, None, ap, rules, subst}
+use Rattle.std.proofs.Common.{◌≡◌, ◌∙◌, [], None, ap, rules, subst}
 use Rattle.std.proofs.lemmas.Result.{IfOk-weaker}
 use Rattle.kq_model.specs.Tallied.{System}
 use Rattle.kq_system.specs.SystemState.{system_of}
@@ -11,5 +11,5 @@ returns c =
     let begun = c.deref_mut.result.now in
     let is : begun ≡ c.in_ok-empty.empty = search rules in
     IfOk-weaker c.judge_from.result _ _
-    (λ o judged. subst (λ (s : System). IsJudgedFrom c.args.ignored.now c.args.permits 1 s c.args.trace.now.events c.args.answers.now None o)
+    (λ o judged. subst (λ (s : System). IsJudgedFrom c.args.ignored.now c.args.permits 1 s c.args.trace.now.events c.args.answers.now None [] o)
     (ap system_of is ∙ c.in_ok-empty.ensures.system) judged) c.judge_from.ensures

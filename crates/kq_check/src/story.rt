@@ -1,13 +1,16 @@
 //! The run up to one call, with what some kevents of its kqueue went through.
 
 ghost use Rattle.std.specs.Prelude.{◌≡◌, ◌+◌, ◌-◌, ◌^◌, ◌<◌, ◌≤◌, IfOk, IfSome, OnOk};
+ghost use Rattle.kq_process.specs.World.{last_of};
 
+use crate::became::{Part, name_of};
 use crate::history::History;
-use crate::step::{Part, name_of};
+use crate::judging::{answer_at, arrange};
+use crate::verdict::Call;
 use kq_answers::{Answer, Given};
-use kq_check::{Call, answer_at, arrange};
 use kq_judge::Ignored;
 use kq_model::{Change, Event, Memory, Reply, Trace};
+use kq_process::World;
 use kq_system::System;
 use std::alloc::Global;
 
@@ -16,6 +19,8 @@ use std::alloc::Global;
 pub struct Story<'r> {
     alloc: Global,
     pub system: System,
+    /// The world once more, which says what a record touches before the system carries it out.
+    world: World,
     pub history: History,
     /// Members that are not compared.
     pub ignored: &'r [Ignored],
@@ -72,6 +77,7 @@ pub fn story_before<'r>(
     let story = Story {
         alloc,
         system: System::new(alloc, trace.version)?,
+        world: World::new(alloc)?,
         history,
         ignored,
         rest: answers,
@@ -86,6 +92,7 @@ impl<'r> Story<'r> {
     fn go_on_before(&mut self, trace: &Trace, at: u64) -> Result<(), Memory>
         requires small { at < 2 ^ 31 }
         requires before { self.old.system.applied < at }
+        requires world { last_of self.old.world ≤ self.old.system.applied }
         ensures { OnOk result (self.new.system.applied < at) }
     {
         'records: for event in trace.events.as_slice() {
@@ -99,59 +106,63 @@ impl<'r> Story<'r> {
 
     /// Carries out one record.
     fn go_on(&mut self, event: &Event) -> Result<(), Memory>
-        requires { self.old.system.applied < 2 ^ 31 - 1 }
-        ensures { OnOk result (self.new.system.applied ≡ self.old.system.applied + 1) }
+        requires few { self.old.system.applied < 2 ^ 31 - 1 }
+        requires world { last_of self.old.world ≤ self.old.system.applied }
+        ensures applied { OnOk result (self.new.system.applied ≡ self.old.system.applied + 1) }
+        ensures world { OnOk result (last_of self.new.world ≤ self.new.system.applied) }
     {
         let (given, behind) = answer_at(self.rest, self.system.applied() + 1);
         self.rest = behind;
-        match event {
-            Event::Kevent {
-                pid,
-                fd,
-                changes,
-                room,
-            } => {
-                let call = Call {
-                    pid: *pid,
-                    fd: *fd,
-                    room: *room,
-                };
-                if self.begin(call, changes.as_slice())?.is_none() {
-                    let _ = self.read(call, given)?;
-                }
-                Ok(())
-            }
-            _ => {
-                let _ = self.system.apply(event)?;
-                self.history
-                    .note(&self.system, name_of(event), Part::Record, &[])
-            }
+        let Some((call, changes)) = call_of(event) else {
+            return self.carry_out(event);
+        };
+        if self.begin(call, changes)?.is_none() {
+            let _ = self.read(call, given)?;
         }
+        Ok(())
+    }
+
+    /// Carries out a record that is no call.
+    fn carry_out(&mut self, event: &Event) -> Result<(), Memory>
+        requires few { self.old.system.applied < 2 ^ 31 - 1 }
+        requires world { last_of self.old.world ≤ self.old.system.applied }
+        ensures applied { OnOk result (self.new.system.applied ≡ self.old.system.applied + 1) }
+        ensures world { OnOk result (last_of self.new.world ≤ self.new.system.applied) }
+    {
+        let effect = self.world.apply(self.system.applied() + 1, event)?;
+        let told = self
+            .history
+            .told_by(self.alloc, &self.system, event, &effect)?;
+        let _ = self.system.apply(event)?;
+        self.history.note(&self.system, name_of(event), Part::Record, told.as_slice())
     }
 
     /// The first step of a call: its reply, or none where it goes on to read events.
     pub fn begin(&mut self, call: Call, changes: &[Change]) -> Result<Option<Reply>, Memory>
         requires { self.old.system.applied < 2 ^ 31 - 1 }
-        ensures { OnOk result (self.new.system.applied ≡ self.old.system.applied + 1) }
+        ensures applied { OnOk result (self.new.system.applied ≡ self.old.system.applied + 1) }
+        ensures world { self.new.world ≡ self.old.world }
     {
+        let told = self.history.told_by_changes(self.alloc, call, changes)?;
         let reply = self
             .system
             .begin_call(call.pid, call.fd, changes, call.room)?;
         self.history
-            .note(&self.system, "kevent", Part::Changes, &[])?;
+            .note(&self.system, "kevent", Part::Changes, told.as_slice())?;
         Ok(reply)
     }
 
     /// The second step of a call.
     pub fn read(&mut self, call: Call, given: Option<&Given>) -> Result<Reply, Memory>
-        ensures { OnOk result (self.new.system.applied ≡ self.old.system.applied) }
+        ensures applied { OnOk result (self.new.system.applied ≡ self.old.system.applied) }
+        ensures world { self.new.world ≡ self.old.world }
     {
         let _ = arrange(self.alloc, &mut self.system, call, given, self.ignored)?;
+        let told = self.history.looked_at(self.alloc, &self.system, call)?;
         let reply = self.system.read_events(call.pid, call.fd, call.room)?;
-        if let Reply::Events(events) = &reply {
-            let events = events.as_slice();
+        if let Reply::Events(_) = &reply {
             self.history
-                .note(&self.system, "kevent", Part::Reading, events)?;
+                .note(&self.system, "kevent", Part::Reading, told.as_slice())?;
         }
         Ok(reply)
     }
