@@ -12,10 +12,10 @@ pub enum Outcome {
     Equal,
     /// Each answer is one that some order gives; the one at this place is the first in another order.
     Allowed { first: u64 },
-    /// No order gives the answer at this place, and all before it are allowed.
+    /// No order of the queue, as the run left it, gives the answer at this place, and each earlier call of the kqueue
+    /// that could have returned others has its answer. All answers before it are allowed.
     Refused { at: u64 },
-    /// No order gives the answer at this place as the kqueue stands, but another order of an earlier call, which has no
-    /// answer, may; all answers before it are allowed.
+    /// The same, where an earlier call of the kqueue has no answer and could have returned others.
     Unknown { at: u64 },
     /// The record at this place could not be, and all before it is allowed.
     Impossible { at: u64, why: Why },
