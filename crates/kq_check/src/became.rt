@@ -5,7 +5,7 @@ use kq_model::{Event, Filter};
 
 /// The part of a record that did something.
 #[derive(Drop, Clone, Copy)]
-pub enum Part {
+pub(crate) enum Part {
     /// The changes of a call.
     Changes,
     /// A call's reading of events.
@@ -68,7 +68,7 @@ impl Step {
 }
 
 /// What became of a kevent by a part of a record, from the knote before and after it; none where nothing did.
-pub fn step_of(
+pub(crate) fn step_of(
     part: Part,
     before: Option<Knote>,
     after: Option<Knote>,
@@ -165,7 +165,7 @@ fn told(before: &Knote, after: &Knote) -> Option<Step> {
 }
 
 /// The name of a record.
-pub fn name_of(event: &Event) -> &'static str {
+pub(crate) fn name_of(event: &Event) -> &'static str {
     match event {
         Event::Proc { .. } => "proc",
         Event::Fork { .. } => "fork",

@@ -22,9 +22,9 @@ use std::alloc::Global;
 
 /// What a record came to, and the kqueue whose order it left open, if it did, by its place.
 #[derive(Drop, Clone, Copy)]
-pub struct Taken {
-    pub verdict: Verdict,
-    pub opened: Option<u64>,
+pub(crate) struct Taken {
+    pub(crate) verdict: Verdict,
+    pub(crate) opened: Option<u64>,
 }
 
 /// What a record came to that left no order open.
@@ -39,7 +39,7 @@ fn taken(verdict: Verdict) -> Taken
 }
 
 /// Carries a record out, of which this is the answer, if there is one. Members that are ignored are not compared.
-pub fn step(
+pub(crate) fn step(
     alloc: Global,
     system: &mut System,
     event: &Event,
@@ -147,7 +147,7 @@ fn read_answered(
 }
 
 /// Puts the queue of a kqueue, of which events are to be read, into the order that the answer has, if it has one.
-pub fn arrange(
+pub(crate) fn arrange(
     alloc: Global,
     system: &mut System,
     call: Call,
@@ -235,7 +235,7 @@ pub fn answer_at(answers: &[Answer], place: u64) -> (Option<&Given>, &[Answer])
 
 /// Whether a run goes on behind a verdict.
 #[derive(Drop, Clone, Copy)]
-pub enum Next {
+pub(crate) enum Next {
     /// It does; this is the first place at which the order was another one, if there is one.
     On(Option<u64>),
     /// It is over.

@@ -15,7 +15,7 @@ mod verdict;
 pub use answering::{events_in_order, key_of};
 pub use became::Step;
 pub use history::{Followed, History, Moment};
-pub use judging::{answer_at, arrange, judge_all};
+pub use judging::{answer_at, judge_all};
 pub use misplaced::first_misplaced;
 pub use outcome::Outcome;
 pub use story::{Story, call_of, event_at, story_before};
