@@ -82,3 +82,7 @@ def at_length(kqcheck, kqsim, folder):
     status, text, _ = ran(kqcheck, b"", "--explain", str(2 + len(calls) + polls), loop.path)
     yield "explained", status == 0 and text.count("in the queue, but the room was full\n") == many - 1
     yield "soon", time.monotonic() - began < 10
+    often = trace_of(*START, call(*two(), room=0), *[call(room=2)] * 20)
+    text = ran(kqcheck, often, "--explain", "23", "-")[1]
+    last = "".join(f"          at {place} (kevent): returned, put at the back\n" for place in range(16, 24))
+    yield "the last eight moments", text.count(f"returned\n          (13 earlier)\n{last}") == 2
