@@ -28,7 +28,7 @@ pub(crate) struct Taken {
 }
 
 /// What a record came to that left no order open.
-fn taken(verdict: Verdict) -> Taken
+fn came_to(verdict: Verdict) -> Taken
     ensures verdict { result.verdict ≡ verdict }
     ensures opened { result.opened ≡ None }
 {
@@ -60,7 +60,7 @@ pub(crate) fn step(
             changes,
             room,
         } => match system.begin_call(*pid, *fd, changes.as_slice(), *room)? {
-            Some(reply) => Ok(taken(verdict_of(&reply, given))),
+            Some(reply) => Ok(came_to(verdict_of(&reply, given))),
             None => {
                 let call = Call {
                     pid: *pid,
@@ -72,7 +72,7 @@ pub(crate) fn step(
         },
         _ => {
             let reply = system.apply(event)?;
-            Ok(taken(verdict_of(&reply, given)))
+            Ok(came_to(verdict_of(&reply, given)))
         }
     }
 }
@@ -94,7 +94,7 @@ fn read(
     match given {
         Some(answer) => {
             let verdict = read_answered(alloc, system, call, answer, ignored)?;
-            Ok(taken(verdict))
+            Ok(came_to(verdict))
         }
         None => read_unanswered(system, call),
     }

@@ -42,10 +42,13 @@ impl OpenOrders {
     pub(crate) fn add(&mut self, opened: Option<u64>) -> Result<(), Memory>
         ensures { OnOk result (self.new.places.keys ≡ open_with opened self.old.places.keys) }
     {
-        if let Some(place) = opened {
-            self.places.insert(place)?;
+        match opened {
+            Some(place) => {
+                self.places.insert(place)?;
+                Ok(())
+            }
+            None => Ok(()),
         }
-        Ok(())
     }
 }
 
@@ -54,8 +57,8 @@ impl OpenOrders {
 fn kqueue_in(named: Option<Named>) -> Option<u64>
     ensures { result ≡ kqueue_in named }
 {
-    match named {
-        Some(Named::Kqueue(place)) => Some(place),
+    match named? {
+        Named::Kqueue(place) => Some(place),
         _ => None,
     }
 }
