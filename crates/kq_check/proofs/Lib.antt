@@ -3,4 +3,4 @@ pub mod Folded
 pub mod FirstAnswer
 pub mod Orders
 pub mod PlainSteps
-pub mod Reads
+pub mod Unanswered

@@ -1,7 +1,6 @@
 -- The first record, one further, the last, and one where it is over.
-use Rattle.std.proofs.Common.{◌≡◌, ◌∙◌, ap, arith, rules, sym}
+use Rattle.std.proofs.Common.{◌≡◌, ◌+◌, ◌∙◌, ap, arith}
 use Rattle.kq_system.specs.SystemState.{system_of}
-use Rattle.kq_check.specs.Judged.{IsJudgedFrom}
 use Rattle.kq_check.specs.LeftOpen.{is_open}
 use Rattle.kq_check.proofs.Folded.{at_the_end, from_start, one_on, one_over, with_none}
 use Rattle.kq_check.proofs.judging.judge_from.Goals as goal

@@ -1,5 +1,5 @@
 -- What is read, and whether the order is left open.
-use Rattle.kq_check.proofs.Reads.{opened_so, read_unanswered}
+use Rattle.kq_check.proofs.Unanswered.{opened_so, read_unanswered}
 use Rattle.kq_system.specs.SystemState.{system_of}
 use Rattle.kq_check.proofs.judging.read_unanswered.Goals as goal
 

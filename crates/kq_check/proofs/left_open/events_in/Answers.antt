@@ -1,5 +1,5 @@
 -- None of those.
-use Rattle.kq_check.proofs.Reads.{no_events}
+use Rattle.kq_check.proofs.Unanswered.{no_events}
 use Rattle.kq_check.proofs.left_open.events_in.Goals as goal
 
 pub returns-in_default : goal.returns-in_default

@@ -1,5 +1,5 @@
 -- None of those.
-use Rattle.kq_check.proofs.Reads.{calls_none}
+use Rattle.kq_check.proofs.Unanswered.{calls_none}
 use Rattle.kq_check.proofs.left_open.kqueue_of.Goals as goal
 
 pub returns-in_default : goal.returns-in_default

@@ -1,5 +1,5 @@
 -- The kqueue is there, or there is none.
-use Rattle.kq_check.proofs.Reads.{none_waits, waiting_is}
+use Rattle.kq_check.proofs.Unanswered.{none_waits, waiting_is}
 use Rattle.kq_check.proofs.left_open.waiting_in.Goals as goal
 
 pub returns-in-Some : goal.returns-in-Some
