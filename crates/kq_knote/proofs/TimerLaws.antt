@@ -7,7 +7,8 @@ use Rattle.kq_model.specs.Hearing.{Expired, most_counted, notes_of}
 use Rattle.kq_model.specs.Tallying.{Tally, tallying}
 use Rattle.kq_model.specs.Knote.{is_timer}
 use Rattle.kq_model.specs.Tallied.{Knote}
-use Rattle.kq_model.specs.Ticks.{last_moment, expires, counted}
+use Rattle.kq_model.specs.Ticks.{last_moment, expires}
+use Rattle.kq_model.specs.NextTicks.{counted}
 use Rattle.kq_model.specs.NextTicks.{ticks_between, next_tick}
 use Rattle.kq_model.specs.WalkedAtOnce.{rung_times}
 use Rattle.kq_model.proofs.TicksFirst.{next_tick-none}

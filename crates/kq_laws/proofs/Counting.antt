@@ -5,7 +5,8 @@ use Rattle.std.proofs.Math.Nat.{le-mul_of_pos_right}
 use Rattle.kq_model.specs.Clock.{expires_at, ticking}
 use Rattle.kq_model.specs.Knote.{is_timer}
 use Rattle.kq_model.specs.Tallied.{Knote}
-use Rattle.kq_model.specs.Ticks.{is_tick, counted}
+use Rattle.kq_model.specs.Ticks.{is_tick}
+use Rattle.kq_model.specs.NextTicks.{counted}
 use Rattle.kq_model.specs.NextTicks.{ticks_between}
 use Rattle.kq_model.proofs.Ticks.{is_tick-false}
 

@@ -14,7 +14,8 @@ use Rattle.kq_model.specs.Bits.{add, clear}
 use Rattle.kq_model.specs.Call.{call}
 use Rattle.kq_model.specs.Caller.{Caller}
 use Rattle.kq_model.specs.TimerWalk.{queue_at, walked}
-use Rattle.kq_model.specs.Ticks.{is_among_first, is_tick, counted}
+use Rattle.kq_model.specs.Ticks.{is_among_first, is_tick}
+use Rattle.kq_model.specs.NextTicks.{counted}
 use Rattle.kq_model.specs.Views.{Views}
 use Rattle.kq_model.proofs.Opened.{system_opened}
 use Rattle.kq_laws.specs.Life.{Life, Step, Hints, Passes, Calls, born, lived}

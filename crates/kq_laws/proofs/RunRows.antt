@@ -15,7 +15,8 @@ use Rattle.kq_model.specs.ProcessPlans.{plan_clock, plan_clock_at, plan_fork}
 use Rattle.kq_model.specs.System.{empty_system, step, system_after}
 use Rattle.kq_model.specs.Tallied.{System}
 use Rattle.kq_model.specs.TimerWalk.{queue_at, walked}
-use Rattle.kq_model.specs.Ticks.{is_among_first, is_tick, counted}
+use Rattle.kq_model.specs.Ticks.{is_among_first, is_tick}
+use Rattle.kq_model.specs.NextTicks.{counted}
 use Rattle.kq_model.proofs.ObjectBuilders.{objects_opened}
 use Rattle.kq_model.proofs.Opened.{system_opened}
 use Rattle.kq_laws.specs.Runs.{last_returned_over}

@@ -10,7 +10,8 @@ use Rattle.kq_model.specs.declared.reply.Reply.TheVariants.{Events}
 use Rattle.kq_model.specs.Bits.{add, delete, enable, disable, oneshot, clear, error}
 use Rattle.kq_model.specs.ProcessPlans.{plan_clock, plan_clock_at}
 use Rattle.kq_model.specs.System.{rows}
-use Rattle.kq_model.specs.Ticks.{Every, At, timing_of, is_among_first, is_tick, counted}
+use Rattle.kq_model.specs.Ticks.{Every, At, timing_of, is_among_first, is_tick}
+use Rattle.kq_model.specs.NextTicks.{counted}
 use Rattle.kq_model.specs.TimerWalk.{queue_at, walked}
 use Rattle.kq_model.proofs.Builders.{kevent, opened, rows_from}
 use Rattle.kq_model.proofs.Opened.{system_opened}

@@ -3,7 +3,8 @@ use Rattle.std.proofs.Common.{◌≡◌, ◌≢◌, ℕ, zero, suc, ◌+◌, ◌
 use Rattle.std.proofs.lemmas.Bool.{eq-eqb, eqb-true, ne_eqb, or_right, or_left, or_from, cases_lt}
 use Rattle.std.proofs.lemmas.Nat.{div-mul-add, same_from_place, div-add-mod', mod_below}
 use Rattle.std.proofs.Math.Nat.{le-mul_of_pos_right, mul-le-mul_right, lt-div-mul-add, div-mul-le_self, lt_of_mul-lt-mul_right}
-use Rattle.kq_model.specs.Ticks.{Ticking, is_among_first, is_tick, counted}
+use Rattle.kq_model.specs.Ticks.{Ticking, is_among_first, is_tick}
+use Rattle.kq_model.specs.NextTicks.{counted}
 use Rattle.kq_model.specs.NextTicks.{ticks_between}
 
 -- ---- which moments are ticks

@@ -3,7 +3,8 @@
 use Rattle.std.proofs.Common.{◌≡◌, ℕ, zero, suc, ◌+◌, ◌-◌, ◌<◌, ◌≤◌, Bool, true, false, cond, leb, ltb, pos, ◌⊎◌, inl, inr, sym, ap, ◌∙◌, add-zero, arith}
 use Rattle.std.proofs.lemmas.Bool.{cases_lt, cases_order, cases_Bool, le-leb, lt-leb, lt-ltb, true≢false}
 use Rattle.std.proofs.lemmas.Int.{ints}
-use Rattle.kq_model.specs.Ticks.{last_moment, counted}
+use Rattle.kq_model.specs.Ticks.{last_moment}
+use Rattle.kq_model.specs.NextTicks.{counted}
 use Rattle.kq_model.specs.NextTicks.{first_passing, next_tick, IsNextTick, HasNoTick}
 use Rattle.kq_model.specs.WalkedAtOnce.{IsFirstPassing}
 

@@ -2,7 +2,8 @@
 use Rattle.std.proofs.Common.{◌≡◌, ℕ, zero, suc, ◌+◌, ◌<◌, ◌≤◌, Bool, true, false, cond, ◌&&◌, eqb, leb, ltb, negsuc, ◌⊎◌, inl, inr, refl, sym, ◌∙◌, add-zero, arith}
 use Rattle.std.proofs.lemmas.Bool.{cases_lt, cases_order, le-leb, lt-leb, lt-ltb, le-ltb, eq-eqb, ne_eqb, and_right, true≢false}
 use Rattle.std.proofs.lemmas.Int.{ints}
-use Rattle.kq_model.specs.Ticks.{Ticking, last_moment, is_tick, expires, counted}
+use Rattle.kq_model.specs.Ticks.{Ticking, last_moment, is_tick, expires}
+use Rattle.kq_model.specs.NextTicks.{counted}
 use Rattle.kq_model.specs.NextTicks.{IsNextTick, HasNoTick}
 use Rattle.kq_model.specs.WalkedAtOnce.{IsFirstPassing}
 use Rattle.kq_model.proofs.Ticks.{is_tick-at, is_tick-false}

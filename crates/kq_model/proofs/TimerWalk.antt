@@ -7,7 +7,7 @@ use Rattle.std.specs.List.{filter, IsDistinct}
 use Rattle.std.proofs.lemmas.Bool.{cases_order, le-leb, lt-leb, eq-eqb, ne_eqb, and_left, and_right}
 use Rattle.std.proofs.lemmas.List.{map-append}
 use Rattle.std.proofs.lemmas.List.Folds.{list_any-append}
-use Rattle.kq_model.specs.Ticks.{counted}
+use Rattle.kq_model.specs.NextTicks.{counted}
 use Rattle.kq_model.specs.TimerWalk.{Alarms, Waiting, is_queued, is_fresh, rung_at, queue_at, walked, moment_step}
 use Rattle.kq_model.specs.WalkedAtOnce.{rung_times, in_order, walked_at_once, KeepsAlarms, IsFirstPassing}
 use Rattle.kq_model.proofs.TimerWalkSort.{sorted_step}

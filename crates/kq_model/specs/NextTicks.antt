@@ -1,7 +1,12 @@
 -- How often a timer expires in a span, and when next: what the code finds by a division.
 use Rattle.std.specs.Prelude.{◌≡◌, ℕ, zero, suc, ◌+◌, ◌-◌, ◌<◌, ◌≤◌, Bool, true, false, nat_le}
 use Rattle.std.specs.Prelude.{if◌then◌else◌, ℤ, pos, ◌<ℤ◌}
-use Rattle.kq_model.specs.Ticks.{counted, last_moment}
+use Rattle.kq_model.specs.Ticks.{last_moment}
+
+-- how many of the n moments after `from` pass the test
+unfoldable pub counted : (ℕ → Bool) → ℕ → ℕ → ℕ
+counted test from zero = 0
+counted test from (suc n) = counted test from n + (if test (from + suc n) then 1 else 0)
 
 -- how often a timer that expires at these moments does so after `from` and not after `to`
 abbrev pub ticks_between : (ℕ → Bool) → ℕ → ℕ → ℕ

@@ -4,9 +4,9 @@
 -- the moment at which it expires.
 -- This project's choice: the clock counts from 0, its last moment is 2^63 - 1, two units and unknown
 -- bits are refused, and a period of 0 units counts as 1. NOTE_ABSTIME is known from version 2 of the trace's format on.
-use Rattle.std.specs.Prelude.{◌≡◌, ℕ, zero, suc, ◌+◌, ◌-◌, ◌*◌, ◌<◌, ◌≤◌, max}
-use Rattle.std.specs.Prelude.{Bool, true, false, not, ◌&&◌, ◌||◌, ◌==◌}
-use Rattle.std.specs.Prelude.{nat_le, if◌then◌else◌, ℤ, pos, negsuc, ◌<ℤ◌, Option, Some, None}
+use Rattle.std.specs.Prelude.{ℕ, zero, suc, ◌+◌, ◌-◌, ◌*◌, max}
+use Rattle.std.specs.Prelude.{Bool, false, not, ◌&&◌, ◌||◌, ◌==◌}
+use Rattle.std.specs.Prelude.{nat_le, if◌then◌else◌, ℤ, pos, negsuc, Option, Some, None}
 use Rattle.std.specs.Option.{option_and_then, option_map}
 use Rattle.kq_model.specs.Bits.{has_note, abstime_note}
 
@@ -76,8 +76,3 @@ is_tick t moment = if is_single_moment t then t.start == moment else is_among_fi
 -- the moments of a timer that may expire once only: the first of them alone (kqueue(2), EV_ONESHOT)
 abbrev pub expires : Bool → Ticking → ℕ → Bool
 expires once t moment = is_tick t moment && (not once || (moment == t.start + t.period))
-
--- how many of the n moments after `from` pass the test
-unfoldable pub counted : (ℕ → Bool) → ℕ → ℕ → ℕ
-counted test from zero = 0
-counted test from (suc n) = counted test from n + (if test (from + suc n) then 1 else 0)

@@ -2,12 +2,8 @@
 -- one expiration and, where it is enabled and not in the queue yet, goes to the queue's back.
 -- Source: this project's choice; kqueue(2) says that a timer's expirations are counted, and nothing of
 -- the order in which events of one call are returned.
-use Rattle.std.specs.Prelude.{◌≡◌, ℕ, zero, suc, ◌+◌, ◌<◌, ◌≤◌, Bool, true, false, not}
-use Rattle.std.specs.Prelude.{◌&&◌, nat_le, nat_lt}
-use Rattle.std.specs.Prelude.{if◌then◌else◌, List, [], ◌∷◌, ◌++◌, map}
-use Rattle.std.specs.List.{filter, list_any}
-use Rattle.kq_model.specs.Ticks.{counted}
-use Rattle.kq_model.specs.NextTicks.{ticks_between, next_tick}
+use Rattle.std.specs.Prelude.{ℕ, zero, suc, ◌+◌, Bool, not, ◌&&◌, if◌then◌else◌, List, [], ◌∷◌, ◌++◌, map}
+use Rattle.std.specs.List.{list_any}
 
 -- what the walk asks of an item and does to it
 pub record Alarms (X Key : Type 0) : Type 0 where

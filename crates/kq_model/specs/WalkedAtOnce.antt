@@ -3,7 +3,7 @@
 use Rattle.std.specs.Prelude.{◌≡◌, ℕ, zero, suc, ◌+◌, ◌<◌, ◌≤◌, Bool, true, false, ◌&&◌, nat_le, nat_lt}
 use Rattle.std.specs.Prelude.{if◌then◌else◌, List, [], ◌∷◌, ◌++◌, map}
 use Rattle.std.specs.List.{filter}
-use Rattle.kq_model.specs.Ticks.{counted}
+use Rattle.kq_model.specs.NextTicks.{counted}
 use Rattle.kq_model.specs.NextTicks.{ticks_between, next_tick}
 use Rattle.kq_model.specs.TimerWalk.{Alarms, Waiting, is_fresh}
 

@@ -3,7 +3,8 @@ use Rattle.std.proofs.Common.{◌≡◌, ℕ, zero, suc, ◌+◌, ◌-◌, ◌%�
 use Rattle.std.proofs.lemmas.Bool.{cases_lt, le-leb, lt-leb, lt-ltb, le-ltb, eq-eqb, ne_eqb, and_left, and_right, and_from, eqb-true, true≢false}
 use Rattle.std.proofs.lemmas.Bool.Decides.{nat_tests}
 use Rattle.std.proofs.lemmas.Int.{ints}
-use Rattle.kq_model.specs.Ticks.{Ticking, last_moment, is_among_first, is_tick, expires, counted}
+use Rattle.kq_model.specs.Ticks.{Ticking, last_moment, is_among_first, is_tick, expires}
+use Rattle.kq_model.specs.NextTicks.{counted}
 use Rattle.kq_model.specs.NextTicks.{ticks_between, next_tick, IsNextTick}
 use Rattle.kq_model.proofs.Ticks.{periods, ticks_between-periods, moment_after, moment_after-later, moment_after-tick, moment_after-least}
 use Rattle.kq_model.proofs.TicksFirst.{next_tick-found, next_tick-none}
