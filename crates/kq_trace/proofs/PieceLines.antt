@@ -57,8 +57,8 @@ pieces_read-last others batches last batch read is =
     let part : List (List ℕ) = lines_behind last.now in (
       read.0 ++ part ∷ [],
       flat_map-append (λ (p : List (List ℕ)). p) read.0 (part ∷ [])
-      ∙ ap (λ l. l ++ (part ++ [])) read.1
-      ∙ sym (flat_map-append lines others (last ∷ [])),
+          ∙ ap (λ l. l ++ (part ++ [])) read.1
+          ∙ sym (flat_map-append lines others (last ∷ [])),
       AllZip-append IsReadAs read.0 (part ∷ []) batches (batch ∷ []) read.2 (is, tt),
     )
 

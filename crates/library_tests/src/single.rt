@@ -3,7 +3,9 @@ use bitflags::Flags;
 use kq_kevent::Kq;
 use kq_knote::{Knote, Knotes, Tally};
 use kq_model::notes::{NOTE_EXIT, NOTE_TRACK};
-use kq_model::{Act, Change, Errno, EvFlags, Event, Filter, Kevent, Key, Memory, Reply, Row, Series, Version};
+use kq_model::{
+    Act, Change, Errno, EvFlags, Event, Filter, Kevent, Key, Memory, Reply, Row, Series, Version,
+};
 use kq_objects::Objects;
 use kq_process::World;
 use kq_timer::Period;
