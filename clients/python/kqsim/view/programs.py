@@ -8,7 +8,9 @@ import shutil
 import subprocess
 from typing import Any, Dict, Iterator, List, NamedTuple, Optional, Sequence
 
-PLACE = re.compile(r"^(?:not allowed: the call|impossible: the record) at (\d+) ")
+PLACE = re.compile(r"^(?:not allowed: the call|unknown: the call|impossible: the record) at (\d+) ")
+# kqcheck ends with one of these where it has judged: all are right, one is wrong, or one may be.
+JUDGED = (0, 1, 8)
 # The line of the first kevent that is wrong.
 BLAME = re.compile(r"^  (extra|missing|twice|beyond|differs) +([A-Z]+ \d+): (.*)$", re.MULTILINE)
 
@@ -71,7 +73,7 @@ class Verdict(NamedTuple):
 def verdict_on(words: Sequence[str]) -> Verdict:
     """What kqcheck says of these words: options, a trace and answers."""
     run = subprocess.run([found("kqcheck"), *words], stdout=subprocess.PIPE, stderr=subprocess.PIPE, text=True)
-    if run.returncode not in (0, 1):
+    if run.returncode not in JUDGED:
         raise Stopped(4 if run.returncode == 4 else 6, run.stderr.strip())
     place, blame = PLACE.match(run.stdout), BLAME.search(run.stdout)
     return Verdict(run.stdout, int(place.group(1)) if place else None, *(blame.groups() if blame else ()))
