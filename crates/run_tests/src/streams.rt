@@ -58,12 +58,10 @@ fn left_endless<R: AllocGlobal + Threads + Wait + Sync>(
 
 #[test]
 fn an_input_without_end_is_left(rt: HostRuntime) {
-    for workers in [1, 2, 256] {
-        assert!(rt;
-            left_endless(&rt, workers) == (Err(Fault::Read), 101, 0),
-            "by {workers}"
-        );
-    }
+    let left = (Err(Fault::Read), 101, 0);
+    assert!(rt; left_endless(&rt, 1) == left, "by one");
+    assert!(rt; left_endless(&rt, 2) == left, "by two");
+    assert!(rt; left_endless(&rt, 256) == left, "by all");
 }
 
 /// Whether a write failed, and before that so many bytes of the report were taken.
