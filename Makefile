@@ -1,5 +1,5 @@
-# make           proves the programs and builds them: out/kqsim, out/kqstep and out/kqcheck in their crates; and the
-#                library for C, crates/libkqsim/out/libkqsim.a
+# make           proves the programs and builds them: out/kqsim, out/kqstep, out/kqcheck and out/kqsplit in their
+#                crates; and the library for C, crates/libkqsim/out/libkqsim.a
 # make run       the report of an example, within two minutes on a fresh machine
 # make test      proves and tests everything; the last line is 'N passed, M failed'
 # make bench     measures the program beside one that only reads
@@ -11,6 +11,7 @@
 KQSIM := crates/kqsim/out/kqsim
 KQSTEP := crates/kqstep/out/kqstep
 KQCHECK := crates/kqcheck/out/kqcheck
+KQSPLIT := crates/kqsplit/out/kqsplit
 LIBKQSIM := crates/libkqsim/out/libkqsim.a
 VALUE_COUNT := crates/value_count/out/value_count
 TRACE_CHECK := crates/trace_check/out/trace_check
@@ -31,6 +32,7 @@ all:
 	cd crates/kqsim && rt run < stdin
 	cd crates/kqstep && rt run < stdin
 	cd crates/kqcheck && rt run -- --explain 4 - < stdin
+	cd crates/kqsplit && rt run -- - < stdin
 	$(MAKE) libkqsim
 
 libkqsim:
@@ -66,6 +68,7 @@ install: all install-view install-man install-pc
 	install -D -m 755 $(KQSIM) $(DESTDIR)$(PREFIX)/bin/kqsim
 	install -D -m 755 $(KQSTEP) $(DESTDIR)$(PREFIX)/bin/kqstep
 	install -D -m 755 $(KQCHECK) $(DESTDIR)$(PREFIX)/bin/kqcheck
+	install -D -m 755 $(KQSPLIT) $(DESTDIR)$(PREFIX)/bin/kqsplit
 	install -D -m 644 $(LIBKQSIM) $(DESTDIR)$(PREFIX)/lib/libkqsim.a
 	install -D -m 644 include/kqsim.h $(DESTDIR)$(PREFIX)/include/kqsim.h
 
@@ -82,6 +85,7 @@ install-man:
 	install -D -m 644 man/kqsim.1 $(DESTDIR)$(PREFIX)/share/man/man1/kqsim.1
 	install -D -m 644 man/kqstep.1 $(DESTDIR)$(PREFIX)/share/man/man1/kqstep.1
 	install -D -m 644 man/kqcheck.1 $(DESTDIR)$(PREFIX)/share/man/man1/kqcheck.1
+	install -D -m 644 man/kqsplit.1 $(DESTDIR)$(PREFIX)/share/man/man1/kqsplit.1
 	install -D -m 644 man/kqview.1 $(DESTDIR)$(PREFIX)/share/man/man1/kqview.1
 	install -D -m 644 man/kqshrink.1 $(DESTDIR)$(PREFIX)/share/man/man1/kqshrink.1
 	install -D -m 644 man/kqsim.5 $(DESTDIR)$(PREFIX)/share/man/man5/kqsim.5

@@ -1,0 +1,3 @@
+pub mod Born
+pub mod Left
+pub mod Spelled

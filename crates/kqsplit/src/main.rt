@@ -1,0 +1,71 @@
+//! `kqsplit`: shows the private list of each kqueue of a trace, and the rows that it gives alone.
+#![tactic(auto)]
+
+mod order;
+mod running;
+
+use kq_split::Fault;
+use order::{Order, parse_words};
+use running::{run_order, tell};
+use std::alloc::Global;
+use std::env;
+use std::fs::File;
+use std::io::ErrorKind;
+use std::process::ExitCode;
+
+fn main(rt: HostRuntime) -> ExitCode {
+    let (mut out, mut err) = (rt.stdout(), rt.stderr());
+    let status = match asked(&rt) {
+        Ok((order, file)) => match file {
+            Some(mut file) => run_order(&rt, &order, &mut file, &mut out, &mut err),
+            None => run_order(&rt, &order, &mut rt.stdin(), &mut out, &mut err),
+        },
+        Err(fault) => {
+            tell(fault, &mut err);
+            fault.status()
+        }
+    };
+    ExitCode::from(status)
+}
+
+/// The order of the command line, and the file that it names, opened; none for standard input.
+fn asked(rt: &HostRuntime) -> Result<(Order, Option<File>), Fault> {
+    let words = words(rt)?;
+    let order = ordered(rt.alloc(), words.as_slice())?;
+    let file = opened(rt, order.file.as_str())?;
+    Ok((order, file))
+}
+
+/// The words after the program's name. Words that are no text are none of the program's.
+fn words(rt: &HostRuntime) -> Result<Vec<String>, Fault> {
+    let all = env::args(rt).map_err(|error| match error.kind() {
+        ErrorKind::OutOfMemory => Fault::Memory,
+        _ => Fault::Usage,
+    })?;
+    let mut words = Vec::new(rt.alloc());
+    for word in all.skip(1) {
+        words.push(word).map_err(|_| Fault::Memory)?;
+    }
+    Ok(words)
+}
+
+/// The order that the words give.
+fn ordered(alloc: Global, words: &[String]) -> Result<Order, Fault> {
+    let mut texts = Vec::new(alloc);
+    for word in words {
+        texts.push(word.as_str()).map_err(|_| Fault::Memory)?;
+    }
+    parse_words(alloc, texts.as_slice())
+}
+
+/// The file of this name; none for standard input, whose name is `-`.
+fn opened(rt: &HostRuntime, name: &str) -> Result<Option<File>, Fault> {
+    if name == "-" {
+        return Ok(None);
+    }
+    let file = File::open(rt, name).map_err(|error| match error.kind() {
+        ErrorKind::OutOfMemory => Fault::Memory,
+        _ => Fault::Read,
+    })?;
+    Ok(Some(file))
+}
