@@ -1,6 +1,7 @@
 # make           proves the programs and builds them: out/kqsim, out/kqstep, out/kqcheck and out/kqsplit in their
 #                crates; and the library for C, crates/libkqsim/out/libkqsim.a
 # make run       the report of an example, within two minutes on a fresh machine
+# make try       the programs without their proofs, in out/try: they are slow, and check themselves as they run
 # make test      proves and tests everything; the last line is 'N passed, M failed'
 # make bench     measures the program beside one that only reads
 # make install   puts the programs, kqview and kqshrink into PREFIX/bin, their manual pages into PREFIX/share/man,
@@ -22,7 +23,7 @@ PREFIX ?= /usr/local
 # proved takes up to 3 GB.
 JOBS ?= $(shell echo $$((2 * $$(nproc))))
 
-.PHONY: all libkqsim libkqsim-joined run test bench install install-view install-man install-pc
+.PHONY: all libkqsim libkqsim-joined run try test bench install install-view install-man install-pc
 
 # (rt all check proves what has changed of the libraries, side by side where they do not stand on each other; rt run
 # proves and builds a program over that, by as many jobs as there is room for, and runs it, so it is given its stored
@@ -49,6 +50,15 @@ libkqsim-joined:
 # (rt try runs the program without any proof, and copies no file from outside its crate)
 run:
 	@if [ -x $(KQSIM) ]; then $(KQSIM) replay $(EXAMPLE); else cd crates/kqsim && rt try -- replay - < ../../$(EXAMPLE); fi
+
+# (a proof takes most of an hour, so this is for a first look)
+try:
+	$(MAKE) --no-print-directory -j 4 out/try/kqsim out/try/kqstep out/try/kqcheck out/try/kqsplit
+
+out/try/%: FORCE
+	tools/unproved $* $@
+
+FORCE:
 
 test:
 	@tests/all
