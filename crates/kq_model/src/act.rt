@@ -1,3 +1,5 @@
+//! What a record asks of a socket, a pipe or a file, with its descriptors resolved to objects.
+
 use crate::{Mode, Named, Note, Side};
 
 /// A record about sockets, pipes or files, with each descriptor resolved to what it names. Sizes,

@@ -1,3 +1,5 @@
+//! One entry of the change list that kevent(2) takes, and which knote it is about.
+
 ghost use Rattle.std.specs.Prelude.{◌≡◌};
 ghost use Rattle.kq_model.specs.ChangedKnote.{key_of};
 

@@ -1,3 +1,5 @@
+//! What is noted of a socket, a pipe, an open file description or a file as records happen.
+
 use crate::{Mode, Side};
 
 /// What is noted of one socket. Sizes and amounts are bytes.

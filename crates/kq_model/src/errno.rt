@@ -1,3 +1,5 @@
+//! The errors with which kevent(2) fails, and FreeBSD's numbers of them.
+
 ghost use Rattle.std.specs.Prelude.{◌≡◌};
 ghost use Rattle.kq_model.specs.Errno.{error_number};
 

@@ -1,3 +1,5 @@
+//! One record of a trace, as a value: each kind of record with its members.
+
 ghost use Rattle.std.specs.Prelude.{◌≡◌, IfOk};
 
 use crate::{Change, Memory, Mode, Note, Series, Side};

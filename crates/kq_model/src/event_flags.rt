@@ -1,3 +1,5 @@
+//! The flags of kevents: their bits as FreeBSD has them, their names, and sets of them.
+
 ghost use Rattle.std.specs.Prelude.{⊤};
 ghost use Rattle.kq_model.specs.FlagNames.{flag_table};
 

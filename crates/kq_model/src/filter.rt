@@ -1,3 +1,5 @@
+//! The filters of kqueue(2), also those that are not simulated, and how a trace spells them.
+
 ghost use Rattle.std.specs.Prelude.{◌≡◌};
 ghost use Rattle.kq_model.specs.Names.{filter_name};
 

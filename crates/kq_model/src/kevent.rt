@@ -1,3 +1,5 @@
+//! What kevent(2) hands back: an event of a knote, or an entry that answers a change.
+
 use crate::{EvFlags, Filter};
 
 /// One returned event, or one entry that answers a change.

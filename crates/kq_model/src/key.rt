@@ -1,3 +1,5 @@
+//! By what a kqueue tells its knotes apart: the ident and the filter together.
+
 use crate::Filter;
 
 /// What tells the knotes of one kqueue apart: at most one stands for each pair; see kqueue(2).

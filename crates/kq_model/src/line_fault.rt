@@ -1,3 +1,5 @@
+//! Why a line of a trace is refused: the faults in their order, and their printed names.
+
 ghost use Rattle.std.specs.Prelude.{◌≡◌};
 ghost use Rattle.kq_model.specs.FaultNames.{fault_name};
 

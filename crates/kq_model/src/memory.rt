@@ -1,3 +1,5 @@
+//! The error that there is no memory, and the allocators' errors that turn into it.
+
 use std::alloc::{AllocError, AllocFailed};
 
 /// A growth was refused: there is no memory left for it.

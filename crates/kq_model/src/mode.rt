@@ -1,3 +1,5 @@
+//! Whether a file is opened to read, to write or both, as a trace says it.
+
 ghost use Rattle.std.specs.Prelude.{◌≡◌};
 ghost use Rattle.kq_model.specs.Names.{mode_name};
 

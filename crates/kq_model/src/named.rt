@@ -1,3 +1,5 @@
+//! From the ident of a change to what it names in a process, and to what its filter watches.
+
 ghost use Rattle.std.specs.Prelude.{◌≡◌};
 ghost use Rattle.kq_model.specs.Refusals.{process_in};
 ghost use Rattle.kq_model.specs.Targets.{named_in, object_of, file_of, target_of};

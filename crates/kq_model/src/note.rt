@@ -1,3 +1,5 @@
+//! The notes of EVFILT_VNODE that a record can give of a file, and how a trace spells them.
+
 ghost use Rattle.std.specs.Prelude.{◌≡◌};
 ghost use Rattle.kq_model.specs.Names.{note_name};
 

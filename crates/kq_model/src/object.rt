@@ -1,3 +1,5 @@
+//! What knotes watch, what they are told and see of it, and what a descriptor can name.
+
 ghost use Rattle.std.specs.Prelude.{◌≡◌};
 ghost use Rattle.std.specs.Cmp.Rules.{hashing};
 ghost use Rattle.std.proofs.Common.{rules};

@@ -1,3 +1,5 @@
+//! The kinds of records, one for each value of `op`, and the types of their members.
+
 /// The kinds of records. In a trace a record's member `op` names its kind.
 #[derive(Debug, Drop, Clone, Copy)]
 pub enum RecordKind {

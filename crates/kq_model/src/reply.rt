@@ -1,3 +1,5 @@
+//! The answer to one record: done, events, an error, or why it could not happen.
+
 ghost use Rattle.std.specs.Prelude.{◌≡◌, IfOk};
 
 use crate::{Errno, Kevent, Memory, Series, Why};

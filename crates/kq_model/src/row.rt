@@ -1,3 +1,5 @@
+//! One answer of a report, with the place of the record that it answers.
+
 ghost use Rattle.std.specs.Prelude.{◌≡◌, IfOk};
 
 use crate::{Memory, Reply};

@@ -1,3 +1,5 @@
+//! The answers of one kqueue, which is known by the place of its birth.
+
 use crate::{Row, Series};
 
 /// The rows of one kqueue.

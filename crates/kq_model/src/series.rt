@@ -1,3 +1,5 @@
+//! A list for public types, of which contracts see the elements and nothing else.
+
 ghost use Rattle.std.specs.Prelude.{◌≡◌, ◌↔◌, [], length, IsTrue, IfOk};
 
 use crate::Memory;

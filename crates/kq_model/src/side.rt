@@ -1,3 +1,5 @@
+//! To read or to write: the two sides of a socket, and the two ends of a pipe.
+
 ghost use Rattle.std.specs.Prelude.{◌≡◌};
 ghost use Rattle.kq_model.specs.Names.{side_name};
 

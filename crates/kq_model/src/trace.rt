@@ -1,3 +1,5 @@
+//! A recorded run: fewer than 2^31 events, by the rules of a known version of the format.
+
 ghost use Rattle.std.specs.Prelude.{◌<◌, ◌^◌, length};
 ghost use Rattle.kq_model.specs.Limits.{IsVersion};
 

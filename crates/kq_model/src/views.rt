@@ -1,3 +1,5 @@
+//! The three questions that a kqueue asks of the world: a target, a descriptor, the time.
+
 ghost use Rattle.std.specs.Prelude.{◌≡◌, pos};
 ghost use Rattle.kq_model.specs.Views as world;
 

@@ -1,3 +1,5 @@
+//! The reasons for which a record cannot happen, in their order, as a report spells them.
+
 ghost use Rattle.std.specs.Prelude.{◌≡◌};
 ghost use Rattle.kq_model.specs.Names.{why_name};
 
