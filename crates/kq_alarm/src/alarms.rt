@@ -1,3 +1,5 @@
+//! Alarms in a heap, whose room is reserved before they are added.
+
 ghost use Rattle.std.specs.Prelude.{◌≡◌, ◌<◌, ◌≤◌, ◌+◌, ◌∷◌, [], true, false};
 ghost use Rattle.std.specs.Prelude.{MatchOption, IsPermutation, length, All};
 ghost use Rattle.kq_alarm.specs.Armed.{entry_of, IsEarliest};

@@ -1,3 +1,5 @@
+//! The rising numbers of rows by their attachment, and all of them given anew at their end.
+
 ghost use Rattle.std.specs.Prelude.{◌≡◌, ◌<◌, ◌+◌, ◌^◌, ℕ, List, None, length};
 ghost use Rattle.slab.specs.Slab.{slab_len};
 ghost use Rattle.kq_table.specs.Kept.{AreBorn};

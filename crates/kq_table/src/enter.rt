@@ -1,3 +1,5 @@
+//! How rows are put where their keys and targets find them, and taken from among their targets'.
+
 ghost use Rattle.std.specs.Prelude.{◌≡◌, ◌<◌, ◌≤◌, ◌+◌, ◌++◌, ◌∷◌, [], ℕ, List};
 ghost use Rattle.std.specs.Prelude.{IsSome, Some, true, false};
 ghost use Rattle.std.specs.Prelude.{if◌then◌else◌, option_map};

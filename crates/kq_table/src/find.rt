@@ -1,3 +1,5 @@
+//! Where a row stands: looked for at a guessed slot first, and else by key or by target.
+
 ghost use Rattle.std.specs.Prelude.{◌≡◌, ℕ, Some, true, MatchOption, option_map};
 ghost use Rattle.std.specs.Option.{option_and_then, option_copied};
 ghost use Rattle.std.specs.HashMap.{get as found};
@@ -73,7 +75,8 @@ pub(crate) fn near<T: Keyed>(
     Some(slot)
 }
 
-/// The same as `near`, by a call: with one more caller to take it in, `near` would be a call in all of them.
+/// The slot where the row of a key stands, found by a call: with one more caller to take it in, `near` would be a
+/// call in all of them.
 pub(crate) fn sought<T: Keyed>(
     nodes: &Slab<Node<T>>,
     index: &HashMap<T::Key, usize>,
@@ -176,7 +179,7 @@ pub(crate) fn key_at<T: Keyed>(nodes: &Slab<Node<T>>, slot: Option<usize>) -> Op
     Some(node.row.key())
 }
 
-/// The same with the place of the row.
+/// The key of the row at a slot, where a slot is named, with the place of the row.
 #[inline(always)]
 pub(crate) fn watcher_at<T: Keyed>(
     nodes: &Slab<Node<T>>,

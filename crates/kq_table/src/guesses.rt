@@ -1,3 +1,5 @@
+//! Where rows were last put, in an array that may be wrong: who reads it looks there.
+
 use crate::Keyed;
 use crate::node::{Node, Thread};
 use crate::nodes::slot_behind;

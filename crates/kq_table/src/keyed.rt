@@ -1,3 +1,5 @@
+//! What a table wants of its rows: a key, perhaps a target, and numbers to keep guesses by.
+
 ghost use Rattle.std.specs.Prelude.{◌≡◌, Option, None, true};
 
 use kq_model::Key;
@@ -23,7 +25,8 @@ pub trait Keyed: Copy {
     /// A number by which a guess is kept of where the row of a key stands. Keys may share one.
     fn number_of_key(key: Self::Key) -> usize;
 
-    /// The same of the first row that watches a target.
+    /// A number by which a guess is kept of where the first row stands that watches a target. Targets may share
+    /// one.
     fn number_of_target(target: Self::Target) -> usize;
 
     // Keys that are equal are one.

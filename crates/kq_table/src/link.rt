@@ -1,3 +1,5 @@
+//! Slots linked with each other: one is put at the end of a thread, or taken out of it.
+
 ghost use Rattle.std.specs.Prelude.{◌≡◌, IsSome};
 ghost use Rattle.slab.specs.Slab.{get};
 ghost use Rattle.kq_table.specs.Threads.{ends_past, ends_with, joined, joined_ends, links_in, passed_over, put_last};

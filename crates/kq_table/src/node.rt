@@ -1,3 +1,5 @@
+//! What stands at a slot: a row, its links in three threads, and its number.
+
 ghost use Rattle.std.specs.Prelude.{◌≡◌, None};
 
 /// The slots before a slot and behind it.

@@ -1,3 +1,5 @@
+//! The parts of the node at a slot, read and set: the row, the number and the links.
+
 ghost use Rattle.std.specs.Prelude.{◌≡◌, IsSome, Some, None};
 ghost use Rattle.std.specs.Option.{option_and_then, option_copied};
 ghost use Rattle.slab.specs.Slab.{get, slab_len};
@@ -44,7 +46,7 @@ pub(crate) fn row_at<T: Copy>(nodes: &Slab<Node<T>>, slot: Option<usize>) -> Opt
     Some(node.row)
 }
 
-/// The same, without a copy of the row.
+/// The row at a slot, where one is named, without a copy of it.
 pub(crate) fn seen_at<T: Copy>(nodes: &Slab<Node<T>>, slot: Option<usize>) -> Option<&T>
     ensures { option_copied result ≡ option_and_then (rows_in nodes.now) slot }
 {

@@ -1,3 +1,5 @@
+//! A row's number with its slot, so that rows are sorted and still found.
+
 use crate::placed::Place;
 
 /// The number of a row in the order of attachment, and the slot where it stands.

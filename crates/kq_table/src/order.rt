@@ -1,3 +1,5 @@
+//! Keys sorted by when their rows were attached, in room that is there.
+
 ghost use Rattle.std.specs.Prelude.{◌≡◌, ◌≤◌, length, map, filter};
 ghost use Rattle.std.specs.Vec.{vec_len, vec_capacity};
 ghost use Rattle.kq_table.specs.Births.{keys_born, AreBirthsOf, AreRising};

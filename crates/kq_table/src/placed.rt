@@ -1,3 +1,5 @@
+//! A guess of where a row stands, and the rows and keys that are given with one.
+
 ghost use Rattle.std.specs.Prelude.{◌≡◌};
 
 /// The slot where a row stands: a guess, since any place may be given with any key. Where the row of

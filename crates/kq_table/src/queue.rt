@@ -1,3 +1,5 @@
+//! The queue of a table by its keys: asked, put in, taken out, and turned from front to back.
+
 ghost use Rattle.std.specs.Prelude.{◌≡◌, ◌∷◌, [], Some, MatchOption};
 ghost use Rattle.std.specs.Prelude.{length, slice_get};
 ghost use Rattle.std.specs.Option.{option_copied};

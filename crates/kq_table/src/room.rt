@@ -1,3 +1,5 @@
+//! Memory for further rows, taken before they come: for slots, for keys and for targets.
+
 ghost use Rattle.std.specs.Prelude.{◌≡◌, ◌≤◌, ◌+◌, OnOk};
 ghost use Rattle.std.specs.HashMap.{get as found};
 ghost use Rattle.slab.specs.Slab.{slab_len};

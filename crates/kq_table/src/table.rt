@@ -1,3 +1,5 @@
+//! The table itself: rows attached, found, modified and removed, by key or with a guess.
+
 ghost use Rattle.std.specs.Prelude.{◌≡◌, ◌<◌, ◌≤◌, ◌+◌, ◌++◌, ◌∷◌, ◌↔◌, []};
 ghost use Rattle.std.specs.Prelude.{None, IsTrue, OnOk, OnErr, MatchOption};
 ghost use Rattle.std.specs.Prelude.{if◌then◌else◌, Some, length, max, is_some, slice_get};
@@ -160,23 +162,21 @@ impl<T: Keyed> Table<T> {
         self.locate_at(self.guess(key), key)
     }
 
-    /// The same as `find`. Where the row of the key stands at the guessed place, that is all that is
-    /// looked at.
+    /// The row of a key, which is looked up only where it does not stand at the guessed place.
     pub fn find_at(&self, guess: Place, key: T::Key) -> Option<T>
         ensures { result ≡ find_row T.Key.eq T.key_of key self.now.rows }
     {
         row_at(&self.nodes, near(&self.nodes, &self.index, guess, key))
     }
 
-    /// The same as `locate`. Where the row of the key stands at the guessed place, that is all that is
-    /// looked at.
+    /// The row of a key with its place; it is looked up only where it does not stand at the guessed place.
     pub fn locate_at(&self, guess: Place, key: T::Key) -> Option<Placed<T>>
         ensures { option_map (λ p. p.row) result ≡ find_row T.Key.eq T.key_of key self.now.rows }
     {
         placed_at(&self.nodes, near(&self.nodes, &self.index, guess, key))
     }
 
-    /// The same as `find_at`, without a copy of the row.
+    /// The row of a key, without a copy; it is looked up only where it does not stand at the guessed place.
     pub fn look_at(&self, guess: Place, key: T::Key) -> Option<&T>
         ensures { option_copied result ≡ find_row T.Key.eq T.key_of key self.now.rows }
     {
@@ -219,7 +219,8 @@ impl<T: Keyed> Table<T> {
         self.next_after_at(self.guess(key), key)
     }
 
-    /// The same as `next_after`. Where the row of the key stands at the guessed place, it is not looked up.
+    /// The row behind that of a key, which is looked up only where it does not stand at the guessed place; None
+    /// where that is the last, or not here.
     pub fn next_after_at(&self, guess: Place, key: T::Key) -> Option<T>
         ensures { result ≡ row_after T.Key.eq T.key_of key self.now.rows }
     {
@@ -259,7 +260,8 @@ impl<T: Keyed> Table<T> {
         self.modify_at(self.guess(row.key()), row);
     }
 
-    /// The same as `modify`. Where the row of the key stands at the guessed place, it is not looked up.
+    /// Puts a row in the place of the one of its key, as `modify` does; that one is looked up only where it does
+    /// not stand at the guessed place.
     pub fn modify_at(&mut self, guess: Place, row: T)
         ensures rows { self.new.rows ≡ with_row T.Key.eq T.key_of row self.old.rows }
         ensures queue { self.new.queue ≡ self.old.queue }
@@ -310,7 +312,8 @@ impl<T: Keyed> Table<T> {
         self.remove_at(self.guess(key), key)
     }
 
-    /// The same as `remove`. Where the row of the key stands at the guessed place, it is not looked up.
+    /// Takes out the row of a key, as `remove` does; it is looked up only where it does not stand at the guessed
+    /// place.
     pub fn remove_at(&mut self, guess: Place, key: T::Key) -> Option<T>
         ensures removed { result ≡ find_row T.Key.eq T.key_of key self.old.rows }
         ensures rows { self.new.rows ≡ without_row T.Key.eq T.key_of key self.old.rows }

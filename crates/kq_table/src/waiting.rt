@@ -1,3 +1,5 @@
+//! A slot put at the back of the queue or taken out of it, and the count kept right.
+
 ghost use Rattle.std.specs.Prelude.{◌≡◌, ◌<◌, ◌+◌, ◌^◌, ◌++◌, ◌∷◌, [], ℕ, List};
 ghost use Rattle.std.specs.Prelude.{IsSome, false};
 ghost use Rattle.slab.specs.Slab.{get};

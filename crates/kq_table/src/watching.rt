@@ -1,3 +1,5 @@
+//! The rows that watch one target, in the order of attachment: the first, the next, or all.
+
 ghost use Rattle.std.specs.Prelude.{◌≡◌, ◌≤◌, ◌+◌, ◌++◌, ◌∷◌, ◌↔◌, [], IsTrue};
 ghost use Rattle.std.specs.Prelude.{Some, length, slice_get};
 ghost use Rattle.std.specs.Option.{option_copied, option_map};

@@ -1,3 +1,5 @@
+//! The time between two expirations, and the units in which a kevent gives times.
+
 ghost use Rattle.std.specs.Prelude.{◌≡◌, ◌<◌, ◌≤◌, IfOk};
 ghost use Rattle.std.specs.Option.{ok_or};
 ghost use Rattle.kq_model.specs.Ticks.{last_moment, unit_of, period_of};

@@ -1,3 +1,5 @@
+//! A timer that expires again and again: how often in a span, and when next.
+
 ghost use Rattle.std.specs.Prelude.{◌≡◌, pos, ◌≤ℤ◌, unsigned_abs, IfSome, MatchOption};
 ghost use Rattle.kq_model.specs.Ticks.{is_tick};
 ghost use Rattle.kq_model.specs.NextTicks.{ticks_between, IsNextTick, HasNoTick};

@@ -1,3 +1,5 @@
+//! A started timer, whether it repeats or expires at one moment alone.
+
 ghost use Rattle.std.specs.Prelude.{◌≡◌, pos, ◌≤ℤ◌, unsigned_abs};
 ghost use Rattle.kq_timer.specs.Timings.{started_at, ticks_of, IsFirstAfter};
 ghost use Rattle.kq_timer.specs.declared.ticker.Kind.TheVariants as kind_of;

@@ -1,3 +1,5 @@
+//! A timer in the three fields that a knote keeps: its start, its period, and if it expires once.
+
 ghost use Rattle.std.specs.Prelude.{◌≡◌, ◌≤◌, ◌+◌};
 ghost use Rattle.kq_model.specs.Ticks.{expires, is_single_moment, last_moment};
 ghost use Rattle.kq_model.specs.NextTicks.{next_tick, ticks_between};

@@ -1,3 +1,5 @@
+//! What a kevent of EVFILT_TIMER asks for: a period, or by NOTE_ABSTIME a moment.
+
 ghost use Rattle.std.specs.Prelude.{◌≡◌, IfErr, IfOk, None, Some};
 ghost use Rattle.std.specs.Option.{ok_or, option_map};
 ghost use Rattle.kq_model.specs.ChangedKnote.{start_in, period_in, has_come};
