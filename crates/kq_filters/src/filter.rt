@@ -1,3 +1,5 @@
+//! The look of each filter: a knote's own filter tells what it sees, after its notice.
+
 ghost use Rattle.std.specs.Prelude.{◌≡◌, None, false, option_and_then};
 ghost use Rattle.kq_filters.specs.Alone.{reads_target};
 ghost use Rattle.kq_model.specs.Hearing.{listed};

@@ -1,3 +1,5 @@
+//! What a knote makes of a hint: whether its filter takes it, what is kept, when it goes.
+
 ghost use Rattle.std.specs.Prelude.{◌≡◌, if◌then◌else◌};
 ghost use Rattle.kq_model.specs.Hearing.{listed};
 ghost use Rattle.kq_model.specs.Hints.{takes, kept, is_exit, added};

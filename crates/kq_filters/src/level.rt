@@ -1,3 +1,5 @@
+//! READ and WRITE, which see how much there is now: bytes, space or connections.
+
 ghost use Rattle.std.specs.Prelude.{◌≡◌, ◌&&◌, ◌||◌, pos, int_lt, int_le};
 ghost use Rattle.std.specs.Int.{int_min};
 ghost use Rattle.kq_model.specs.Look.{difference, pipe_mark, side_seen, amount_seen, mark_of, read_seen, write_seen};
@@ -51,7 +53,8 @@ fn difference(all: i64, part: i64) -> i64
     all.saturating_sub(part)
 }
 
-/// Whether there is an amount, be it negative.
+/// Whether there is an amount, be it negative. That it is no `!=` is for the prover alone, which compares it with
+/// the definition.
 fn is_some_amount(amount: i64) -> bool
     ensures { result ≡ int_lt (pos 0) amount || int_lt amount (pos 0) }
 {

@@ -1,3 +1,5 @@
+//! A world that is empty, for kqueues that ask nothing of it.
+
 ghost use Rattle.std.specs.Prelude.{◌≡◌};
 ghost use Rattle.kq_filters.specs.Nothing.{nothing_there};
 

@@ -1,3 +1,5 @@
+//! What a look gives for an event: fflags, data, and whether it says EOF.
+
 use std::marker::Model;
 
 /// What a filter sees where its condition holds, for the event that it gives (kqueue(2), struct

@@ -1,3 +1,5 @@
+//! VNODE, PROC, SIGNAL and TIMER, which see what their knotes were told.
+
 ghost use Rattle.std.specs.Prelude.{◌≡◌, min};
 ghost use Rattle.kq_model.specs.Hearing.{most_counted};
 ghost use Rattle.kq_model.specs.Look.{status_of, process_seen, notes_seen, count_seen};

@@ -1,3 +1,5 @@
+//! Alarms added for knotes: for one that is new or changed, for all, and for those that were due.
+
 ghost use Rattle.std.specs.Prelude.{◌≡◌, ◌<◌, ◌≤◌, ◌+◌, true};
 ghost use Rattle.kq_alarm.specs.Armed.{HasAlarm};
 ghost use Rattle.kq_model.specs.Kqueue.{HaveOwnKeys};

@@ -1,3 +1,5 @@
+//! How a knote comes from a change, and what later changes and a delivery make of it.
+
 ghost use Rattle.std.specs.Prelude.{◌≡◌, ℕ, ◌/◌};
 ghost use Rattle.kq_model.specs.Bits.{asks};
 ghost use Rattle.kq_model.specs.Caller.{Caller};

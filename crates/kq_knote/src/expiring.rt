@@ -1,3 +1,5 @@
+//! The keys of the timers that expire in a span, as a list that is taken and given back.
+
 ghost use Rattle.std.specs.Prelude.{◌≡◌, ◌<◌, ◌≤◌, ◌+◌, true, map, All, MatchOption};
 ghost use Rattle.kq_model.specs.Ticks.{last_moment};
 ghost use Rattle.kq_knote.specs.Expiring.{expiring};
@@ -28,7 +30,8 @@ impl Knotes {
         self.take_told(from, to)
     }
 
-    /// The same, and None where the alarms are not whole.
+    /// The keys that `take_expiring` gives, as the alarms tell them; None where these are not whole, or do not
+    /// tell them.
     fn take_told(&mut self, from: u64, to: u64) -> Option<Vec<Key>>
         requires ordered { from ≤ to }
         requires within { to ≤ last_moment }

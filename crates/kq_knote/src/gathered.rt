@@ -1,3 +1,5 @@
+//! The keys of the knotes that hints are for, as a list that is taken and given back.
+
 ghost use Rattle.std.specs.Prelude.{◌≡◌, IsTrue, MatchOption};
 ghost use Rattle.kq_knote.specs.Index.{AreHinted, hinted_keys};
 

@@ -1,3 +1,5 @@
+//! The knotes of the one target that all hints are for, from each to the next, without a list.
+
 ghost use Rattle.std.specs.Prelude.{◌≡◌, ◌∷◌, [], List, MatchOption, Some};
 ghost use Rattle.std.specs.Option.{option_copied, option_map};
 ghost use Rattle.kq_model.specs.declared.object.Target.{Target as Targets};

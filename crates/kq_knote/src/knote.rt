@@ -1,3 +1,5 @@
+//! One knote with each thing that is kept of it, as a row of a table.
+
 ghost use Rattle.std.specs.Prelude.{◌≡◌, Some};
 ghost use Rattle.kq_model.specs.Knote.{has_nothing};
 ghost use Rattle.kq_model.specs.Kqueue.{is_waiting};

@@ -1,3 +1,5 @@
+//! All knotes of a kqueue: registered, found, modified and removed, and their alarms with them.
+
 ghost use Rattle.std.specs.Prelude.{List, ◌≡◌, ◌<◌, ◌≤◌, ◌+◌, ◌++◌, ◌↔◌};
 ghost use Rattle.std.specs.Prelude.{◌∷◌, IsTrue, true, [], None, OnOk, OnErr};
 ghost use Rattle.std.specs.Prelude.{if◌then◌else◌, Some, MatchOption, slice_get, length, filter, not, max};
@@ -155,8 +157,7 @@ impl Knotes {
         self.rows.locate(key)
     }
 
-    /// The same as `locate`. Where the knote of the key stands at the guessed place, that is all that is
-    /// looked at.
+    /// The knote of a key with its place; it is looked up only where it does not stand at the guessed place.
     pub fn locate_at(&self, guess: Place, key: Key) -> Option<Placed<Knote>>
         ensures knote { option_map (λ p. p.row) result ≡ find_knote key self.now.knotes }
 
@@ -234,8 +235,8 @@ impl Knotes {
         }
     }
 
-    /// The same as `modify`. Where the knote of the key stands at the guessed place, that is all that is
-    /// looked at.
+    /// Puts a knote in the place of the one of its key, which is looked up only where it does not stand at the
+    /// guessed place; where there is none, nothing changes.
     pub fn modify_at(&mut self, guess: Place, knote: Knote)
         ensures knotes { self.new.knotes ≡ with_knote knote self.old.knotes }
         ensures queue { self.new.queue ≡ self.old.queue }
@@ -252,8 +253,8 @@ impl Knotes {
         self.modify_anew(guess, knote);
     }
 
-    /// The same where the knote of the key stands at the guessed place, watches the same target and expires at the
-    /// same moments, and says whether it does; else nothing changes.
+    /// Puts a knote in the place of the one of its key, where that stands at the guessed place, watches the same
+    /// target and expires at the same moments, and says whether it did; else nothing changes.
     #[inline(always)]
     fn modify_there(&mut self, guess: Place, knote: &Knote) -> bool
         ensures knotes { self.new.knotes
@@ -270,7 +271,8 @@ impl Knotes {
         self.rows.modify_there(guess, knote)
     }
 
-    /// The same as `modify_at` where the knote may stand elsewhere, watch another target and expire at others.
+    /// Puts a knote in the place of the one of its key, wherever that stands, whatever it watches and whenever it
+    /// expires; where there is none, nothing changes.
     #[inline(never)]
     fn modify_anew(&mut self, guess: Place, knote: Knote)
         ensures knotes { self.new.knotes ≡ with_knote knote self.old.knotes }
@@ -308,8 +310,8 @@ impl Knotes {
         self.remove_at(self.guess(key), key)
     }
 
-    /// The same as `remove`. Where the knote of the key stands at the guessed place, no search by key is made
-    /// for it.
+    /// Takes out the knote of a key and its key from the queue, as `remove` does; no search by key is made where
+    /// the knote stands at the guessed place.
     pub fn remove_at(&mut self, guess: Place, key: Key) -> Option<Knote>
         ensures removed { result ≡ find_knote key self.old.knotes }
         ensures knotes { self.new.knotes ≡ without_knote key self.old.knotes }

@@ -1,3 +1,5 @@
+//! The keys of the knotes that are to be returned: asked, put in, taken out and turned.
+
 ghost use Rattle.std.specs.Prelude.{◌≡◌, ◌∷◌, [], Some, length, slice_get, MatchOption};
 ghost use Rattle.std.specs.Prelude.{if◌then◌else◌};
 ghost use Rattle.std.specs.Prelude.{is_some};

@@ -1,3 +1,5 @@
+//! What a knote heard, in numbers and not as a list: a count, and a union of notes.
+
 ghost use Rattle.std.specs.Prelude.{◌≡◌, ◌+◌, min, true, if◌then◌else◌};
 ghost use Rattle.kq_model.specs.Hearing.{Expired, Told, is_counted, most_counted, notes_of};
 ghost use Rattle.kq_model.specs.Tallying.{is_telling, tallying};

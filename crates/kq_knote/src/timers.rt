@@ -1,4 +1,5 @@
-// A knote as a timer: when it expires, and what its expirations do to it.
+//! A knote as a timer: when it expires, and what its expirations do to it.
+
 ghost use Rattle.std.specs.Prelude.{◌≡◌, ◌≤◌, true};
 ghost use Rattle.kq_model.specs.Clock.{expires_at, timers};
 ghost use Rattle.kq_model.specs.Knote.{is_timer};
