@@ -1,3 +1,5 @@
+//! `struct kevent` of C, read as changes and written from events.
+
 ghost use Rattle.std.specs.Prelude.{◌≡◌, ◌≤◌, ◌⊎◌, length, take, IfOk, IfSome};
 ghost use Rattle.kq_freebsd.specs.Kevents.{AreChanges, IsChange, IsMadeOf, IsNoChange, IsNoFilter, IsRefusal};
 ghost use Rattle.kq_freebsd.specs.Kevents.{as_c, handed_out};
@@ -106,7 +108,8 @@ fn as_c(event: &Kevent) -> CKevent
     }
 }
 
-/// The lesser of two counts.
+/// The lesser of two counts. It is apart for the prover alone, which takes from its contract that it is within
+/// both.
 fn lesser(a: usize, b: usize) -> usize
     ensures within_a { result ≤ a }
     ensures within_b { result ≤ b }

@@ -1,3 +1,5 @@
+//! The sides, modes and notes that a caller in C names by a number.
+
 ghost use Rattle.std.specs.Prelude.{◌≡◌};
 ghost use Rattle.kq_freebsd.specs.Numbers.{mode_of_number, note_of_number, side_of_number};
 

@@ -1,3 +1,5 @@
+//! The filters by FreeBSD's numbers, -1 to -13, in both directions.
+
 ghost use Rattle.std.specs.Prelude.{◌≡◌, IfSome};
 ghost use Rattle.kq_model.specs.declared.filter.Filter.{Filter};
 ghost use Rattle.kq_freebsd.specs.Numbers.{filter_number};

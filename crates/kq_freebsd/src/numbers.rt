@@ -1,3 +1,5 @@
+//! What a call answers, as one number: 0, an errno, a reason or a refusal.
+
 ghost use Rattle.std.specs.Prelude.{◌≡◌};
 ghost use Rattle.kq_freebsd.specs.Answers.{number_of, reason_number, refusal_number};
 

@@ -1,3 +1,5 @@
+//! The three causes for which a call does nothing: memory, an argument, or a full system.
+
 /// Why a call of the library did nothing.
 #[derive(Debug, Drop, Clone, Copy, PartialEq, Eq)]
 pub enum Refusal {

@@ -1,4 +1,5 @@
-// The order of the queue: a look at it, and another order of it.
+//! The order of the queue: a look at it, and another order of it.
+
 ghost use Rattle.std.specs.Prelude.{◌≡◌, ◌≤◌, ◌++◌, [], length, drop, take, filter, slice_get};
 ghost use Rattle.std.specs.Prelude.{IfOk, IsPermutation};
 ghost use Rattle.std.specs.Prelude.{if◌then◌else◌};

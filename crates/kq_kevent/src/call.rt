@@ -1,3 +1,5 @@
+//! A kevent call in one: its changes, and pending events where no entry was placed.
+
 ghost use Rattle.std.specs.Prelude.{◌≡◌, ◌↔◌, ◌≤◌, ◌+◌, [], length, max, min, IsTrue};
 ghost use Rattle.std.specs.Prelude.{IfOk, IsOk, OnErr};
 ghost use Rattle.kq_model.specs.Call.{call};

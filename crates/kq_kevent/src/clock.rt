@@ -1,3 +1,5 @@
+//! The clock goes on: timers get their expirations, by alarms or by walks over all knotes.
+
 ghost use Rattle.std.specs.Prelude.{◌≡◌, ℤ, pos, ◌≤ℤ◌, unsigned_abs, ◌<◌, ◌≤◌};
 ghost use Rattle.std.specs.Prelude.{◌+◌, ◌∷◌, Some, [], map, min, nat_le};
 ghost use Rattle.std.specs.Prelude.{if◌then◌else◌, MatchOption};
@@ -144,7 +146,7 @@ impl Kq {
         self.put_back(&found, rung);
     }
 
-    /// The same wherever the knote stands.
+    /// The knote of a key rings, where there is one, wherever it stands.
     #[inline(never)]
     fn ring_elsewhere(&mut self, key: Key, from: u64, to: u64)
         requires ordered { from ≤ to }
@@ -172,7 +174,7 @@ impl Kq {
         self.knotes.note_quiet(since, soonest);
     }
 
-    /// The same by walks over all knotes, two for each moment at which one expires first.
+    /// All timers ring that expire, by walks over all knotes, two for each moment at which one expires first.
     fn ring_all(&mut self, from: u64, to: u64)
         requires sound { IsSound self.old.kq }
         requires ordered { from ≤ to }

@@ -1,3 +1,5 @@
+//! What becomes of a kqueue when a descriptor of its process is closed.
+
 ghost use Rattle.std.specs.Prelude.{◌≡◌, ◌≤◌, ◌∷◌, []};
 ghost use Rattle.kq_model.specs.Close.{closed};
 ghost use Rattle.kq_model.specs.Hearing.{listed};

@@ -1,3 +1,5 @@
+//! What a change is to do, before it is done: refuse, delete, make or modify.
+
 ghost use Rattle.std.specs.Prelude.{◌≡◌};
 ghost use Rattle.std.specs.Option.{option_map};
 ghost use Rattle.kq_model.specs.ChangedKnote.{key_of};

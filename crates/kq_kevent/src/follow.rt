@@ -1,4 +1,5 @@
-// The children that are followed: each gets a knote of its own, for which there is room.
+//! The children that are followed: each gets a knote of its own, for which there is room.
+
 ghost use Rattle.std.specs.Prelude.{ℕ, ◌≡◌, ◌<◌, ◌≤◌, true, length, OnErr, OnOk};
 ghost use Rattle.kq_model.specs.Following.{all_forks, child_knote, follows, followed, followed_each, forks_of, heir};
 ghost use Rattle.kq_model.specs.Following.{heir_in, process_key, tracks, with_heir};

@@ -14,7 +14,7 @@ use crate::clock::LAST_MOMENT;
 use crate::look::look_in;
 use kq_model::{Key, Views};
 
-/// One more, where it counts.
+/// One more, where it counts. It is apart for the prover alone, so that a turn of the loop is one case.
 fn one_more(count: u32, counts: bool) -> u32
     requires { count + 1 < 2 ^ 32 }
     ensures { result ≡ count + (if counts then 1 else 0) }
@@ -54,6 +54,7 @@ impl Kq {
         ensures called { (call (caller (V.sees views.now) self.now) room [] self.now.kq).reply
             ≡ Events (retrieval (V.sees views.now) room self.now.kq).events }
     {
+        // For the prover alone, which is told by it what the type keeps.
         let _ = &self.owner;
         self.count_due(room, views)
     }

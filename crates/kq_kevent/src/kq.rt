@@ -1,3 +1,5 @@
+//! What a kqueue is made of, what always holds of it, and its room for further knotes.
+
 ghost use Rattle.std.specs.Prelude.{◌≡◌, ◌<◌, OnOk, OnErr, max};
 ghost use Rattle.kq_model.specs.Kqueue.{HaveOwnKeys, IsSound, empty_kqueue};
 

@@ -1,3 +1,5 @@
+//! What a knote sees in a world, and the event that is delivered of it.
+
 ghost use Rattle.std.specs.Prelude.{◌≡◌};
 ghost use Rattle.kq_filters.specs.Alone.{reads_target};
 ghost use Rattle.kq_model.specs.Bits.{flag_if};

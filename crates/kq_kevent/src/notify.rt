@@ -1,3 +1,5 @@
+//! Hints brought to the knotes that they are for, which then are looked at and queued.
+
 ghost use Rattle.std.specs.Prelude.{◌≡◌, ◌≤◌, [], Some, false, true};
 ghost use Rattle.kq_model.specs.ChangedKnote.{activated};
 ghost use Rattle.kq_model.specs.Following.{followed};
@@ -223,7 +225,8 @@ impl Kq {
         self.knotes.give_back(keys);
     }
 
-    /// The same by a walk over all knotes. Those that no hint is for stay as they are.
+    /// The knotes of any hinted targets hear the hints, by a walk over all knotes. Those that no hint is for stay
+    /// as they are.
     fn notice_all<V: Views>(&mut self, hints: &[(Target, Hint)], views: &V)
         ensures kq { self.new.kq ≡ notified (V.sees views.now) hints.now self.old.kq }
         ensures owner { self.new.owner ≡ self.old.owner }

@@ -1,3 +1,5 @@
+//! The changes of a call, one after the other, and the entries that answer them.
+
 ghost use Rattle.std.specs.Prelude.{◌≡◌, ◌≤◌, ◌+◌, [], length, min};
 ghost use Rattle.std.specs.Vec.{vec_capacity};
 ghost use Rattle.kq_model.specs.Call.{number_of, entry_of, is_answered, process};

@@ -1,3 +1,5 @@
+//! Which changes are refused, by their form, their number or their filter, and with which error.
+
 ghost use Rattle.std.specs.Prelude.{◌≡◌, ℕ};
 ghost use Rattle.kq_model.specs.Caller.{Caller};
 ghost use Rattle.kq_model.specs.Knote.{watches_number};

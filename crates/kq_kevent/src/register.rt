@@ -1,3 +1,5 @@
+//! One change carried out on its knote, whose key then goes where it belongs.
+
 ghost use Rattle.std.specs.Prelude.{◌≡◌, ◌<◌, ◌≤◌, ◌+◌, None, Some, true, is_some, OnSome};
 ghost use Rattle.kq_model.specs.Bits.{asks};
 ghost use Rattle.kq_model.specs.Call.{number_of};
@@ -21,7 +23,8 @@ use kq_knote::{Knote, Knotes};
 use kq_model::{Change, Errno, EvFlags, Filter, Key, Views, target_of};
 use kq_table::{Place, Placed};
 
-/// Whether the flags have this one.
+/// Whether the flags have this one. It is `contains`, apart for the prover alone, which knows it by the
+/// definitions' name.
 pub(crate) fn asks(flags: EvFlags, flag: EvFlags) -> bool
     ensures { result ≡ asks flags flag.0 }
 {
@@ -174,7 +177,8 @@ impl Kq {
         self.unmake_at(guess, key);
     }
 
-    /// The same as `unmake`. Where the knote stands at the guessed place, no search is made for it.
+    /// Takes out the knote of a key, where there is one, and its key from the queue; no search is made where the
+    /// knote stands at the guessed place.
     pub(crate) fn unmake_at(&mut self, guess: Place, key: Key)
         ensures kq { self.new.kq ≡ with_removed key self.old.kq }
         ensures owner { self.new.owner ≡ self.old.owner }

@@ -1,3 +1,5 @@
+//! Events taken out by one walk over the queue, and what a delivery does to a knote.
+
 ghost use Rattle.std.specs.Prelude.{◌≡◌, ◌+◌, ◌<◌, ◌≤◌, ◌∷◌, ◌++◌, List, []};
 ghost use Rattle.std.specs.Prelude.{None, Some, false, true};
 ghost use Rattle.std.specs.Prelude.{is_some, length, min};
@@ -17,7 +19,8 @@ use kq_knote::{Knote, Knotes};
 use kq_model::{Kevent, Key, Views};
 use kq_table::{Place, Placed};
 
-/// Puts the key of a knote, which is not in the queue, behind the others.
+/// Puts the key of a knote, which is not in the queue, behind the others. It is `put_in_at`, apart for the prover
+/// alone, to which there is no other case then.
 pub(crate) fn put_last(knotes: &mut Knotes, at: Place, key: Key)
     requires there { is_some (find_knote key knotes.old.knotes) ≡ true }
     requires absent { has_key key knotes.old.queue ≡ false }
@@ -127,7 +130,8 @@ impl Kq {
         self.turn_out(views, found)
     }
 
-    /// The same, where this is what the knote sees. The key is taken out of the queue, and the knote with it.
+    /// Takes the knote whose key is at the front out of the queue: it is delivered by what it sees, or becomes
+    /// inactive where it sees nothing.
     #[inline(never)]
     fn turn_out<V: Views>(&mut self, views: &V, seen: Option<Seen>) -> Option<Kevent>
         requires some { 0 < length self.old.kq.queue }

@@ -1,4 +1,5 @@
-// A kevent call in two steps, with a look at the queue between them.
+//! A kevent call in two steps, with a look at the queue between them.
+
 ghost use Rattle.std.specs.Prelude.{◌≡◌, ◌≤◌, ◌+◌, [], length, max, min, IfOk, IsOk, OnErr};
 ghost use Rattle.kq_model.specs.CallLaws.{IsAnswer};
 ghost use Rattle.kq_model.specs.Hearing.{listed};
