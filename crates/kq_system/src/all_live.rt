@@ -153,7 +153,7 @@ pub fn reserve_one(live: &mut Kqueues, wanted: bool, place: u64, pid: u32) -> Re
     prepare_one(live, wanted, place, pid)
 }
 
-/// The same, where the indexes are not too full.
+/// Makes the room for a birth at a place, where it is wanted, and notes for which place and process it is there.
 fn prepare_one(live: &mut Kqueues, wanted: bool, place: u64, pid: u32) -> Result<(), Memory>
     ensures entries { live.new.entries ≡ live.old.entries }
     ensures ready { OnOk result (wanted ≡ true → live.new.ready ≡ Some (place, pid)) }

@@ -1,3 +1,5 @@
+//! A whole trace run through one system, and the rows of it.
+
 ghost use Rattle.std.specs.Prelude.{◌≡◌, ◌++◌, IfOk, OnOk};
 ghost use Rattle.kq_model.specs.ClosedNumbers.{AlwaysClosesAll};
 ghost use Rattle.kq_model.specs.Hearing.{listed};

@@ -1,4 +1,5 @@
-// The children that knotes follow: room for their knotes before a fork, and the fork as the kqueues hear it.
+//! A fork: room for the knotes of a followed child, and then the kqueues hear of it.
+
 ghost use Rattle.std.specs.Prelude.{◌≡◌, ◌+◌, ◌<◌, ◌∷◌, [], ℕ, true, false, map, nat_eq};
 ghost use Rattle.std.specs.Prelude.{Err, IfOk, IsOk, OnErr, OnOk};
 ghost use Rattle.kq_model.specs.declared.event.Event.TheVariants as event_of;
@@ -90,7 +91,7 @@ pub fn fork_all(
     }
     renew(live)?;
     live.ready = None;
-    // `len` is called for its clause that each place is there once, which the proof cites.
+    // `len` is called for the prover alone: its contract says that each place is there once.
     let _count = live.live.len();
     let round = next_after(live.round)?;
     let places = copy_of(
@@ -149,7 +150,8 @@ fn prepare_each(
     Ok(())
 }
 
-/// The same for the kqueue of a place, where there is one.
+/// Room for the knote of a child in the kqueue of a place, where there is one, which is found for the child from
+/// here on where it follows its parent.
 fn prepare_one(
     live: &mut IndexMap<u64, Live>,
     watching: &mut Index<Target>,
@@ -188,7 +190,7 @@ fn follow_one<V: Views>(
     }
 }
 
-/// The kqueues of these places do so. It takes no memory.
+/// The kqueues of these places hear of a fork in this round, and follow the child. It takes no memory.
 fn follow_each<V: Views>(
     live: &mut IndexMap<u64, Live>,
     places: &[u64],

@@ -1,3 +1,5 @@
+//! The places of kqueues under a process or a target, and when such an index is to be made anew.
+
 ghost use Rattle.std.specs.Prelude.{◌≡◌, true, OnOk};
 ghost use Rattle.kq_system.specs.Places.{Grows, has_place, places_at};
 

@@ -1,3 +1,5 @@
+//! All live kqueues, with what finds those that a record concerns.
+
 ghost use Rattle.std.specs.Prelude.{◌≡◌, [], None};
 
 use crate::index::Index;

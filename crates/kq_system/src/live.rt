@@ -1,3 +1,5 @@
+//! One live kqueue under its number, and what a record or a step of the clock does to it.
+
 ghost use Rattle.std.specs.Prelude.{◌≡◌, ◌≤◌, ◌==◌, ◌&&◌, ◌∷◌, [], Some, not, true};
 ghost use Rattle.kq_model.specs.Clock.{clocked};
 ghost use Rattle.kq_model.specs.Close.{closed, has_pair};
@@ -59,7 +61,8 @@ impl Live {
         true
     }
 
-    /// The same, where it was not shown the record in this round; whether it ended in it is kept.
+    /// Shows this kqueue a record that does not call it, where it was not shown it in this round: whether the
+    /// kqueue ended in it, which is kept.
     #[inline(always)]
     pub fn show<V: Views>(
         &mut self,
@@ -100,7 +103,7 @@ impl Live {
         true
     }
 
-    /// The same, where it was not told of the clock in this round.
+    /// The clock goes on from one moment to another, where the kqueue was not told of it in this round.
     pub fn ring(&mut self, round: u64, from: u64, to: u64)
         requires ordered { from ≤ to }
         requires within { to ≤ last_moment }

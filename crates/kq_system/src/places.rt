@@ -1,3 +1,5 @@
+//! A short rising list of places of birth, which most often needs no memory of its own.
+
 ghost use Rattle.std.specs.Prelude.{◌≡◌, ◌∷◌, [], true, IfOk, OnOk};
 ghost use Rattle.kq_system.specs.Places.{KeepsPlaces, has_place};
 

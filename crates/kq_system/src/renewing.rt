@@ -1,4 +1,5 @@
-// The indexes made anew of the kqueues and knotes that there are, so that what is gone takes no room and no time.
+//! Indexes made anew of what there is, so that what is gone takes no room and no time.
+
 ghost use Rattle.std.specs.Prelude.{◌≡◌, nat_eq, IfOk, OnErr, OnOk, None, true};
 ghost use Rattle.kq_model.specs.Kqueue.{HaveOwnKeys};
 ghost use Rattle.kq_model.specs.Subjects.{HaveSubjects};

@@ -1,4 +1,5 @@
-// How the kqueues that a record concerns are shown it, each once.
+//! How the kqueues that a record concerns are shown it, each once.
+
 ghost use Rattle.std.specs.HashMap.{keys};
 ghost use Rattle.std.specs.List.{position_or_len};
 ghost use Rattle.std.specs.Prelude.{◌≡◌, ◌||◌, [], false, filter, nat_eq, not};
@@ -12,6 +13,7 @@ use crate::live::Live;
 use indexmap::IndexMap;
 use kq_model::{Hint, Target, Views};
 
+/// Whether one of two holds: `||`, apart for the prover alone, so that it is no branch of its callers.
 fn either(one: bool, other: bool) -> bool
     ensures { result ≡ (one || other) }
 {
@@ -49,7 +51,8 @@ fn index_near(live: &IndexMap<u64, Live>, guess: usize, place: u64) -> usize
     }
 }
 
-/// The same as `show_one`, where the kqueue may stand next. What is next then is what stands behind it.
+/// Shows the record of a round to the kqueue of a place, where there is one, and looks first at what may stand
+/// next: whether that kqueue has ended. What is next then is what stands behind it.
 fn show_near<V: Views>(
     live: &mut IndexMap<u64, Live>,
     place: u64,
@@ -95,7 +98,8 @@ fn show_several<V: Views>(
     any
 }
 
-/// The same. Most often there is one place, and then there is nothing to guess.
+/// Shows it to those of some places, which is most often one, where there is nothing to guess: whether one of
+/// them has ended.
 #[inline(always)]
 fn show_each<V: Views>(
     live: &mut IndexMap<u64, Live>,

@@ -1,4 +1,5 @@
-// A kevent call of the system in two steps, with a look at its kqueue between them.
+//! A kevent call of the system in two steps, with a look at its kqueue between them.
+
 ghost use Rattle.std.specs.Prelude.{◌≡◌, ◌+◌, ◌-◌, ◌^◌, ◌<◌, [], None, Some, IfOk, IsOk};
 ghost use Rattle.std.specs.Prelude.{OnErr, MatchOption};
 ghost use Rattle.std.specs.Option.{option_map};

@@ -57,7 +57,8 @@ impl System {
         System::empty(alloc, version)
     }
 
-    /// The same, as the code keeps it.
+    /// Makes the system before the first record. It is apart from `new` for the prover alone, so that what its
+    /// contract says is known where `new` says more.
     fn empty(alloc: Global, version: u32) -> Result<Self, Memory>
         requires { IsVersion version }
         ensures system { IfOk result (λ s. system_of s ≡ empty_system version) }
@@ -150,7 +151,8 @@ impl System {
         reply
     }
 
-    /// What the type keeps of READ, WRITE and VNODE knotes.
+    /// Does nothing. It is for the prover alone, which is told by it what the type keeps of READ, WRITE and VNODE
+    /// knotes.
     pub(crate) fn watch_their_numbers(&self)
         ensures { AllWatchTheirNumbers (system_of self.now) }
     {
@@ -278,7 +280,7 @@ impl System {
         Ok(Reply::Done)
     }
 
-    /// The same, where the kqueue is of another share: the world's step alone.
+    /// A process opens a kqueue that is of another share, which is the world's step alone.
     pub(crate) fn pass(&mut self, event: &Event, pid: u32, number: u32) -> Result<Reply, Memory>
         requires applied { self.old.applied < 2 ^ 31 - 1 }
         requires event { event.now ≡ event_of.Kqueue pid number }
@@ -319,7 +321,8 @@ impl System {
         Ok(reply)
     }
 
-    /// The same, which takes no place. Whatever place it is at, it is the step of such a call.
+    /// A process calls kevent(2), and no place is taken: whatever place it is at, this is the step of such a
+    /// call.
     pub(crate) fn call_kqueue(
         &mut self,
         pid: u32,

@@ -1,4 +1,5 @@
-// How the clock goes on for the kqueues that may have timers, each once.
+//! How the clock goes on for the kqueues that may have timers, each once.
+
 ghost use Rattle.std.specs.Prelude.{◌≡◌, ◌≤◌, false, nat_eq};
 ghost use Rattle.kq_model.specs.declared.object.Target.TheVariants.{Own};
 ghost use Rattle.kq_model.specs.Ticks.{last_moment};

@@ -1,4 +1,5 @@
-// Where a kqueue is found for its knotes, before a call of it makes them.
+//! Where a kqueue is found for its knotes, before a call of it makes them.
+
 ghost use Rattle.std.specs.Prelude.{◌≡◌, All, None, OnOk, Some, true};
 ghost use Rattle.kq_model.specs.Bits.{add, asks};
 ghost use Rattle.kq_model.specs.Knote.{is_timer};
