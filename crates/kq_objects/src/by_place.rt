@@ -1,3 +1,5 @@
+//! A store in which each object is found by its place, and each file by its number.
+
 ghost use Rattle.std.specs.Prelude.{◌≡◌, ℕ, ◌+◌, ◌≤◌, cond, ◌==◌, None, Some, MatchOption, OnOk};
 ghost use Rattle.std.specs.Option.{option_copied};
 ghost use Rattle.kq_model.specs.Objects.{told_at};

@@ -1,4 +1,5 @@
-// Carrying a plan out.
+//! A plan is carried out: what it notes is noted of the objects, and no memory is taken.
+
 ghost use Rattle.std.specs.Prelude.{◌≡◌, List, ◌∷◌, []};
 ghost use Rattle.kq_model.specs.Objects.{Objects as Kept, listed, counted, quantities, done, all_done};
 ghost use Rattle.kq_model.specs.declared.doing.Doing.{Doing};

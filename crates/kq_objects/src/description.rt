@@ -1,3 +1,5 @@
+//! One open file description: its file, mode and offset, and how many descriptors name it.
+
 ghost use Rattle.std.specs.Prelude.{◌≡◌, ◌≤◌};
 ghost use Rattle.kq_model.specs.Files.{is_description_held, may_read, may_write};
 ghost use Rattle.kq_model.specs.Holding.{is_last};

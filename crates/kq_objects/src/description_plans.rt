@@ -1,4 +1,5 @@
-// The plans of the records about open file descriptions.
+//! The plans of seeks, reads and writes by open file descriptions.
+
 ghost use Rattle.std.specs.Prelude.{◌≡◌, ◌∷◌, IfOk};
 ghost use Rattle.kq_model.specs.FilePlans.{plan_seek, read_file, write_file, grows, reached};
 ghost use Rattle.kq_objects.specs.ByPlace.{object_at};

@@ -1,3 +1,5 @@
+//! Why a record has no plan: it is impossible, or memory was refused.
+
 ghost use Rattle.std.specs.Prelude.{◌≡◌};
 
 use kq_model::{Memory, Why};

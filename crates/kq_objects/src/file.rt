@@ -1,3 +1,5 @@
+//! One file: its size, whether it was deleted, and its open descriptions.
+
 ghost use Rattle.std.specs.Prelude.{◌≡◌, ◌+◌, ◌≤◌, OnOk};
 ghost use Rattle.kq_model.specs.Files.{no_file, file_after};
 ghost use Rattle.kq_model.specs.Limits.{most_file_size};

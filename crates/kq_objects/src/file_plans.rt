@@ -1,4 +1,5 @@
-// The plans of the records about files by their numbers.
+//! The plans of the records about files by their numbers, and the limits of sizes.
+
 ghost use Rattle.std.specs.Prelude.{◌≡◌, ◌≤◌, ◌∷◌, [], ◌++◌, None, Some, IfOk, IfSome, List};
 ghost use Rattle.std.specs.Option.{option_map, option_copied};
 ghost use Rattle.kq_model.specs.FilePlans.{file_amount, noted, readable_each, extending, plan_file, present, plan_open};

@@ -1,3 +1,5 @@
+//! All files that ever were, deleted ones too, by their numbers.
+
 ghost use Rattle.std.specs.Prelude.{◌≡◌, ℕ, true, ◌+◌, ◌≤◌, None, OnOk, IfSome};
 ghost use Rattle.std.specs.Option.{option_copied};
 ghost use Rattle.kq_model.specs.Objects.{counted, told_at};

@@ -1,4 +1,5 @@
-// Descriptors that name objects: one more, and one less.
+//! An object gains or loses a descriptor, and ends with its last one.
+
 ghost use Rattle.std.specs.Prelude.{◌≡◌, ℕ, pos, ◌≤ℤ◌, None};
 ghost use Rattle.kq_model.specs.Holding.{release, release_hint, end_hint, close_hint, leaving};
 ghost use Rattle.kq_model.specs.Holders.{hold, socket_holders};

@@ -1,3 +1,5 @@
+//! Under which key the object of a place is kept: a list for near places, a map for far ones.
+
 ghost use Rattle.std.specs.Prelude.{◌≡◌, ◌≢◌, ℕ, nat_eq, ◌+◌, ◌<◌, ◌≤◌, cond};
 ghost use Rattle.std.specs.Prelude.{◌==◌, None, Some, OnOk, slice_get};
 ghost use Rattle.std.specs.HashMap.{get, spare};

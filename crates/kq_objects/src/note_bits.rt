@@ -1,3 +1,5 @@
+//! The bit of fflags that a note of EVFILT_VNODE is.
+
 ghost use Rattle.std.specs.Prelude.{◌≡◌};
 ghost use Rattle.kq_model.specs.NoteBits as bits;
 

@@ -1,3 +1,5 @@
+//! What a kept object does: it is made by its first record, and takes further ones.
+
 ghost use Rattle.std.specs.Prelude.{◌≡◌, ℕ, Bool, true, Option, None, Some};
 ghost use Rattle.kq_model.specs.Accounts.{Account};
 

@@ -1,3 +1,5 @@
+//! All sockets, pipes, open file descriptions and files, and what filters see of them.
+
 ghost use Rattle.std.specs.Prelude.{◌≡◌, ◌≤◌, IfOk};
 ghost use Rattle.kq_model.specs.Limits.{most_file_size};
 ghost use Rattle.kq_model.specs.Objects.{counted, no_objects, size_of, view_of};

@@ -1,3 +1,5 @@
+//! One pipe: its bytes and capacity, the descriptors of each end, and what a filter sees.
+
 ghost use Rattle.std.specs.Prelude.{◌≡◌, ◌^◌, pos, ◌+ℤ◌, ◌<ℤ◌};
 ghost use Rattle.kq_model.specs.Objects.{counted};
 ghost use Rattle.kq_model.specs.Pipes.{pipe_view, is_pipe_held, has_reader, has_writer, pipe_space};

@@ -1,4 +1,5 @@
-// The plans of the records about pipes.
+//! The plans of the records that make, read and write pipes.
+
 ghost use Rattle.std.specs.Prelude.{◌≡◌, None, Some, IfOk, List};
 ghost use Rattle.kq_objects.specs.ByPlace.{object_at};
 ghost use Rattle.std.specs.Result.{ForOk};

@@ -1,4 +1,5 @@
-// What a record comes to at one pipe: the first reason why it is impossible, or what is noted and the hint.
+//! What a record comes to at one pipe: the first reason against it, or what is noted.
+
 ghost use Rattle.std.specs.Prelude.{◌≡◌, IfOk};
 ghost use Rattle.kq_model.specs.PipeSteps.{read_pipe, write_pipe};
 ghost use Rattle.kq_objects.specs.Fits.{IsPipeNoteOn};

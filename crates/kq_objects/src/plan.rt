@@ -1,3 +1,5 @@
+//! What a possible record does: what is noted of objects, and the hints, each in order.
+
 ghost use Rattle.std.specs.Prelude.{◌≡◌, [], ◌∷◌, Some, IfOk, OnOk};
 ghost use Rattle.kq_model.specs.ObjectPlan.{hints_for};
 ghost use Rattle.kq_objects.specs.Plans.{in_turn};
@@ -94,7 +96,7 @@ impl Plan {
         })
     }
 
-    /// The same plan, with two more things noted before all else.
+    /// This plan, with two more things noted before all else.
     pub(crate) fn preceded_by(
         self,
         alloc: Global,

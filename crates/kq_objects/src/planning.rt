@@ -1,4 +1,5 @@
-// The plan of each record about objects.
+//! The plan of each record about objects, or the first reason why it is impossible.
+
 ghost use Rattle.std.specs.Prelude.{◌≡◌, IfOk, List};
 ghost use Rattle.kq_model.specs.Planning as model;
 ghost use Rattle.kq_model.specs.Objects.{IsFree};

@@ -1,4 +1,5 @@
-// Room for what a record makes. A plan that was made before keeps its own: no room is lost.
+//! Room for what a record makes. A plan that was made before keeps its own: no room is lost.
+
 ghost use Rattle.std.specs.Prelude.{◌≡◌, ◌<◌, ◌≤◌, List, IfSome, OnOk};
 ghost use Rattle.kq_model.specs.declared.doing.Doing.{Doing};
 ghost use Rattle.kq_objects.specs.Files.{file_at};

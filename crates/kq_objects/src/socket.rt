@@ -1,3 +1,5 @@
+//! One socket: its buffers, marks and errors, its descriptors, and what a filter sees.
+
 ghost use Rattle.std.specs.Prelude.{◌≡◌};
 ghost use Rattle.kq_model.specs.Objects.{counted};
 ghost use Rattle.kq_model.specs.Sockets.{socket_view, is_socket_held};

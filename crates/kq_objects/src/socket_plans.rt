@@ -1,4 +1,5 @@
-// The plans of the records about sockets.
+//! The plans of the records about sockets, which a descriptor names.
+
 ghost use Rattle.std.specs.Prelude.{◌≡◌, None, Some, IfOk, List};
 ghost use Rattle.kq_objects.specs.ByPlace.{object_at};
 ghost use Rattle.std.specs.Result.{ForOk};

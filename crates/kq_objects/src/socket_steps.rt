@@ -1,4 +1,5 @@
-// What a record comes to at one socket: the first reason why it is impossible, or what is noted and the hint.
+//! What a record comes to at one socket: the first reason against it, or what is noted.
+
 ghost use Rattle.std.specs.Prelude.{◌≡◌, ◌^◌, pos, ◌+ℤ◌, ◌<ℤ◌, IfOk};
 ghost use Rattle.kq_model.specs.Sockets.{is_unconnected, socket_space};
 ghost use Rattle.kq_model.specs.SocketSteps.{is_capacity, hint_on, capacity_of, listen, arrive, accept, connect};

@@ -1,5 +1,7 @@
-// The records about sockets, pipes and files. Their condition is that nothing that is named was made at
-// this place or later.
+//! The records about sockets, pipes and files.
+
+// The condition of each of these records is that nothing that is named was made at its place or later.
+
 ghost use Rattle.std.specs.Prelude.{◌≡◌, ◌∷◌, [], ◌==◌, OnOk, OnErr, None, true, false};
 ghost use Rattle.kq_model.specs.CountedWorld.{IsCountedWorld};
 ghost use Rattle.kq_model.specs.Holders.{made_names};

@@ -1,4 +1,5 @@
-// Any record.
+//! The step of the world by any record, each kind by a function of its own.
+
 ghost use Rattle.std.specs.Prelude.{◌≡◌, OnOk, OnErr};
 ghost use Rattle.kq_model.specs.CountedWorld.{IsCountedWorld};
 ghost use Rattle.kq_model.specs.Plans.{plan};

@@ -1,4 +1,5 @@
-// Descriptors of objects, counted one after the other.
+//! The descriptors of a process, counted, listed, held or released one after the other.
+
 ghost use Rattle.std.specs.Prelude.{◌≡◌, ℕ, ◌∷◌, [], OnOk, map, ◌+◌, ◌<◌, ◌≤◌};
 ghost use Rattle.std.specs.Prelude.{◌++◌, length, vec_len, vec_capacity};
 ghost use Rattle.kq_model.specs.Holding.{release, release_hint, release_hints, option_list};

@@ -1,3 +1,5 @@
+//! What the open descriptors of a process name; a number that is closed leaves an empty slot.
+
 ghost use Rattle.std.specs.Prelude.{◌≡◌, ℕ, Option, not, filter, [], IfOk, OnOk, OnErr, None};
 ghost use Rattle.kq_model.specs.declared.object.Named.{Named as Name};
 ghost use Rattle.kq_model.specs.ProcessPlans.{is_kqueue};

@@ -1,3 +1,5 @@
+//! What a record did: its verdict, the descriptors that it closed, and its hints.
+
 ghost use Rattle.std.specs.Prelude.{◌≡◌, ◌∷◌, [], IfOk, OnOk, IsOk};
 
 use kq_model::{Hint, Memory, Series, Target, Why};

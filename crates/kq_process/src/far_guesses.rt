@@ -1,4 +1,5 @@
-// Where the pairs of large numbers may stand, by hashes of the numbers.
+//! Where the pairs of large numbers may stand, by hashes of the numbers.
+
 use kq_model::Memory;
 use std::alloc::Global;
 

@@ -1,4 +1,5 @@
-// Where the pair of a number may stand, without a search.
+//! Where the pair of a number may stand, without a search.
+
 use crate::far_guesses::FarGuesses;
 use kq_model::Memory;
 use std::alloc::Global;

@@ -1,3 +1,5 @@
+//! Which of the signals 1 to 128 a process ignores.
+
 ghost use Rattle.std.specs.Prelude.{◌≡◌, ◌≤◌};
 ghost use Rattle.kq_model.specs.Limits.{most_signal};
 ghost use Rattle.kq_model.specs.Processes.{ignores_none, disposed};

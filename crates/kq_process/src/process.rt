@@ -1,3 +1,5 @@
+//! What is kept of one process: exit status, open descriptors and ignored signals.
+
 use crate::descriptors::Descriptors;
 use crate::ignored::Ignored;
 

@@ -1,3 +1,5 @@
+//! All processes by pid: how they start, fork and exit, and what their numbers name.
+
 ghost use Rattle.std.specs.Prelude.{◌≡◌, ℕ, ◌==◌, ◌∷◌, ◌≤◌, [], true, false, None};
 ghost use Rattle.std.specs.Prelude.{Some, IfOk, OnOk, OnErr};
 ghost use Rattle.kq_model.specs.Limits.{most_signal};

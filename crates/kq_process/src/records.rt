@@ -1,4 +1,5 @@
-// The records that are about processes and descriptors alone, whatever the objects and the clock.
+//! The records that are about processes and descriptors alone, not about objects or the clock.
+
 ghost use Rattle.std.specs.Prelude.{◌≡◌, ℕ, OnOk, OnErr};
 ghost use Rattle.kq_model.specs.DescriptorPlans.{plan_kevent};
 ghost use Rattle.kq_model.specs.ProcessPlans.{plan_proc, plan_exec, plan_sigset, plan_sig};

@@ -1,4 +1,5 @@
-// Looking for a number among pairs in rising order of their numbers.
+//! Looking for a number among pairs in rising order of their numbers.
+
 ghost use Rattle.std.specs.Prelude.{◌≡◌, ◌<◌, ◌≤◌, length, MatchResult};
 ghost use Rattle.kq_process.specs.Shelf.{AreRising, IsPlace, IsGap};
 

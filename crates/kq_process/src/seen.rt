@@ -1,3 +1,5 @@
+//! The world as kqueues look at it: views of targets, named numbers, and the clock.
+
 ghost use Rattle.kq_model.specs.World.{views_of};
 ghost use Rattle.kq_process.specs.World.{world_of};
 

@@ -1,4 +1,5 @@
-// The records that share descriptors or close them: fork, exit, dup and close.
+//! The records that share descriptors or close them: fork, exit, dup and close.
+
 ghost use Rattle.std.specs.Prelude.{◌≡◌, ◌∷◌, ◌++◌, [], ℕ, OnOk, OnErr, None, Some, true};
 ghost use Rattle.std.specs.Prelude.{false, ◌==◌};
 ghost use Rattle.kq_model.specs.DescriptorPlans.{plan_close, plan_dup};

@@ -1,3 +1,5 @@
+//! Things under numbers, at most one under each, in rising order of the numbers.
+
 ghost use Rattle.std.specs.Prelude.{◌≡◌, ◌==◌, not, filter, [], None, Some, IfOk, OnOk, OnErr};
 ghost use Rattle.std.specs.Prelude.{MatchResult, length};
 ghost use Rattle.std.specs.Option.{option_copied, option_copied_mut};

@@ -1,3 +1,5 @@
+//! The processes, the objects that their descriptors name, and the clock, as one state.
+
 ghost use Rattle.std.specs.Prelude.{◌≡◌, ◌∷◌, [], ◌<◌, ◌^◌, IfOk, OnOk, Some, true};
 ghost use Rattle.kq_model.specs.declared.object.Named.{Named as NamedObject};
 ghost use Rattle.kq_model.specs.DescriptorPlans.{on_descriptor};

@@ -1,4 +1,5 @@
-// The records about one process, the clock, a new kqueue and a kevent call.
+//! The records about one process, the clock, a new kqueue and a kevent call.
+
 ghost use Rattle.std.specs.Prelude.{◌≡◌, ◌<◌, ◌^◌, ℕ, OnOk, OnErr};
 ghost use Rattle.kq_model.specs.DescriptorPlans.{plan_kqueue, plan_kevent};
 ghost use Rattle.kq_model.specs.ProcessPlans.{plan_proc, plan_exec, plan_sigset, plan_sig, plan_clock, plan_clock_at};

@@ -1,3 +1,5 @@
+//! What a process does with an object by a descriptor, and the record about objects that it is.
+
 ghost use Rattle.std.specs.Prelude.{◌≡◌};
 
 use kq_model::{Act, Named, Side};

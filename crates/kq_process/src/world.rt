@@ -1,3 +1,5 @@
+//! The world, which one record after the other changes, and what is seen of it.
+
 ghost use Rattle.std.specs.Prelude.{◌≡◌, ◌+◌, ◌<◌, ℕ, All, IfOk, OnOk, OnErr, pos, true};
 ghost use Rattle.kq_model.specs.CountedWorld.{IsCountedWorld, IsOwned, NamesBelow};
 ghost use Rattle.kq_model.specs.DescriptorPlans.{plan_kevent};
@@ -72,8 +74,8 @@ impl World {
         Ok(effect)
     }
 
-    /// The same, where an effect is given that is written over, so that its lists serve again. After Memory nothing is
-    /// known of it.
+    /// Takes the step of the world as [`World::apply`] does, over an effect that was given, so that its lists serve
+    /// again. After Memory nothing is known of the effect.
     pub fn apply_into(
         &mut self,
         place: u64,
