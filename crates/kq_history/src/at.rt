@@ -1,3 +1,5 @@
+//! The world after the record of a place, as kqueues look at it.
+
 use crate::split::Split;
 use kq_model::{Named, Target, View, Views};
 

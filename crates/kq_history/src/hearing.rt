@@ -1,3 +1,5 @@
+//! What the records say to kqueues, taken down record by record as the world goes on.
+
 ghost use Rattle.std.specs.Prelude.{◌≡◌, ◌++◌, length, map, IfOk, OnOk};
 ghost use Rattle.std.specs.List.Sorted.{IsStrictlyIncreasing};
 ghost use Rattle.kq_model.specs.Items.{clock_whats, Closed, Told};

@@ -1,3 +1,5 @@
+//! One thing that a record says to kqueues, and the source that it comes from.
+
 ghost use Rattle.std.specs.Prelude.{◌≡◌};
 
 use kq_model::{Hint, Target};

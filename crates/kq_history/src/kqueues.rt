@@ -1,3 +1,5 @@
+//! The kqueues of a trace by place of birth, with their owners and what concerns each.
+
 ghost use Rattle.std.specs.Prelude.{◌≡◌, ◌<◌, ◌++◌, ◌∷◌, [], ℕ, length, slice_index};
 ghost use Rattle.std.specs.Prelude.{None, IfOk, IfSome, OnOk};
 ghost use Rattle.std.specs.List.{Contains};

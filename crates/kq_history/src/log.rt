@@ -1,3 +1,5 @@
+//! All that records say to kqueues, of which the items of some sources can be picked.
+
 ghost use Rattle.std.specs.Prelude.{◌≡◌, ◌<◌, All, List, filter, length, map, IfOk, OnOk};
 ghost use Rattle.std.specs.List.{IsDistinct};
 ghost use Rattle.kq_history.specs.Children.{child_told, children_at, children_of, is_of_process, AreReached};

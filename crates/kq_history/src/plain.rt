@@ -1,3 +1,5 @@
+//! The rows of impossible records, which belong to no kqueue.
+
 ghost use Rattle.std.specs.Prelude.{◌≡◌, ◌++◌, OnOk};
 ghost use Rattle.kq_history.specs.Plain.{plain_row};
 

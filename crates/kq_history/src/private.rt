@@ -1,3 +1,5 @@
+//! The private list of one kqueue: those items of a trace that concern it.
+
 ghost use Rattle.std.specs.Prelude.{◌≡◌};
 ghost use Rattle.kq_history.specs.Private.{IsPrivate};
 

@@ -1,3 +1,5 @@
+//! What a whole trace says to kqueues: the log of its items, and the kqueues that it makes.
+
 use crate::kqueues::Kqueues;
 use crate::log::Log;
 

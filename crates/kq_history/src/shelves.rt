@@ -1,3 +1,5 @@
+//! A list of numbers for each source: where its items stand in the log.
+
 ghost use Rattle.std.specs.Prelude.{◌≡◌, ◌++◌, ◌∷◌, [], IfOk, OnOk};
 ghost use Rattle.kq_history.specs.Items.{source_eq};
 ghost use Rattle.kq_history.specs.Shelves.{shelf_at, shelved};

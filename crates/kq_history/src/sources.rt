@@ -1,3 +1,5 @@
+//! Lists of sources, each once, and the sources that the changes of a call name.
+
 ghost use Rattle.std.specs.Prelude.{◌≡◌, ◌∷◌, [], slice_get, IfOk, OnOk};
 ghost use Rattle.std.specs.List.{IsDistinct};
 ghost use Rattle.kq_history.specs.Items.{has_source, source_eq};

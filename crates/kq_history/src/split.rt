@@ -1,3 +1,5 @@
+//! A trace after one pass of the world, from which the private lists are taken.
+
 ghost use Rattle.std.specs.Prelude.{◌≡◌, pos, IfOk};
 
 use crate::at::HistoryAt;

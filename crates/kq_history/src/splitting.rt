@@ -1,3 +1,5 @@
+//! The pass of the world over the records of a trace, which makes its split.
+
 ghost use Rattle.std.specs.Prelude.{◌≡◌, ◌+◌, ◌<◌, ◌^◌, ◌++◌, [], ℕ, length, IfOk, OnOk};
 ghost use Rattle.kq_history.specs.Splitting.{AreSoMany, IsSplitSoFar};
 ghost use Rattle.kq_history.specs.Traced.{longer, traced, Traced};

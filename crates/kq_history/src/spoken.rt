@@ -1,5 +1,5 @@
-// What a record speaks of by itself: numbers of the process that acts, a process that starts or
-// exits, and a file.
+//! What a record itself speaks of: numbers of a process, a process that starts or exits, a file.
+
 ghost use Rattle.std.specs.Prelude.{◌≡◌};
 ghost use Rattle.kq_history.specs.Spoken.{first_number, first_opened, second_number, second_opened, spoken_file};
 ghost use Rattle.kq_history.specs.Spoken.{spoken_process};

@@ -1,3 +1,5 @@
+//! A value that changes from place to place, kept by the places where it changed.
+
 ghost use Rattle.std.specs.Prelude.{◌≡◌, ◌++◌, ◌∷◌, [], not, IfOk, OnOk, OnErr};
 ghost use Rattle.kq_history.specs.Timeline.{last_value, mark, marked, value_at, IsUpTo};
 

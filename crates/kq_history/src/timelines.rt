@@ -1,3 +1,5 @@
+//! What the value of each key was at each place.
+
 ghost use Rattle.std.specs.Prelude.{◌≡◌, ◌++◌, ◌&&◌, [], not, IfOk, OnOk};
 ghost use Rattle.kq_history.specs.Timeline.{last_value, marked, value_at};
 ghost use Rattle.kq_history.specs.Timelines.{marks_at, AreUpTo};

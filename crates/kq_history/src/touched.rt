@@ -1,5 +1,5 @@
-// What may be another one after a record. To name too much does no harm: what did not change is
-// noted as it was.
+//! What may be another one after a record: what numbers name, and what is seen of targets.
+
 ghost use Rattle.std.specs.Prelude.{◌≡◌, ◌++◌, ◌∷◌, [], OnOk};
 ghost use Rattle.kq_model.specs.World.{views_of};
 ghost use Rattle.kq_process.specs.Processes.{descriptors_in};
@@ -16,7 +16,8 @@ use kq_model::{Event, Hint, Memory, Named, Target};
 use kq_process::{Effect, World};
 use std::alloc::Global;
 
-/// What a record touched. One serves all records of a pass, so that none allocates for itself.
+/// What a record touched. To name too much does no harm: what did not change is noted as it was. One serves all
+/// records of a pass, so that none allocates for itself.
 #[derive(Drop)]
 pub struct Touched {
     /// By pid and number.

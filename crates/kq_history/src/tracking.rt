@@ -1,4 +1,5 @@
-// The world over a trace, and what is seen of it after each record.
+//! The world goes over a trace, and what is seen of it after each record is noted.
+
 ghost use Rattle.std.specs.Prelude.{◌≡◌, ◌+◌, ◌<◌, length, OnOk};
 ghost use Rattle.kq_model.specs.Objects.{counted};
 ghost use Rattle.kq_model.specs.Plans.{plan};

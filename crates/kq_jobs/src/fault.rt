@@ -1,3 +1,5 @@
+//! Why not all jobs were run: the number of workers, memory, or a start that was refused.
+
 ghost use Rattle.std.specs.Prelude.{◌≡◌};
 
 use kq_model::Memory;

@@ -1,3 +1,5 @@
+//! Work in numbered pieces: what a job gives is known by its number alone.
+
 ghost use Rattle.std.specs.Prelude.{◌≡◌, ◌<◌, ℕ, IfOk};
 
 use kq_model::Memory;

@@ -1,4 +1,4 @@
-//! What each step on the table tells the seat that takes it.
+//! What each step on the table tells the seat that takes it, for the prover alone.
 ghost use Rattle.kq_jobs.specs.Handing.{Draws, Settles, giving, given, joined, spent};
 
 use crate::view::View;

@@ -1,3 +1,5 @@
+//! A worker's place at the counter, by which it draws the numbers of jobs.
+
 use crate::rule::Token;
 use std::marker::Model;
 

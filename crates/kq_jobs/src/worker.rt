@@ -45,7 +45,7 @@ pub fn work<J: Jobs, G: Gate>(
     Ok(ran)
 }
 
-// What a worker has done, once it is joined.
+/// For the prover alone: what a worker has done, once it is joined.
 #[derive(Drop)]
 pub struct WorkOf<'a, J: Jobs> {
     pub jobs: &'a J,

@@ -1,4 +1,5 @@
-// One kqueue that goes on alone.
+//! One kqueue goes on alone, from item to item of its private list, and gives its rows.
+
 ghost use Rattle.std.specs.Prelude.{◌≡◌, ◌≤◌, ◌++◌, ℕ, pos, All, List, length, IfOk, OnOk};
 ghost use Rattle.kq_model.specs.declared.change.Change.{Change};
 ghost use Rattle.kq_model.specs.System.{row_of};

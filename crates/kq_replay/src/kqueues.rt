@@ -1,3 +1,5 @@
+//! The kqueues of a trace as jobs: each replay is one, by number in order of birth.
+
 use crate::replay::Replay;
 use kq_history::Split;
 use kq_jobs::Jobs;

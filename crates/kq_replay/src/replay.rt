@@ -1,3 +1,5 @@
+//! A private list is replayed to the rows of its kqueue.
+
 ghost use Rattle.std.specs.Prelude.{IfOk};
 ghost use Rattle.kq_model.specs.declared.rows.Rows as declared_rows;
 

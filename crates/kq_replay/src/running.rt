@@ -28,7 +28,7 @@ pub fn replay_all<R: Threads + Wait + Sync, G: Gate + Sync>(
     replay_all_with(rt, split, workers, gate, &Always)
 }
 
-/// The same, with `starts` asked before each further worker is started.
+/// The rows that [`replay_all`] gives, with `starts` asked before each further worker is started.
 pub fn replay_all_with<R: Threads + Wait + Sync, G: Gate + Sync, S: Starts>(
     rt: &R,
     split: &Split,
