@@ -69,7 +69,7 @@ impl Live {
         Live::with_last(alloc, version, seats, MOST_CALLS)
     }
 
-    /// The same, for `last` calls at most.
+    /// The empty system that [`Live::new`] gives, which takes `last` calls at most.
     pub fn with_last(
         alloc: Global,
         version: u32,
@@ -117,8 +117,8 @@ impl Live {
         self.lock.call(rt, seat, event)
     }
 
-    /// The same in a single try, which waits for nobody. `WornOut` comes where all calls were made, before `Busy`,
-    /// which comes where the turn was not free, and that before `Memory`.
+    /// Applies one event in a single try, which waits for nobody, and gives the reply to it. `WornOut` comes where all
+    /// calls were made, before `Busy`, which comes where the turn was not free, and that before `Memory`.
     pub fn try_call(&self, seat: &mut LiveSeat, event: Event) -> Result<LiveReceipt, LiveError>
         requires { seat.old.lock ≡ self.now.lock }
         ensures kept { (seat.new.lock ≡ seat.old.lock) × (seat.new.number ≡ seat.old.number) }

@@ -20,8 +20,8 @@ const MOST_EVENTS: u64 = (1 << 31) - 1;
 #[derive(Drop)]
 pub struct LiveMachine {
     system: Box<System>,
-    /// The system as the last event left it. An event that was refused may have left more room in `system`, which
-    /// contracts see in a system and not here.
+    /// For the prover alone: the system as the last event left it. An event that was refused may have left more room
+    /// in `system`, which contracts see in a system and not here.
     settled: Snapshot<System>,
     alloc: Global,
 }

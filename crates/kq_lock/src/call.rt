@@ -45,8 +45,8 @@ impl<M: Machine> TurnLock<M> {
         )
     }
 
-    /// The same in a single try, which waits for nobody. Where more than one refusal would fit,
-    /// `WornOut` goes before `Busy`, and `Busy` before `Memory`.
+    /// Takes one step of the machine in a single try, which waits for nobody. Where more than one
+    /// refusal would fit, `WornOut` goes before `Busy`, and `Busy` before `Memory`.
     pub fn try_call(
         &self,
         seat: &mut TurnSeat<M>,

@@ -1,3 +1,5 @@
+//! What the history keeps of a call, and the receipt that its caller gets.
+
 /// One call in the history of a lock: the step that was asked for, and the machine's answer.
 #[derive(Drop)]
 pub struct Entry<S, A> {

@@ -1,3 +1,5 @@
+//! Why a call of a lock was refused: no memory, no tickets, or the turn was not free.
+
 ghost use Rattle.std.specs.Prelude.{◌≡◌};
 
 use kq_model::Memory;

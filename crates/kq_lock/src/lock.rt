@@ -1,3 +1,5 @@
+//! The lock: how it is made, gets more seats, and is taken apart into its value and history.
+
 ghost use Rattle.std.specs.Prelude.{◌≡◌, ◌+◌, ◌^◌, ◌≤◌, Some, false, [], length, vec_len};
 ghost use Rattle.std.specs.Prelude.{IfOk, IfErr};
 ghost use mathlib.Core.List.{IsPrefix};

@@ -1,3 +1,5 @@
+//! What can be put under a lock: a value that changes by steps and answers each.
+
 ghost use Rattle.std.specs.Prelude.{◌≡◌, IfOk, OnErr};
 
 use kq_model::Memory;

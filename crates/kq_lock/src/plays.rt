@@ -1,4 +1,4 @@
-//! What each step on the table tells the seat that takes it.
+//! What each step on the table tells the seat that takes it, for the prover alone.
 ghost use Rattle.kq_lock.specs.Turns.{LooksAtTicket, Draws, Seizes, LooksAtTurn, Enters, Raises};
 ghost use Rattle.kq_lock.specs.Turns.{PassesOn, Settles, first_half, second_half, joined, spent};
 

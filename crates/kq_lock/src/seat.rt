@@ -1,3 +1,5 @@
+//! A caller's place at a lock, and how one becomes two and two become one.
+
 ghost use Rattle.std.specs.Prelude.{◌≡◌, ◌+◌, false, []};
 ghost use mathlib.Core.List.{IsPrefix};
 ghost use Rattle.kq_lock.specs.Calls.{calls_by, longer};

@@ -27,7 +27,7 @@ pub enum Stage<M, S, A> {
     Waits(u64),
     /// It has the turn with this ticket, and took out this value with this history.
     Holds(u64, M, LinkedList<Call<S, A>>),
-    /// The same, and LENGTH is raised: the value to put back, and the history with this call.
+    /// It has the turn with this ticket, and LENGTH is raised: the value to put back, and the history with this call.
     Raised(u64, M, LinkedList<Call<S, A>>),
 }
 

@@ -39,8 +39,9 @@ impl Waiting {
         &self.slots[(ticket % SLOTS as u64) as usize]
     }
 
-    /// Wakes this ticket, and those behind it whose turn is near. The seat is that of the caller, which does not have the
-    /// turn any more: a ticket that is woken before the turn was passed on would sleep again. It waits for nobody.
+    /// Wakes this ticket, and those behind it whose turn is near. Waits for nobody. `passed` is for the prover alone:
+    /// the seat of the caller, which does not have the turn any more. A ticket that is woken before the turn was passed
+    /// on would sleep again.
     pub fn wake<M: Machine>(&self, passed: &TableSeat<M>, ticket: u64)
         requires { passed.now.me.0.stage ≡ Idle }
     {

@@ -1,3 +1,5 @@
+//! Why not all steps were served: a call was refused, or a thread was not started.
+
 ghost use Rattle.std.specs.Prelude.{◌≡◌};
 
 use kq_lock::TurnError;

@@ -1,3 +1,5 @@
+//! A machine whose steps have owners, by which they are shared out among threads.
+
 ghost use Rattle.std.specs.Prelude.{◌≡◌, IfOk, ℕ};
 
 use kq_lock::Machine;

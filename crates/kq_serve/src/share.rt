@@ -42,7 +42,7 @@ pub fn serve_share<M: Served, R: Wait, G: Gate>(
     Ok(seat)
 }
 
-// What a thread's seat has done, once the thread is joined.
+/// For the prover alone: what a thread's seat has done, once the thread is joined.
 #[derive(Drop)]
 pub struct ShareOf<'a, M: Served> {
     pub seat: Snapshot<TurnSeat<M>>,
