@@ -16,7 +16,7 @@ pub fn behind_key<'a, const N: usize>(text: &'a [u8], name: &[u8; N]) -> Option<
     Some(without_blank(behind_colon))
 }
 
-/// The same behind a comma and a blank or none.
+/// The text behind a comma, a blank or none, this name in quotation marks, a colon and a blank or none.
 #[inline(always)]
 pub fn behind_next_key<'a, const N: usize>(text: &'a [u8], name: &[u8; N]) -> Option<&'a [u8]>
     ensures key { IfSome result (λ value. IsNextKey text.now name.now value.now) }

@@ -61,7 +61,7 @@ pub fn next_u32<'a, const N: usize>(text: &'a [u8], name: &[u8; N]) -> Option<(u
     number32(behind_next_key(text, name)?)
 }
 
-/// The same with a sign.
+/// The number with a sign that is the next member of a record, where that has this name, and the text behind it.
 #[inline(always)]
 pub fn next_i64<'a, const N: usize>(text: &'a [u8], name: &[u8; N]) -> Option<(i64, &'a [u8])>
     requires { IsTrue (are_letters name.now) }
@@ -72,7 +72,8 @@ pub fn next_i64<'a, const N: usize>(text: &'a [u8], name: &[u8; N]) -> Option<(i
     number_with_sign(behind_next_key(text, name)?)
 }
 
-/// The same, where it is a moment of the clock, in ns.
+/// The moment of the clock, in ns, that is the next member of a record, where that has this name, and the text behind
+/// it.
 #[inline(always)]
 pub fn next_moment<'a, const N: usize>(text: &'a [u8], name: &[u8; N]) -> Option<(i64, &'a [u8])>
     requires { IsTrue (are_letters name.now) }
@@ -123,7 +124,8 @@ pub fn next_u32_or_zero<'a, const N: usize>(
     }
 }
 
-/// The same of 64 bits.
+/// The number of 64 bits that is the next member of a change, where that has this name, and else 0; and the text behind
+/// it.
 #[inline(always)]
 pub fn next_u64_or_zero<'a, const N: usize>(
     text: &'a [u8],
@@ -141,7 +143,8 @@ pub fn next_u64_or_zero<'a, const N: usize>(
     }
 }
 
-/// The same of 64 bits with a sign.
+/// The number of 64 bits with a sign that is the next member of a change, where that has this name, and else 0; and the
+/// text behind it.
 #[inline(always)]
 pub fn next_i64_or_zero<'a, const N: usize>(
     text: &'a [u8],

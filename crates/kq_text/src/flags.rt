@@ -1,3 +1,5 @@
+//! The list of the names of flags, as it stands in a line.
+
 ghost use Rattle.std.specs.Prelude.{◌≡◌, ◌≤◌, ◌∷◌, ◌+◌, ◌++◌, [], IfSome, length, OnOk, take};
 ghost use Rattle.serde_json.specs.Written.{compact_text};
 ghost use Rattle.kq_model.specs.Spelling.{flags_data};
@@ -22,7 +24,7 @@ pub fn put_flags(out: &mut Vec<u8>, flags: EvFlags) -> Result<(), Memory>
     Ok(())
 }
 
-/// The same, where there is room for it.
+/// Adds the list of the names of the flags that are set, where there is room for it.
 pub fn push_flags(out: &mut Vec<u8>, flags: EvFlags)
     requires { HasRoom out.old FLAGS_BYTES }
     ensures text { Adds out.old.items (compact_text (flags_data flags)) out.new.items }
@@ -36,7 +38,8 @@ pub fn push_flags(out: &mut Vec<u8>, flags: EvFlags)
     }
 }
 
-/// The same, over bytes that are there, from a place on. Where it ends is returned.
+/// Writes the list of the names of the flags that are set over bytes that are there, from a place on. Where it ends is
+/// returned.
 #[inline(always)]
 pub fn write_flags_at(out: &mut [u8], start: usize, flags: EvFlags) -> usize
     requires { start + FLAGS_BYTES ≤ length out.old }

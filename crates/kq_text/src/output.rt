@@ -1,3 +1,5 @@
+//! All of some bytes are written, or the write failed.
+
 ghost use Rattle.std.specs.Prelude.{OnErr, OnOk};
 ghost use Rattle.std.specs.Io.KnownBytes.{Appends};
 ghost use Rattle.kq_text.specs.Output.{AppendsPart};

@@ -76,7 +76,7 @@ fn digit_count(number: u64) -> usize
     count + short_digit_count(rest)
 }
 
-/// The same, of a number of four digits at most.
+/// How many decimal digits a number of four digits at most has.
 #[inline(always)]
 fn short_digit_count(number: u64) -> usize
     requires { number < 10000 }

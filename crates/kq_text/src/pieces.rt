@@ -1,3 +1,5 @@
+//! Words and decimal numbers, each added to a text that grows.
+
 ghost use Rattle.std.specs.Prelude.{◌<◌, ◌^◌, decimal, OnOk};
 ghost use Rattle.std.specs.Fmt.{signed_decimal};
 ghost use Rattle.std.specs.Int.{w64};

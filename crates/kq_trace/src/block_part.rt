@@ -37,7 +37,8 @@ pub fn part_of<R: AllocGlobal + Threads + Wait + Sync>(
     }
 }
 
-/// The same by the calling thread, one line after the other.
+/// The records on the lines of a block, read by the calling thread, one line after the other. `Bad` is as in
+/// [`part_of`].
 fn part_alone(alloc: Global, number: u64, block: &[u8]) -> Result<Part, TraceError>
     requires number { number ≤ 1000002 }
     ensures part { IfOk result (AreRecordsFrom number (lines_behind block.now)) }

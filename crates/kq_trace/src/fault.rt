@@ -1,3 +1,5 @@
+//! Why a text was not read as a trace: no memory, or its first bad line.
+
 ghost use Rattle.std.specs.Prelude.{◌≡◌};
 
 use kq_model::{LineFault, Memory};

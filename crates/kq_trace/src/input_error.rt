@@ -1,3 +1,5 @@
+//! Why an input is no trace: a failed read, too many bytes, no memory, or a bad line.
+
 ghost use Rattle.std.specs.Prelude.{◌≡◌};
 
 use crate::TraceError;

@@ -32,8 +32,8 @@ pub fn read_trace<R: AllocGlobal + Threads + Wait + Sync>(
     read_trace_with(rt, bytes, u32::MAX)
 }
 
-/// The same by at most so many threads, of which the calling one is the first, and one more where there are two or
-/// more; 0 and 1 start none.
+/// Reads the text of a trace as [`read_trace`] does, by at most so many threads, of which the calling one is the first,
+/// and one more where there are two or more; 0 and 1 start none.
 pub fn read_trace_with<R: AllocGlobal + Threads + Wait + Sync>(
     rt: &R,
     bytes: &[u8],
@@ -54,7 +54,7 @@ pub fn read_trace_with<R: AllocGlobal + Threads + Wait + Sync>(
     }
 }
 
-/// The same as [`read_trace`], each line by way of a JSON value, one after the other: slower, and what the typed
+/// Reads what [`read_trace`] reads, each line by way of a JSON value, one after the other: slower, and what the typed
 /// pass is held against.
 pub fn read_trace_by_values<R: AllocGlobal>(rt: &R, bytes: &[u8]) -> Result<Trace, TraceError>
     ensures good { IfOk result (λ trace. reading bytes.now ≡ Good trace.version trace.events) }

@@ -75,7 +75,7 @@ impl<'a> TraceReader<'a> {
         TraceReader::by(alloc, bytes, Readers::TypedFirst)
     }
 
-    /// The same, with these readers of a line.
+    /// Reads the header of a text, whose lines these readers are to read. An error is as in [`TraceReader::new`].
     pub(crate) fn by(alloc: Global, bytes: &'a [u8], readers: Readers) -> Result<Self, TraceError>
         ensures meaning { IfOk result (λ reader. reading bytes.now ≡ reader.meaning) }
         ensures line { IfOk result (λ reader. reader.line ≡ 2) }

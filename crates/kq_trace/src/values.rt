@@ -1,3 +1,5 @@
+//! The JSON value of a line, if the line is JSON.
+
 ghost use Rattle.std.specs.Prelude.{◌≡◌, IfOk, option_map};
 ghost use Rattle.serde_json.specs.View.{view};
 ghost use Rattle.kq_model.specs.Reading.{json_of};

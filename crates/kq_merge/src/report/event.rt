@@ -1,3 +1,5 @@
+//! One event of a call, as it stands in a line of the report.
+
 ghost use Rattle.std.specs.Prelude.{◌≡◌, ◌≤◌, ◌+◌, ◌++◌, codes, length, take};
 ghost use Rattle.serde_json.specs.Written.{comma_if, compact_text};
 ghost use Rattle.kq_model.specs.Report.{kevent_data};

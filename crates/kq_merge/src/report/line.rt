@@ -1,3 +1,5 @@
+//! The lines of a report: that of a reply, and the last one, which counts.
+
 ghost use Rattle.std.specs.Prelude.{◌≤◌, ◌+◌, ◌*◌, ◌++◌, codes, decimal, false, length, OnOk};
 ghost use Rattle.kq_model.specs.Report.{last_line, reply_line};
 ghost use Rattle.kq_text.specs.Adds.{Adds};
@@ -26,7 +28,8 @@ pub fn put_reply(out: &mut Vec<u8>, at: u64, reply: &Reply) -> Result<(), Memory
     Ok(())
 }
 
-/// The same, over bytes that are there, from one of them on. Where the line ends is returned.
+/// Writes the line of the reply to the record at a place over bytes that are there, from one of them on; of a record
+/// that was only done, nothing. Where the line ends is returned.
 #[tactic(auto, unfolding(kq_model::specs::Report::events_in))]
 pub fn write_reply_at(out: &mut [u8], start: usize, at: u64, reply: &Reply) -> usize
     requires { start + line_bound reply.now ≤ length out.old }

@@ -1,3 +1,5 @@
+//! The text of a report as it grows row by row, and the counts for its last line.
+
 ghost use Rattle.std.specs.Prelude.{◌≡◌, ◌≤◌, ◌++◌, IfOk};
 ghost use Rattle.kq_model.specs.Report.{calls_in, events_in, last_line};
 ghost use Rattle.kq_merge.specs.Written.{nothing_written, with_reply};
@@ -60,7 +62,7 @@ impl ReportText {
         self.end_in_chunks(records)?.joined()
     }
 
-    /// The same, as it stands in memory, and Memory as there.
+    /// The whole text that [`ReportText::end`] gives, in the chunks in which it stands in memory. Memory as there.
     pub fn end_in_chunks(self, records: u64) -> Result<TextChunks, Memory>
         ensures { IfOk result (λ text. text ≡ self.lines ++ last_line self.calls self.events records) }
     {
