@@ -1,3 +1,5 @@
+//! What the words ask for: a trace's report, or its run on one live system.
+
 ghost use Rattle.std.specs.Prelude.{◌≡◌};
 
 /// What the program is to do.

@@ -1,3 +1,5 @@
+//! An order is carried out: a trace is read, and its report, its book or a fault is written.
+
 ghost use Rattle.std.specs.Prelude.{◌≡◌, ◌↔◌, IfErr, IsErrOf, IsTrue, OnOk};
 ghost use Rattle.std.specs.Io.KnownBytes.{Keeps};
 ghost use Rattle.kq_run.specs.Written.{Leaves, Writes};

@@ -34,7 +34,7 @@ pub fn join<
     run_both(rt, Once { call: first }, Once { call: second })
 }
 
-/// The same for closures that are lent, so that it is known what each leaves in its captures.
+/// Calls two closures that are lent, as [`join`] does, so that it is known what each leaves in its captures.
 pub fn join_mut<
     R: Threads + Wait,
     F: FnMut() -> A + Send,
@@ -60,7 +60,7 @@ pub fn join_mut<
     }
 }
 
-/// Does nothing, but this use of a returned reference ties it to the parameter that lent it.
+/// For the prover alone: does nothing, but this use of a returned reference ties it to the parameter that lent it.
 fn take_back<T>(x: &mut T)
     ensures { x.new ≡ x.old }
 {}

@@ -1,3 +1,5 @@
+//! Why there is no whole report: the line that says so, and the exit status.
+
 ghost use Rattle.std.specs.Prelude.{◌≡◌};
 
 use kq_model::{LineFault, Memory};

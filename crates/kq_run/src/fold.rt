@@ -60,8 +60,8 @@ impl Fold {
         })
     }
 
-    /// The same: these rows wait, and another thread writes the lines of those that waited. Memory comes where it does
-    /// not start, too.
+    /// After these pieces of records more: their rows wait, and another thread writes the lines of those that waited.
+    /// Memory comes where it does not start, too.
     pub fn after_beside<R: AllocGlobal + Threads + Wait>(
         self,
         rt: &R,
@@ -137,7 +137,7 @@ fn answered<K: RowSink + Drop>(
     Ok(rows)
 }
 
-/// The same for a piece.
+/// Takes the system past the records of one piece: what took the rows.
 fn answered_piece<K: RowSink + Drop>(
     system: &mut System,
     mut rows: K,

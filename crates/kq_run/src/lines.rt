@@ -20,7 +20,7 @@ pub fn with_rows(mut text: ReportText, rows: Vec<Row>) -> Result<ReportText, Mem
     Ok(text)
 }
 
-/// The same of the rows of several shares, by place.
+/// The text with the lines of the rows of several shares, by place.
 pub fn with_lists(alloc: Global, text: ReportText, lists: Vec<Rows>) -> Result<ReportText, Memory>
     ensures { IfOk result (λ after. (before rows : List Row) → text ≡ written before → AreRowsOf lists.items rows
         → after ≡ written (before ++ rows)) }

@@ -43,7 +43,7 @@ pub fn live_run_with<R: AllocGlobal + Threads + Wait + Sync, G: Gate + Sync, S: 
     }
 }
 
-/// The same with a gate that holds nobody, where no start is refused beforehand.
+/// Runs the trace as [`live_run_with`] does, with a gate that holds nobody, where no start is refused beforehand.
 pub fn live_run<R: AllocGlobal + Threads + Wait + Sync>(
     rt: &R,
     trace: &Trace,

@@ -1,3 +1,5 @@
+//! Bytes, or a text in chunks, are written whole, or else it is a fault.
+
 ghost use Rattle.std.specs.Prelude.{◌≡◌, ◌++◌, List, ℕ, OnOk, OnErr, IfErr};
 ghost use Rattle.std.specs.Io.KnownBytes.{Appends};
 

@@ -31,7 +31,7 @@ pub fn rows_of<R: AllocGlobal + Threads + Wait + Sync, G: Gate + Sync, S: Starts
     rows_of_split(rt, &split, workers, gate, starts)
 }
 
-/// The same of a trace that was split.
+/// The rows of a trace that was split, each of whose kqueues is replayed alone.
 fn rows_of_split<R: AllocGlobal + Threads + Wait + Sync, G: Gate + Sync, S: Starts>(
     rt: &R,
     split: &Split,

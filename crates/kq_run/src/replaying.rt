@@ -62,8 +62,9 @@ fn fold_from<R: AllocGlobal + Threads + Wait + Sync, I: Source + Send>(
     }
 }
 
-/// The same, where each kqueue is replayed alone: the gate is asked before each of them, with the number of the worker
-/// and that of the kqueue in order of birth, both from 1 on, and `starts` before each worker but the first is started.
+/// The report that [`replay`] gives, where each kqueue is replayed alone: the gate is asked before each of them, with
+/// the number of the worker and that of the kqueue in order of birth, both from 1 on, and `starts` before each worker
+/// but the first is started.
 pub fn replay_with<R: AllocGlobal + Threads + Wait + Sync, G: Gate + Sync, S: Starts>(
     rt: &R,
     bytes: &[u8],

@@ -133,7 +133,7 @@ fn shares_for(workers: u32, births: usize) -> u32
     }
 }
 
-/// The same by shares, of which there are two or more.
+/// What a fold by shares, of which there are two or more, comes to after these pieces of records more.
 fn shared<R: AllocGlobal + Threads + Wait>(
     rt: &R,
     fold: SharedFold,

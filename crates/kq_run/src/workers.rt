@@ -1,3 +1,5 @@
+//! How many threads may replay a trace, and how many may run one on a live system.
+
 ghost use Rattle.std.specs.Prelude.{◌↔◌, IsTrue};
 ghost use Rattle.kq_run.specs.Workers.{IsThreadCount, IsWorkerCount};
 

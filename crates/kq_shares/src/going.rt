@@ -28,7 +28,7 @@ pub fn go_over(alloc: Global, share: Box<Share>, pieces: &[Vec<Event>]) -> Resul
     Ok(Gone { share, rows })
 }
 
-/// The same for one piece.
+/// Takes a share past the records of one piece, and puts its rows behind those that are there.
 fn go_over_piece(share: &mut Share, rows: &mut Vec<Row>, events: &[Event]) -> Result<(), Memory>
     requires { HasPlaces (length events.now) share.old }
     ensures { OnOk result ((more : List Row) × HasGone share.old events.now share.new more

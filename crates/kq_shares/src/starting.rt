@@ -71,6 +71,7 @@ pub fn go_all<R: Threads + Wait>(
     })
 }
 
+/// Whether both are true. A function for the prover alone: it sees one value where `&&` gives it two cases.
 fn both(a: bool, b: bool) -> bool {
     a && b
 }
