@@ -1,3 +1,5 @@
+//! A line of answers: what was answered to the record at a place, or the counts at the end.
+
 use kq_model::{Kevent, Series, Why};
 
 /// What was answered to one record.

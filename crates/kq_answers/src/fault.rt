@@ -1,3 +1,5 @@
+//! What is wrong with a line of answers, and why answers were not read.
+
 ghost use Rattle.std.specs.Prelude.{◌≡◌};
 
 use kq_model::{LineFault, Memory};

@@ -290,7 +290,7 @@ pub fn judge_all(
     judge_from(alloc, &mut system, trace, answers, ignored, permits)
 }
 
-/// The same, as a system carries the records out that carried out none before.
+/// What the answers to a trace come to, as a system carries the records out that carried out none before.
 fn judge_from(
     alloc: Global,
     system: &mut System,

@@ -15,7 +15,8 @@ pub enum Outcome {
     /// No order of the queue, as the run left it, gives the answer at this place, and each earlier call of the kqueue
     /// that could have returned others has its answer. All answers before it are allowed.
     Refused { at: u64 },
-    /// The same, where an earlier call of the kqueue has no answer and could have returned others.
+    /// No order of the queue, as the run left it, gives the answer at this place, but an earlier call of the kqueue has
+    /// no answer and could have returned others. All answers before it are allowed.
     Unknown { at: u64 },
     /// The record at this place could not be, and all before it is allowed.
     Impossible { at: u64, why: Why },

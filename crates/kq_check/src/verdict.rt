@@ -1,3 +1,5 @@
+//! What a record comes to beside its answer: equal, allowed, refused or impossible.
+
 ghost use Rattle.std.specs.Prelude.{◌≡◌};
 ghost use Rattle.std.specs.Option.{option_map};
 ghost use Rattle.kq_check.specs.Replies.{IsVerdictOf};

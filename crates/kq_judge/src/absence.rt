@@ -1,3 +1,5 @@
+//! The event that a kevent would give where its turn comes, or why it gives none.
+
 ghost use Rattle.std.specs.Prelude.{MatchResult};
 ghost use Rattle.kq_model.specs.Kqueue.{IsSound};
 ghost use Rattle.kq_judge.specs.Pending.{IsPending, IsAbsence};

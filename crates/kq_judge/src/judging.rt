@@ -1,3 +1,5 @@
+//! Whether some order of the queue gives the answer of a call, or what is wrong with it.
+
 ghost use Rattle.std.specs.Prelude.{◌≡◌, ◌≤◌, true, false, [], length, map, min};
 ghost use Rattle.std.specs.Prelude.{IsOk, IfOk, IfNone, MatchOption, MatchBool};
 ghost use Rattle.kq_model.specs.CallLaws.{key_of_event};

@@ -1,3 +1,5 @@
+//! In which member two events of a kevent differ, but for members that are not compared.
+
 ghost use Rattle.std.specs.Prelude.{◌≡◌, IsTrue, false, MatchBool, MatchOption};
 ghost use Rattle.kq_model.specs.CallLaws.{key_of_event};
 ghost use Rattle.kq_judge.specs.Same.{ignores, is_ignored, AgreeOn, IsSame, IsFirstDifference};

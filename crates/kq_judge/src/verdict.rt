@@ -1,3 +1,5 @@
+//! What became of a kevent in a call: returned, without an event, or not reached, and why.
+
 ghost use Rattle.std.specs.Prelude.{◌≡◌, ◌≤◌, ◌<◌, ◌-◌, ℕ, if◌then◌else◌, [], IfOk};
 ghost use Rattle.std.specs.Prelude.{IsOk, MatchBool, length};
 ghost use Rattle.kq_model.specs.Kqueue.{IsSound};
