@@ -50,7 +50,7 @@ fn call_text(
     text_with(alloc, trace, at, call, changes, keys.as_slice())
 }
 
-/// The same, of these kevents.
+/// What became of these kevents in the call at a place.
 fn text_with(
     alloc: Global,
     trace: &Trace,
@@ -67,7 +67,7 @@ fn text_with(
     text_after(alloc, &mut story, at, call, changes, keys)
 }
 
-/// The same, from a story that has come to the call.
+/// What became of these kevents in the call to which a story has come.
 fn text_after(
     alloc: Global,
     story: &mut Story<'_>,
@@ -149,7 +149,7 @@ fn keys_at(
     keys_after(alloc, &mut story, call, changes)
 }
 
-/// The same, from a story that has come to the call.
+/// The kevents of which the call can say something to which a story has come.
 fn keys_after(
     alloc: Global,
     story: &mut Story<'_>,

@@ -1,3 +1,5 @@
+//! Why nothing was judged or not all was said: the line that says so, and the exit status.
+
 ghost use Rattle.std.specs.Prelude.{◌≡◌};
 
 use kq_answers::{AnswerFault, AnswersError};
@@ -14,7 +16,7 @@ pub enum Fault {
     /// The trace could not be read, or is longer than the program takes.
     #[error("kqcheck: cannot read the trace")]
     ReadTrace,
-    /// The same of the answers.
+    /// The answers could not be read, or are longer than the program takes.
     #[error("kqcheck: cannot read the answers")]
     ReadAnswers,
     /// The trace has a bad line; lines count from 1.

@@ -1,3 +1,5 @@
+//! The trace or the answers are read to the end, and have so many bytes at most.
+
 ghost use Rattle.std.specs.Prelude.{◌≡◌, ◌≤◌, ◌⊎◌, length, IfOk, IfErr, IfSome};
 
 use crate::fault::Fault;

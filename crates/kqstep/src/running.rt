@@ -1,3 +1,5 @@
+//! An order is carried out: the help is printed, or a trace is answered as it comes.
+
 ghost use Rattle.std.specs.Prelude.{◌≡◌};
 ghost use Rattle.kq_step.specs.Fault.{status_of};
 ghost use Rattle.kqstep.specs.Run.{EndsBy};

@@ -1,3 +1,5 @@
+//! Why nothing is printed: the line that says so, and the exit status.
+
 use kq_live::LiveError;
 use kq_model::{LineFault, Memory};
 use kq_run::Fault as ReplayFault;

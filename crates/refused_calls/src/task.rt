@@ -1,3 +1,5 @@
+//! Which calls are to be made, by the words of the command line.
+
 /// What the program is asked to do.
 #[derive(Drop, Clone, Copy)]
 pub enum Task {

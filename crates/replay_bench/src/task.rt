@@ -1,3 +1,5 @@
+//! Which replay is to be measured, by the words of the command line.
+
 /// What the program is asked to do.
 #[derive(Drop, Clone, Copy)]
 pub enum Task {

@@ -1,3 +1,5 @@
+//! The total to which customers add, as a machine under the lock.
+
 ghost use Rattle.std.specs.Prelude.{◌≡◌, ◌+◌, ◌%◌, ◌^◌};
 
 use kq_lock::Machine;

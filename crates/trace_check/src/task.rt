@@ -1,3 +1,5 @@
+//! What is to be read or written, by the word of the command line.
+
 /// What the program is asked to do.
 #[derive(Drop, Clone, Copy)]
 pub enum Task {

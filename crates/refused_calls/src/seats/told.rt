@@ -29,13 +29,13 @@ impl Told {
         }
     }
 
-    /// The same after a call that is made again.
+    /// What the calls told, after one that is made again.
     pub fn with_refusal(self) -> Told {
         let again = self.again.saturating_add(1);
         Told { again, ..self }
     }
 
-    /// The same with the receipt of a further call.
+    /// What the calls told, with the receipt of a further one.
     pub fn with(self, receipt: &LiveReceipt) -> Result<Told, Fault> {
         let Told {
             mut receipts,
