@@ -9,12 +9,12 @@ use Rattle.kq_table.specs.declared.node.Links.{Links}
 use Rattle.kq_table.specs.declared.node.Node.{Node}
 use Rattle.kq_table.specs.declared.node.Thread.{Thread}
 use Rattle.kq_table.specs.declared.node.Thread.TheVariants.{Order, Watch, Queue}
-use Rattle.kq_table.specs.Rows.{Tabled, without_row, without_waiting, put_in}
-use Rattle.kq_table.specs.Threads.{is_in, AreDistinct, without_slot, IsThread, IsQueue, written, passed_over, ends_past, row_of, birth_of, links_of, rows_in, births_in, links_in, rows_at, SameBut}
+use Rattle.kq_table.specs.Rows.{Tabled, without_row, without_waiting, with_first, put_in}
+use Rattle.kq_table.specs.Threads.{is_in, AreDistinct, without_slot, IsThread, IsQueue, written, passed_over, ends_past, row_of, birth_of, links_of, rows_in, births_in, links_in, before_rows, rows_at, SameBut}
 use Rattle.kq_table.specs.Kept.{names_room, AreBorn, AreWatched, IsEntered, StandsAt}
 use Rattle.kq_table.proofs.RowLaws.{by_test}
 use Rattle.kq_table.proofs.NodeLaws.{reading, through-written}
-use Rattle.kq_table.proofs.QueueLaws.{without_waiting-keys, put_in-new}
+use Rattle.kq_table.proofs.QueueLaws.{without_waiting-keys, put_in-new, with_first-there}
 use Rattle.kq_table.proofs.SeatLaws.{rows_at-same, rows_at-push}
 use Rattle.kq_table.proofs.ThreadLaws.{eqb-refl, IsThread-same}
 use Rattle.kq_table.proofs.WithoutLaws.{without-in, without-in_from, length-without, IsThread-without, rows_at-filter, AreBorn-filter, AreBorn-same}
@@ -90,13 +90,26 @@ module _ {K T G S R : Type 0} {same : K → K → Bool} {alike : G → G → Boo
         ∙ map-append key_of (rows_at (rows_in nodes) table.kept.waits) (at.row ∷ [])
         ∙ ap (λ (keys : List K). keys ++ key_of at.row ∷ []) table.keys ∙ ap (λ (k : K). v.queue ++ k ∷ []) (sym (table.one_key key (key_of at.row) at.is))
 
-    -- the key is put in, or taken out
+    keys-first : map key_of (rows_at (rows_in nodes) (slot ∷ without_slot slot table.kept.waits)) ≡ key ∷ without_waiting same key v.queue
+    keys-first =
+        let left = rows_at (rows_in nodes) (without_slot slot table.kept.waits) in
+        ap (λ (o : Option T). map key_of (before_rows o left)) at.here
+        ∙ ap (λ (k : K). k ∷ map key_of left) (sym (table.one_key key (key_of at.row) at.is))
+        ∙ ap (λ (keys : List K). key ∷ keys) keys-without
+
+    -- the key is put in, taken to the front, or taken out
     module _ (more : Slab (Node T)) (ends : Ends) (count : ℕ) (but : SameBut Queue nodes more) where
       pub put-in : is_some (links_in Queue nodes slot) ≡ false → IsQueue (links_in Queue more) ends (table.kept.waits ++ slot ∷ []) count
           → IsSeen same alike key_of target_of more index targets order ends count limit births (record v { queue = put_in same key_of key v.rows v.queue })
       put-in out is =
           requeued more ends (table.kept.waits ++ slot ∷ []) count (put_in same key_of key v.rows v.queue) but is
           (keys-push ∙ sym (put_in-new same key_of key v.rows v.queue at.row (stands-row table at) (sym (stands-waits table at) ∙ out)))
+
+      pub put-first : is_some (links_in Queue nodes slot) ≡ true → IsQueue (links_in Queue more) ends (slot ∷ without_slot slot table.kept.waits) count
+          → IsSeen same alike key_of target_of more index targets order ends count limit births (record v { queue = with_first same key v.queue })
+      put-first waits is =
+          requeued more ends (slot ∷ without_slot slot table.kept.waits) count (with_first same key v.queue) but is
+          (keys-first ∙ sym (with_first-there same key v.queue (sym (stands-waits table at) ∙ waits)))
 
       pub taken-out : IsQueue (links_in Queue more) ends (without_slot slot table.kept.waits) count
           → IsSeen same alike key_of target_of more index targets order ends count limit births (record v { queue = without_waiting same key v.queue })

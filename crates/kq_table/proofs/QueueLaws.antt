@@ -4,7 +4,7 @@ use Rattle.std.proofs.lemmas.Bool.{or_parts, not_from_true, not_from_false}
 use Rattle.std.proofs.lemmas.Option.{none-some, same_Some, slice_get-map}
 use Rattle.std.specs.Cmp.{IsEquivalence}
 use Rattle.std.specs.Option.{option_map}
-use Rattle.kq_table.specs.Rows.{find_row, row_after, without_row, HaveOwnKeys, waits_in, enqueued, put_in, without_waiting, key_behind, turned, AreOnce, HaveRows}
+use Rattle.kq_table.specs.Rows.{find_row, row_after, without_row, HaveOwnKeys, waits_in, enqueued, put_in, without_waiting, with_first, key_behind, turned, AreOnce, HaveRows}
 use Rattle.kq_table.proofs.RowLaws.{by_test, find_row-none, find_row-cons}
 
 module _ {K T : Type 0} (same : K → K → Bool) (key_of : T → K) where
@@ -43,6 +43,13 @@ front-of (y ∷ xs) x first = (xs, ap (λ z. z ∷ xs) (same_Some y x first))
 pub none-of : {X : Type 0} (xs : List X) → slice_get xs 0 ≡ None → xs ≡ []
 none-of [] none = refl
 none-of (y ∷ xs) some = absurd (none-some y (sym some))
+
+module _ {K : Type 0} (same : K → K → Bool) (key : K) (queue : List K) where
+  pub with_first-there : waits_in same key queue ≡ true → with_first same key queue ≡ key ∷ without_waiting same key queue
+  with_first-there waits = ap (λ b. cond b (key ∷ without_waiting same key queue) queue) waits
+
+  pub with_first-absent : waits_in same key queue ≡ false → with_first same key queue ≡ queue
+  with_first-absent out = ap (λ b. cond b (key ∷ without_waiting same key queue) queue) out
 
 module _ {K : Type 0} (same : K → K → Bool) (laws : IsEquivalence same) where
   pub without_waiting-absent : (key : K) (queue : List K) → waits_in same key queue ≡ false → without_waiting same key queue ≡ queue

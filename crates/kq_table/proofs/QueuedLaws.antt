@@ -1,15 +1,15 @@
--- The queue of slots, when one is put in and when one is taken out.
-use Rattle.std.proofs.Common.{◌≡◌, ℕ, ◌+◌, ◌-◌, true, false, cond, eqb, List, [], ◌∷◌, ◌++◌, length-append, Option, Some, None, is_some, refl, sym, ap, ◌∙◌, subst, arith}
+-- The queue of slots, when one is put in, when one is taken out, and when one is taken to its front.
+use Rattle.std.proofs.Common.{◌≡◌, ℕ, ◌+◌, ◌-◌, true, false, cond, ◌||◌, eqb, List, [], ◌∷◌, ◌++◌, length, length-append, Option, Some, None, is_some, refl, sym, ap, ◌∙◌, subst, arith}
 use Rattle.std.proofs.lemmas.Bool.{or_left, false_from_ne_true}
 use Rattle.std.proofs.lemmas.Option.{none-some}
 use Rattle.std.specs.Option.{option_map}
 use Rattle.kq_table.specs.declared.node.Ends.{Ends}
 use Rattle.kq_table.specs.declared.node.Links.{Links}
-use Rattle.kq_table.specs.Threads.{is_at, is_in, without_slot, with_after, with_before, IsQueue, written, put_last, ends_with, passed_over, ends_past}
+use Rattle.kq_table.specs.Threads.{is_at, is_in, without_slot, with_after, with_before, IsQueue, written, put_first, put_last, ends_led, ends_with, passed_over, ends_past}
 use Rattle.kq_table.proofs.RowLaws.{by_test}
 use Rattle.kq_table.proofs.MoveLaws.{left-other, read-other}
-use Rattle.kq_table.proofs.ThreadLaws.{in_left, in_right, IsThread-at, IsThread-same, IsThread-push}
-use Rattle.kq_table.proofs.WithoutLaws.{without-absent, without-in, without-in_from, length-without, IsThread-without}
+use Rattle.kq_table.proofs.ThreadLaws.{in_left, in_right, IsThread-at, IsThread-same, IsThread-push, IsThread-lead}
+use Rattle.kq_table.proofs.WithoutLaws.{without-absent, without-gone, without-in, without-in_from, length-without, IsThread-without}
 
 -- what is linked stays linked, and nothing else comes to be
 some-after : (at after : Option ℕ) (f : ℕ → Option Links) (t : ℕ) → is_some (with_after at after f t) ≡ is_some (f t)
@@ -34,6 +34,11 @@ some-past : (o : Option Links) (f : ℕ → Option Links) (t : ℕ) → is_some 
 some-past None f t = refl
 some-past (Some l) f t = some-before l.after l.before (with_after l.before l.after f) t ∙ some-after l.before l.after f t
 
+some-first : (first : Option ℕ) (s : ℕ) (f : ℕ → Option Links) (t : ℕ) → eqb t s ≡ false → is_some (put_first first s f t) ≡ is_some (f t)
+some-first first s f t apart =
+    let at : Option Links = Some (record { before = None; after = first }) in
+    some-before first (Some s) (written s at f) t ∙ ap is_some (read-other s t at f apart)
+
 module _ (f : ℕ → Option Links) (e : Ends) (waits : List ℕ) (waiting slot : ℕ) where
   pub IsQueue-push : is_in slot waits ≡ false → IsQueue f e waits waiting → IsQueue (put_last e.last slot f) (ends_with slot e) (waits ++ slot ∷ []) (waiting + 1)
   IsQueue-push out is = record {
@@ -57,6 +62,21 @@ module _ (f : ℕ → Option Links) (e : Ends) (waits : List ℕ) (waiting slot 
             let both = left-other slot t (passed_over (f slot) f) some in
             without-in_from slot t waits (is.whole t (sym (some-past (f slot) f t) ∙ both.1)) both.0;
         counted = let counted = is.counted in omega arith;
+      }
+
+  pub IsQueue-first : is_in slot waits ≡ true → IsQueue f e waits waiting
+      → IsQueue (put_first (ends_past (f slot) e).first slot (passed_over (f slot) f)) (ends_led slot (ends_past (f slot) e)) (slot ∷ without_slot slot waits) waiting
+  IsQueue-first there is =
+      let past = passed_over (f slot) f in
+      let ends = ends_past (f slot) e in
+      let left = without_slot slot waits in
+      record {
+        thread = IsThread-lead past ends left slot (IsThread-without f e waits slot is.thread there) (without-gone slot waits);
+        whole = λ t some.
+            by_test (λ b. eqb t slot ≡ b → (b || is_in t left) ≡ true) (eqb t slot)
+            (λ _ _. refl)
+            (λ _ apart. without-in_from slot t waits (is.whole t (sym (some-past (f slot) f t) ∙ sym (some-first ends.first slot past t apart) ∙ some)) apart) refl;
+        counted = let counted = is.counted in let fewer = length-without slot waits is.thread.distinct there in omega arith;
       }
 
   pub IsQueue-absent : f slot ≡ None → IsQueue f e waits waiting → IsQueue f e (without_slot slot waits) waiting

@@ -4,7 +4,7 @@ use Rattle.std.proofs.lemmas.Bool.{false≢true, eqb-true, eqb-false, eq-eqb, ne
 use Rattle.std.specs.Option.{option_map, is_none}
 use Rattle.kq_table.specs.declared.node.Ends.{Ends}
 use Rattle.kq_table.specs.declared.node.Links.{Links}
-use Rattle.kq_table.specs.Threads.{is_at, is_in, AreDistinct, head_or, last_or, AreLinked, IsThread, after_of, walk, with_after, with_before, joined, written, put_last, ends_with, passed_over, ends_past}
+use Rattle.kq_table.specs.Threads.{is_at, is_in, AreDistinct, head_or, last_or, AreLinked, IsThread, after_of, walk, with_after, with_before, joined, written, put_first, put_last, ends_led, ends_with, passed_over, ends_past}
 
 abbrev link : Option ℕ → Option ℕ → Links
 link before after = record { before = before; after = after }
@@ -240,6 +240,29 @@ module _ (f : ℕ → Option Links) (e : Ends) (l : List ℕ) (s : ℕ) (is : Is
         last = sym (last_or-append None l (s ∷ []));
       } in
       subst (λ o. IsThread (with_after o (Some s) (with_new o)) (ends_at o) (l ++ s ∷ [])) (sym is.last) pushed
+
+  abbrev led_by : Option ℕ → ℕ → Option Links
+  led_by first = written s (Some (link None first)) f
+
+  last-lead : (l : List ℕ) → e.last ≡ last_or None l → cond (is_none (head_or None l)) (Some s) e.last ≡ last_or (Some s) l
+  last-lead [] last = refl
+  last-lead (x ∷ xs) last = last
+
+  pub IsThread-lead : is_in s l ≡ false → IsThread (put_first e.first s f) (ends_led s e) (s ∷ l)
+  IsThread-lead out =
+      let first = head_or None l in
+      let new = led_by first in
+      let led : IsThread (with_before first (Some s) new) (record { first = Some s; last = cond (is_none first) (Some s) e.last }) (s ∷ l) = record {
+        linked = (
+          before-away first (Some s) new s (not_head l s out) ∙ ap (λ b. cond b (Some (link None first)) (f s)) (eqb-refl s),
+          AreLinked-before new None (Some s) l None
+              (AreLinked-same f new None l None (λ t there. ap (λ b. cond b (Some (link None first)) (f t)) (apart-in s t l out there)) is.linked) is.distinct,
+        );
+        distinct = (out, is.distinct);
+        first = refl;
+        last = last-lead l is.last;
+      } in
+      subst (λ o. IsThread (with_before o (Some s) (led_by o)) (record { first = Some s; last = cond (is_none o) (Some s) e.last }) (s ∷ l)) (sym is.first) led
 
   -- elsewhere nothing changes
   pub put_last-away : (t : ℕ) → is_in t l ≡ false → eqb t s ≡ false → put_last e.last s f t ≡ f t

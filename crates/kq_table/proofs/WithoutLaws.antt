@@ -81,6 +81,9 @@ without-in s t xs there =
 pub without-in_from : (s t : ℕ) (xs : List ℕ) → is_in t xs ≡ true → eqb t s ≡ false → is_in t (without_slot s xs) ≡ true
 without-in_from s t xs there apart = in_filter-from (λ t. not (eqb t s)) xs t there (not_from_false (eqb t s) apart)
 
+pub without-gone : (s : ℕ) (xs : List ℕ) → is_in s (without_slot s xs) ≡ false
+without-gone s xs = out_of-filter (λ t. not (eqb t s)) xs s (ap not (eqb-refl s))
+
 pub length-without : (s : ℕ) (xs : List ℕ) → AreDistinct xs → is_in s xs ≡ true → length (without_slot s xs) + 1 ≡ length xs
 length-without s xs distinct there =
     at_split (λ l. AreDistinct l → length (without_slot s l) + 1 ≡ length l) s xs there

@@ -67,6 +67,10 @@ module _ {K : Type 0} (same : K → K → Bool) where
   abbrev pub without_waiting : K → List K → List K
   without_waiting key queue = filter (λ other. not (same key other)) queue
 
+  -- the queue with this key at its front, where it is in it
+  abbrev pub with_first : K → List K → List K
+  with_first key queue = if waits_in key queue then key ∷ without_waiting key queue else queue
+
   -- the key behind this one; none where this is the last, or not there
   unfoldable pub key_behind : K → List K → Option K
   key_behind key [] = None

@@ -112,6 +112,17 @@ ends_with slot ends = record {
   last = Some slot;
 }
 
+-- a slot is linked before the first
+abbrev pub put_first : Option ℕ → ℕ → (ℕ → Option Links) → ℕ → Option Links
+put_first first slot links =
+    with_before first (Some slot) (written slot (Some (record { before = None; after = first })) links)
+
+abbrev pub ends_led : ℕ → Ends → Ends
+ends_led slot ends = record {
+  first = Some slot;
+  last = if is_none ends.first then Some slot else ends.last;
+}
+
 -- a slot that has these links is passed over
 abbrev pub passed_over : Option Links → (ℕ → Option Links) → ℕ → Option Links
 passed_over None links = links

@@ -2,8 +2,8 @@
 
 ghost use Rattle.std.specs.Prelude.{◌≡◌, IsSome};
 ghost use Rattle.slab.specs.Slab.{get};
-ghost use Rattle.kq_table.specs.Threads.{ends_past, ends_with, joined, joined_ends, links_in, passed_over, put_last};
-ghost use Rattle.kq_table.specs.Threads.{with_after, with_before, SameBut};
+ghost use Rattle.kq_table.specs.Threads.{ends_led, ends_past, ends_with, joined, joined_ends, links_in, passed_over};
+ghost use Rattle.kq_table.specs.Threads.{put_first, put_last, with_after, with_before, SameBut};
 
 use crate::node::{Ends, Links, Node, Thread};
 use crate::nodes::{links_at, put_links};
@@ -75,6 +75,35 @@ pub(crate) fn link_last<T: Copy>(
         ends.first = Some(slot);
     }
     ends.last = Some(slot);
+}
+
+/// Links a slot before the first one.
+pub(crate) fn link_first<T: Copy>(
+    nodes: &mut Slab<Node<T>>,
+    thread: Thread,
+    ends: &mut Ends,
+    slot: usize,
+)
+    requires { IsSome (get nodes.old slot) }
+    ensures links { links_in thread nodes.new ≡ put_first ends.old.first slot (links_in thread nodes.old) }
+    ensures ends { ends.new ≡ ends_led slot ends.old }
+    ensures same { SameBut thread nodes.old nodes.new }
+{
+    let first = ends.first;
+    put_links(
+        nodes,
+        thread,
+        slot,
+        Links {
+            before: None,
+            after: first,
+        },
+    );
+    set_before(nodes, thread, first, Some(slot));
+    if first.is_none() {
+        ends.last = Some(slot);
+    }
+    ends.first = Some(slot);
 }
 
 /// Makes two slots neighbours; None is what is beyond the ends.

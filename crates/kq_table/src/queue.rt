@@ -4,15 +4,15 @@ ghost use Rattle.std.specs.Prelude.{◌≡◌, ◌∷◌, [], Some, MatchOption}
 ghost use Rattle.std.specs.Prelude.{length, slice_get};
 ghost use Rattle.std.specs.Option.{option_copied};
 ghost use Rattle.kq_table.specs.Rows.{find_row, key_behind, put_in, waits_in, without_waiting, AreOnce};
-ghost use Rattle.kq_table.specs.Rows.{turned, HaveOwnKeys, HaveRows};
+ghost use Rattle.kq_table.specs.Rows.{turned, with_first, HaveOwnKeys, HaveRows};
 
 use crate::Keyed;
-use crate::find::{key_at, near, placed_at};
+use crate::find::{key_at, near, placed_at, sought};
 use crate::node::Thread;
 use crate::nodes::{links_at, seen_at, slot_behind};
 use crate::placed::{Place, Placed};
 use crate::table::Table;
-use crate::waiting::{dequeue, enqueue};
+use crate::waiting::{dequeue, enqueue, requeue_first};
 
 impl<T: Keyed> Table<T> {
     /// How many keys are in the queue.
@@ -83,6 +83,21 @@ impl<T: Keyed> Table<T> {
             return;
         };
         dequeue(&mut self.nodes, &mut self.queue, &mut self.waiting, slot);
+    }
+
+    /// Takes a key of the queue to its front; where it is not in it, nothing changes. Where its row stands at
+    /// the guessed place, it is not looked up.
+    pub fn put_first_at(&mut self, guess: Place, key: T::Key)
+        ensures rows { self.new.rows ≡ self.old.rows }
+        ensures queue { self.new.queue ≡ with_first T.Key.eq key self.old.queue }
+        ensures room { self.new.room ≡ self.old.room }
+    {
+        let Some(slot) = sought(&self.nodes, &self.index, guess, key) else {
+            return;
+        };
+        if links_at(&self.nodes, Thread::Queue, slot).is_some() {
+            requeue_first(&mut self.nodes, &mut self.queue, slot);
+        }
     }
 
     /// The row of the key at the front of the queue, without a copy.

@@ -1,12 +1,12 @@
 //! A slot put at the back of the queue or taken out of it, and the count kept right.
 
 ghost use Rattle.std.specs.Prelude.{◌≡◌, ◌<◌, ◌+◌, ◌^◌, ◌++◌, ◌∷◌, [], ℕ, List};
-ghost use Rattle.std.specs.Prelude.{IsSome, false};
+ghost use Rattle.std.specs.Prelude.{IsSome, true, false};
 ghost use Rattle.slab.specs.Slab.{get};
 ghost use Rattle.kq_table.specs.Threads.{is_in, links_in, without_slot, IsQueue, SameBut};
 ghost use Rattle.kq_table.specs.declared.node.Thread.TheVariants.{Queue};
 
-use crate::link::{link_last, unlink};
+use crate::link::{link_first, link_last, unlink};
 use crate::node::{Ends, Node, Thread};
 use crate::nodes::{leave_queue, links_at};
 use slab::Slab;
@@ -49,4 +49,16 @@ pub(crate) fn dequeue<T: Copy>(
     unlink(nodes, Thread::Queue, queue, slot);
     leave_queue(nodes, slot);
     *waiting = waiting.saturating_sub(1);
+}
+
+/// Takes a slot of the queue to its front.
+pub(crate) fn requeue_first<T: Copy>(nodes: &mut Slab<Node<T>>, ends: &mut Ends, slot: usize)
+    requires { IsSome (get nodes.old slot) }
+    ensures queued { (waits : List ℕ) (waiting : ℕ) → is_in slot waits ≡ true
+        → IsQueue (links_in Queue nodes.old) ends.old waits waiting
+        → IsQueue (links_in Queue nodes.new) ends.new (slot ∷ without_slot slot waits) waiting }
+    ensures same { SameBut Queue nodes.old nodes.new }
+{
+    unlink(nodes, Thread::Queue, ends, slot);
+    link_first(nodes, Thread::Queue, ends, slot);
 }
