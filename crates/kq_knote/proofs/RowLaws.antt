@@ -7,7 +7,7 @@ use Rattle.kq_model.specs.declared.key.Key.{Key}
 use Rattle.kq_model.specs.Knote.{key_eq, find_knote, has_key, queued, with_knote, without_key, without_knote}
 use Rattle.kq_model.specs.Tallied.{Knote}
 use Rattle.kq_table.specs.declared.placed.Placed.{Placed}
-use Rattle.kq_table.specs.Rows.{enqueued, find_row, key_behind, put_in, row_after, rows_behind, waits_in, with_row, without_row, without_waiting}
+use Rattle.kq_table.specs.Rows.{enqueued, find_row, key_behind, put_in, row_after, rows_behind, waits_in, with_first, with_row, without_row, without_waiting}
 
 abbrev pub key_of : Knote → Key
 key_of k = k.key
@@ -61,6 +61,12 @@ pub put_in-knotes : (key : Key) (ks : List Knote) (q : List Key)
 put_in-knotes key ks q =
     ap (λ o. cond (is_some o) (enqueued same key q) q) (find_row-knotes key ks)
     ∙ ap (λ b. cond (is_some (find_knote key ks)) (cond b q (q ++ key ∷ [])) q) (waits_in-keys key q)
+
+pub with_first-keys : (key : Key) (q : List Key)
+    → with_first same key q ≡ cond (has_key key q) (key ∷ without_key key q) q
+with_first-keys key q =
+    ap (λ (rest : List Key). cond (waits_in same key q) (key ∷ rest) q) (without_waiting-keys key q)
+    ∙ ap (λ b. cond b (key ∷ without_key key q) q) (waits_in-keys key q)
 
 pub key_behind-keys : (key : Key) (q : List Key) → key_behind same key q ≡ key_behind key_eq key q
 unfolding key_behind

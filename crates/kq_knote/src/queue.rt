@@ -41,6 +41,17 @@ impl Knotes {
         self.rows.take_out_at(guess, key);
     }
 
+    /// Takes a key of the queue to the front; where it is not there, nothing changes.
+    pub fn put_first_at(&mut self, guess: Place, key: Key)
+        ensures queue { self.new.queue ≡ (if has_key key self.old.queue
+            then key ∷ without_key key self.old.queue
+            else self.old.queue) }
+        ensures knotes { self.new.knotes ≡ self.old.knotes }
+        ensures room { self.new.room ≡ self.old.room }
+    {
+        self.rows.put_first_at(guess, key);
+    }
+
     /// Whether a key is in the queue.
     pub fn is_waiting_at(&self, guess: Place, key: Key) -> bool
         ensures { result ≡ has_key key self.now.queue }
