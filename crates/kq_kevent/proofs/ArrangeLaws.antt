@@ -1,21 +1,20 @@
--- Another order of a queue: it has the same keys, those that are named first come first, and putting them in one after
--- the other gives it.
-use Rattle.std.proofs.Common.{◌≡◌, ℕ, zero, suc, ◌+◌, ◌<◌, Bool, true, false, cond, not, ◌&&◌, ◌||◌, List, [], ◌∷◌, ◌++◌, filter, length, take, drop, get_or, slice_get, Some, append-nil, append_assoc, refl, sym, ap, ◌∙◌, subst}
+-- Another order of a queue: it has the same keys, those that are named first come first, and taking them to the front
+-- from the last one to the first gives it.
+use Rattle.std.proofs.Common.{◌≡◌, ℕ, zero, suc, Bool, true, false, cond, not, ◌&&◌, ◌||◌, List, [], ◌∷◌, ◌++◌, slice_get, Some, refl, sym, ap, ◌∙◌, subst}
 use Rattle.std.proofs.lemmas.Bool.{or_left, or_right, true≢false}
-use Rattle.std.proofs.lemmas.List.{drop_at, drop_more, take_at, take_more}
 use Rattle.std.proofs.lemmas.List.Sorted.{IsPermutation-refl, IsPermutation-cons, IsPermutation-to_front, IsPermutation-append_left, IsPermutation-trans}
 use Rattle.std.proofs.lemmas.Option.{none-some, same_Some}
 use Rattle.std.specs.Prelude.{IsPermutation}
 use Rattle.kq_model.specs.declared.key.Key.{Key}
-use Rattle.kq_model.specs.Knote.{key_eq, has_key, without_key, find_knote, queued}
-use Rattle.kq_model.specs.Kqueue.{AreOnce, IsSound, is_waiting}
+use Rattle.kq_model.specs.Knote.{key_eq, has_key, without_key}
+use Rattle.kq_model.specs.Kqueue.{AreOnce, IsSound}
 use Rattle.kq_model.specs.Tallied.{Kqueue}
 use Rattle.kq_model.proofs.KeyLaws.{same_key, key_eq-refl, key_eq-sym, has_key-without_same, has_key-without_other}
-use Rattle.kq_model.proofs.KeyLists.{filter_true, filter_both, filter_agree_among, has_key-filter, and_false, without_key-absent, AreOnce-filter}
+use Rattle.kq_model.proofs.KeyLists.{filter_true, filter_both, filter_agree_among, has_key-filter, without_key-absent}
 use Rattle.kq_model.proofs.KnoteLaws.{by_test}
 use Rattle.kq_table.specs.Rows.{key_behind}
-use Rattle.kq_kevent.specs.Arranged.{key_after, named_in, without_keys, arranged, AreAllIn, all_queued}
-use Rattle.kq_kevent.proofs.QueueLaws.{AreOnce-queued, AreOnce-without, has_key-push_same, has_key-push_other}
+use Rattle.kq_kevent.specs.Arranged.{key_after, named_in, without_keys, arranged, AreAllIn}
+use Rattle.kq_kevent.proofs.QueueLaws.{AreOnce-without}
 
 -- ---- one key more
 
@@ -145,87 +144,58 @@ pub arranged-first : (ks q : List Key) → AreOnce ks → AreAllIn ks q → arra
 unfolding arranged
 arranged-first ks q once all = ap (λ (l : List Key). l ++ without_keys ks q) (named_in-all ks q once all)
 
--- ---- keys that are put in one after the other
+-- ---- keys that are taken to the front from the last one to the first
 
-module _ (waits : Key → Bool) where
-  abbrev waiting_of : Key → List Key → Bool → List Key
-  waiting_of k ks b = cond b (k ∷ filter waits ks) (filter waits ks)
+without_keys-once : (k : Key) (q : List Key) → without_key k (without_key k q) ≡ without_key k q
+without_keys-once k q = without_key-absent k (without_key k q) (has_key-without_same k q)
 
-  abbrev put_if_absent : Key → List Key → Bool → List Key
-  put_if_absent k q b = cond b q (q ++ k ∷ [])
+without_keys-swap : (k j : Key) (q : List Key) → without_key k (without_key j q) ≡ without_key j (without_key k q)
+without_keys-swap k j q =
+    filter_both (λ x. not (key_eq k x)) (λ x. not (key_eq j x)) q
+    ∙ filter_agree_among (λ x. not (key_eq j x) && not (key_eq k x)) (λ x. not (key_eq k x) && not (key_eq j x)) q
+    (λ x _. and-sym (not (key_eq j x)) (not (key_eq k x)))
+    ∙ sym (filter_both (λ x. not (key_eq j x)) (λ x. not (key_eq k x)) q)
+  where
+    and-sym : (a b : Bool) → a && b ≡ b && a
+    and-sym true true = refl
+    and-sym true false = refl
+    and-sym false true = refl
+    and-sym false false = refl
 
-  -- the first of them is put in, where it waits
-  pub queue-first : (k : Key) (ks q : List Key)
-      → all_queued (filter waits (k ∷ ks)) q ≡ all_queued (filter waits ks) (cond (waits k) (queued k q) q)
-  unfolding all_queued
-  queue-first k ks q =
-      by_test (λ b. all_queued (waiting_of k ks b) q ≡ all_queued (filter waits ks) (cond b (queued k q) q)) (waits k)
-      (λ _. refl) (λ _. refl)
+-- taking a key out and putting others first may be done in either order
+without_key-arranged : (k : Key) (ks q : List Key) → without_key k (arranged ks q) ≡ arranged ks (without_key k q)
+without_key-arranged k [] q = ap (without_key k) (arranged-nil q) ∙ sym (arranged-nil (without_key k q))
+without_key-arranged k (j ∷ ks) q =
+    by_test (λ b. has_key j q ≡ b → without_key k (arranged (j ∷ ks) q) ≡ arranged (j ∷ ks) (without_key k q)) (has_key j q)
+    (λ _ there.
+    let rest : without_key k (arranged ks (without_key j q)) ≡ arranged ks (without_key k (without_key j q)) =
+    without_key-arranged k ks (without_key j q) in
+    ap (without_key k) (arranged-there j ks q there)
+    ∙ by_test (λ b. key_eq k j ≡ b
+    → cond (not b) (j ∷ without_key k (arranged ks (without_key j q))) (without_key k (arranged ks (without_key j q)))
+    ≡ arranged (j ∷ ks) (without_key k q)) (key_eq k j)
+    (λ _ same.
+    let one : k ≡ j = same_key k j same in
+    rest ∙ ap (λ (o : Key). arranged ks (without_key k (without_key o q))) (sym one) ∙ ap (arranged ks) (without_keys-once k q)
+    ∙ sym (arranged-absent j ks (without_key k q)
+    (ap (λ (o : Key). has_key o (without_key k q)) (sym one) ∙ has_key-without_same k q)))
+    (λ _ apart.
+    ap (λ (l : List Key). j ∷ l) (rest ∙ ap (arranged ks) (without_keys-swap k j q))
+    ∙ sym (arranged-there j ks (without_key k q) (has_key-without_other j k q apart ∙ there))) refl)
+    (λ _ absent.
+    ap (without_key k) (arranged-absent j ks q absent) ∙ without_key-arranged k ks q
+    ∙ sym (arranged-absent j ks (without_key k q)
+    (has_key-filter (λ x. not (key_eq k x)) j q ∙ ap (λ b. b && not (key_eq k j)) absent))) refl
 
-  queue-passes : (k : Key) (ks q : List Key) → waits k ≡ false
-      → all_queued (filter waits (k ∷ ks)) q ≡ all_queued (filter waits ks) q
-  queue-passes k ks q idle = queue-first k ks q ∙ ap (λ b. all_queued (filter waits ks) (cond b (queued k q) q)) idle
-
-  queue-has : (k : Key) (ks q : List Key) → has_key k q ≡ true
-      → all_queued (filter waits (k ∷ ks)) q ≡ all_queued (filter waits ks) q
-  queue-has k ks q there =
-      queue-first k ks q ∙ ap (λ b. all_queued (filter waits ks) (cond (waits k) (put_if_absent k q b) q)) there
-      ∙ by_test (λ b. all_queued (filter waits ks) (cond b q q) ≡ all_queued (filter waits ks) q) (waits k) (λ _. refl) (λ _. refl)
-
-  queue-places : (k : Key) (ks q : List Key) → waits k ≡ true → has_key k q ≡ false
-      → all_queued (filter waits (k ∷ ks)) q ≡ all_queued (filter waits ks) (q ++ k ∷ [])
-  queue-places k ks q waiting absent =
-      queue-first k ks q ∙ ap (λ b. all_queued (filter waits ks) (cond b (queued k q) q)) waiting
-      ∙ ap (λ b. all_queued (filter waits ks) (put_if_absent k q b)) absent
-
-  pub queue-nil : (q : List Key) → all_queued [] q ≡ q
-  unfolding all_queued
-  queue-nil q = refl
-
-  -- what is still to come, where a key went in
-  left_after : (k key : Key) (q left : List Key) → has_key key left ≡ waits key && not (has_key key q)
-      → has_key key (without_key k left) ≡ waits key && not (has_key key (q ++ k ∷ []))
-  left_after k key q left is =
-      by_test (λ b. key_eq k key ≡ b
-      → has_key key (without_key k left) ≡ waits key && not (has_key key (q ++ k ∷ []))) (key_eq k key)
-      (λ _ same. subst (λ (o : Key). has_key o (without_key k left) ≡ waits o && not (has_key o (q ++ k ∷ [])))
-      (same_key k key same)
-      (has_key-without_same k left
-      ∙ sym (ap (λ b. waits k && not b) (has_key-push_same k q) ∙ and-false (waits k))))
-      (λ _ apart. has_key-without_other key k left apart ∙ is
-      ∙ sym (ap (λ b. waits key && not b) (has_key-push_other key k q apart))) refl
-    where
-      and-false : (b : Bool) → b && false ≡ false
-      and-false true = refl
-      and-false false = refl
-
-  -- Where `left` are those that wait and are not in the queue, the ones of them that are named go behind it.
-  queued-named : (ks q left : List Key)
-      → ((key : Key) → has_key key ks ≡ true → has_key key left ≡ waits key && not (has_key key q))
-      → all_queued (filter waits ks) q ≡ q ++ named_in ks left
-  unfolding named_in
-  queued-named [] q left is = queue-nil q ∙ sym (append-nil q)
-  queued-named (k ∷ ks) q left is =
-      let here = is k (key_here k ks) in
-      let later : (key : Key) → has_key key ks ≡ true → has_key key left ≡ waits key && not (has_key key q) =
-      λ key there. is key (key_later key k ks there) in
-      by_test (λ w. waits k ≡ w → all_queued (filter waits (k ∷ ks)) q ≡ q ++ named_in (k ∷ ks) left) (waits k)
-      (λ _ waiting. by_test (λ b. has_key k q ≡ b
-      → all_queued (filter waits (k ∷ ks)) q ≡ q ++ named_in (k ∷ ks) left) (has_key k q)
-      (λ _ there.
-      let gone : has_key k left ≡ false = here ∙ ap (λ w. w && not (has_key k q)) waiting ∙ ap not there in
-      queue-has k ks q there ∙ queued-named ks q left later
-      ∙ ap (λ (l : List Key). q ++ l) (sym (named_in-absent k ks left gone)))
-      (λ _ absent.
-      let comes : has_key k left ≡ true = here ∙ ap (λ w. w && not (has_key k q)) waiting ∙ ap not absent in
-      queue-places k ks q waiting absent
-      ∙ queued-named ks (q ++ k ∷ []) (without_key k left) (λ key there. left_after k key q left (later key there))
-      ∙ append_assoc q (k ∷ []) (named_in ks (without_key k left))
-      ∙ ap (λ (l : List Key). q ++ l) (sym (named_in-there k ks left comes))) refl)
-      (λ _ idle.
-      let gone : has_key k left ≡ false = here ∙ ap (λ w. w && not (has_key k q)) idle in
-      queue-passes k ks q idle ∙ queued-named ks q left later
-      ∙ ap (λ (l : List Key). q ++ l) (sym (named_in-absent k ks left gone))) refl
+-- once the keys behind it are first, so is one more
+pub arranged-one_more : (k : Key) (ks q : List Key)
+    → cond (has_key k (arranged ks q)) (k ∷ without_key k (arranged ks q)) (arranged ks q) ≡ arranged (k ∷ ks) q
+arranged-one_more k ks q =
+    ap (λ b. cond b (k ∷ without_key k (arranged ks q)) (arranged ks q)) (has_key-arranged k ks q)
+    ∙ by_test (λ b. has_key k q ≡ b
+    → cond b (k ∷ without_key k (arranged ks q)) (arranged ks q) ≡ arranged (k ∷ ks) q) (has_key k q)
+    (λ _ there. ap (λ (l : List Key). k ∷ l) (without_key-arranged k ks q) ∙ sym (arranged-there k ks q there))
+    (λ _ absent. sym (arranged-absent k ks q absent)) refl
 
 -- ---- a walk over the queue
 
@@ -247,54 +217,3 @@ key_after-next (x ∷ q) (suc i) key once is =
     ap (λ b. cond b (slice_get q 0) (key_after key q))
     (key_eq-sym key x ∙ differs key x q (has_key-at q i key is) once.0)
     ∙ key_after-next q i key once.1 is
-
--- ---- keys of knotes that wait
-
--- The keys that were taken out come back behind the others.
-pub placed-behind : (kq : Kqueue) → IsSound kq → (keys : List Key)
-    → all_queued (filter (λ key. is_waiting (find_knote key kq.knotes)) keys) (without_keys keys kq.queue)
-    ≡ without_keys keys kq.queue ++ named_in keys kq.queue
-placed-behind kq sound keys =
-    let waits : Key → Bool = λ key. is_waiting (find_knote key kq.knotes) in
-    queued-named waits keys (without_keys keys kq.queue) kq.queue (λ key there.
-    sound.waiting key
-    ∙ sym (ap (λ b. waits key && not b)
-    (has_key-filter (λ o. not (has_key o keys)) key kq.queue
-    ∙ ap (λ b. has_key key kq.queue && not b) there ∙ and_false (has_key key kq.queue))
-    ∙ and_true (waits key)))
-  where
-    and_true : (b : Bool) → b && true ≡ b
-    and_true true = refl
-    and_true false = refl
-
--- none of them stands twice
-pub AreOnce-all_queued : (ks q : List Key) → AreOnce q → AreOnce (all_queued ks q)
-unfolding all_queued
-AreOnce-all_queued [] q once = once
-AreOnce-all_queued (k ∷ ks) q once = AreOnce-all_queued ks (queued k q) (AreOnce-queued k q once)
-
-pub once-left : (keys q : List Key) → AreOnce q → AreOnce (without_keys keys q)
-once-left keys q once = AreOnce-filter (λ key. not (has_key key keys)) q once
-
--- the others are turned round behind those that are named
-pub turned-arranged : (keys q : List Key) (n : ℕ) → n ≡ length (without_keys keys q)
-    → drop n (without_keys keys q ++ named_in keys q) ++ take n (without_keys keys q ++ named_in keys q)
-    ≡ arranged keys q
-unfolding arranged
-turned-arranged keys q n is =
-    ap (λ (l : List Key). l ++ take n (without_keys keys q ++ named_in keys q))
-    (drop_at (without_keys keys q) (named_in keys q) n (sym is))
-    ∙ ap (λ (l : List Key). named_in keys q ++ l) (take_at (without_keys keys q) (named_in keys q) n (sym is))
-
--- one more is turned round
-pub turned-more : (q now rest : List Key) (i : ℕ) (key : Key) → i < length q → now ≡ drop i q ++ take i q
-    → now ≡ key ∷ rest → rest ++ key ∷ [] ≡ drop (i + 1) q ++ take (i + 1) q
-turned-more q now rest i key within is front =
-    let split : key ∷ rest ≡ get_or q i key ∷ (drop (i + 1) q ++ take i q) =
-    sym front ∙ is ∙ ap (λ (l : List Key). l ++ take i q) (drop_more q i key within) in
-    let first : key ≡ get_or q i key = cc in
-    let behind : rest ≡ drop (i + 1) q ++ take i q = cc in
-    ap (λ (l : List Key). l ++ key ∷ []) behind
-    ∙ append_assoc (drop (i + 1) q) (take i q) (key ∷ [])
-    ∙ ap (λ (o : Key). drop (i + 1) q ++ (take i q ++ o ∷ [])) first
-    ∙ ap (λ (l : List Key). drop (i + 1) q ++ l) (sym (take_more q i key within))

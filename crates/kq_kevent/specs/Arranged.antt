@@ -1,7 +1,7 @@
 -- The order of a queue, and another order of it: some of its keys first, the others behind them as they stood.
 use Rattle.std.specs.Prelude.{◌≡◌, true, not, List, [], ◌∷◌, ◌++◌, filter, Option, if◌then◌else◌}
 use Rattle.kq_model.specs.declared.key.Key.{Key}
-use Rattle.kq_model.specs.Knote.{key_eq, has_key, without_key, queued}
+use Rattle.kq_model.specs.Knote.{key_eq, has_key, without_key}
 use Rattle.kq_table.specs.Rows.{key_behind}
 
 -- the key behind this one; none where this is the last, or not there
@@ -25,8 +25,3 @@ arranged keys queue = named_in keys queue ++ without_keys keys queue
 -- each of the keys is in the queue
 abbrev pub AreAllIn : List Key → List Key → Type 0
 AreAllIn keys queue = (key : Key) → has_key key keys ≡ true → has_key key queue ≡ true
-
--- these keys in the queue, each at the back where it was not there
-unfoldable pub all_queued : List Key → List Key → List Key
-all_queued [] queue = queue
-all_queued (key ∷ keys) queue = all_queued keys (queued key queue)

@@ -1,81 +1,32 @@
 //! The order of the queue: a look at it, and another order of it.
 
-ghost use Rattle.std.specs.Prelude.{◌≡◌, ◌≤◌, ◌++◌, [], length, drop, take, filter, slice_get};
+ghost use Rattle.std.specs.Prelude.{◌≡◌, ◌++◌, [], length, slice_get};
 ghost use Rattle.std.specs.Prelude.{IfOk, IsPermutation};
-ghost use Rattle.std.specs.Prelude.{if◌then◌else◌};
 ghost use Rattle.kq_model.specs.Hearing.{listed};
-ghost use Rattle.kq_model.specs.Knote.{find_knote, queued};
-ghost use Rattle.kq_model.specs.Kqueue.{AreOnce, Kqueue, is_waiting};
+ghost use Rattle.kq_model.specs.Kqueue.{AreOnce, Kqueue};
 ghost use Rattle.kq_model.specs.Recast.{tallied};
-ghost use Rattle.kq_kevent.specs.Arranged.{AreAllIn, all_queued, arranged, key_after, without_keys};
+ghost use Rattle.kq_kevent.specs.Arranged.{AreAllIn, arranged, key_after, without_keys};
 
 use crate::Kq;
-use crate::retrieve::put_last;
 use kq_knote::Knotes;
 use kq_model::{Key, Memory};
-use kq_table::Place;
 
-/// Takes these keys out of the queue, where they are there.
-fn take_all_out(knotes: &mut Knotes, keys: &[Key])
-    ensures queue { knotes.new.queue ≡ without_keys keys.now knotes.old.queue }
+/// Takes these keys to the front of the queue, where they are in it, from the last one to the first.
+fn put_all_first(knotes: &mut Knotes, keys: &[Key])
+    ensures queue { knotes.new.queue ≡ arranged keys.now knotes.old.queue }
     ensures knotes { knotes.new.knotes ≡ knotes.old.knotes }
     ensures room { knotes.new.room ≡ knotes.old.room }
 {
-    for key in keys {
-        knotes.take_out_at(Place::nowhere(), *key);
-    }
-}
-
-/// Puts the key of a knote that waits to be returned into the queue, at the back, where it is not there.
-#[tactic(auto, unfolding(kq_model::specs::Kqueue::is_waiting))]
-fn put_waiting(knotes: &mut Knotes, key: Key)
-    ensures queue { knotes.new.queue ≡ (if is_waiting (find_knote key knotes.old.knotes)
-        then queued key knotes.old.queue
-        else knotes.old.queue) }
-    ensures knotes { knotes.new.knotes ≡ knotes.old.knotes }
-    ensures room { knotes.new.room ≡ knotes.old.room }
-{
-    let Some(found) = knotes.locate(key) else {
-        return;
-    };
-    if found.row.is_waiting() {
-        knotes.put_in_at(found.place, key);
-    }
-}
-
-/// Puts the keys of knotes that wait into the queue, at the back, where they are not there yet.
-fn put_waiting_in(knotes: &mut Knotes, keys: &[Key])
-    ensures queue { knotes.new.queue
-        ≡ all_queued (filter (λ key. is_waiting (find_knote key knotes.old.knotes)) keys.now) knotes.old.queue }
-    ensures knotes { knotes.new.knotes ≡ knotes.old.knotes }
-    ensures room { knotes.new.room ≡ knotes.old.room }
-{
-    for key in keys {
-        put_waiting(knotes, *key);
-    }
-}
-
-/// Puts so many keys from the front of the queue behind the others.
-fn turn_round(knotes: &mut Knotes, turns: usize)
-    requires once { AreOnce knotes.old.queue }
-    requires turns { turns ≤ length knotes.old.queue }
-    ensures queue { knotes.new.queue ≡ drop turns knotes.old.queue ++ take turns knotes.old.queue }
-    ensures knotes { knotes.new.knotes ≡ knotes.old.knotes }
-    ensures room { knotes.new.room ≡ knotes.old.room }
-{
-    for _turn in 0..turns {
-        let Some(front) = knotes.take_front() else {
-            unreachable!();
-        };
-        let knote = front.row;
-        put_last(knotes, front.place, knote.key);
+    for at in (0..keys.len()).rev() {
+        let key = keys[at];
+        knotes.put_first_at(knotes.guess(key), key);
     }
 }
 
 impl Kq {
     /// Puts these keys of the queue first, in this order, and the others behind them as they stood. A key
     /// that is not in the queue is passed over, and one that is named again counts where it is named first.
-    /// Nothing else changes. It takes no memory; it costs a few steps for each key of the two lists.
+    /// Nothing else changes. It takes no memory; it costs a few steps for each key that is named.
     pub fn put_first(&mut self, keys: &[Key])
         ensures kq { self.new.kq ≡ record self.old.kq { queue = arranged keys.now self.old.kq.queue } }
 
@@ -94,10 +45,7 @@ impl Kq {
         ensures version { self.new.version ≡ self.old.version }
         ensures room { self.new.room ≡ self.old.room }
     {
-        take_all_out(&mut self.knotes, keys);
-        let others = self.knotes.queue_len();
-        put_waiting_in(&mut self.knotes, keys);
-        turn_round(&mut self.knotes, others);
+        put_all_first(&mut self.knotes, keys);
     }
 
     /// How many keys the queue has. None stands in it twice.

@@ -21,7 +21,7 @@ use kq_table::{Place, Placed};
 
 /// Puts the key of a knote, which is not in the queue, behind the others. It is `put_in_at`, apart for the prover
 /// alone, to which there is no other case then.
-pub(crate) fn put_last(knotes: &mut Knotes, at: Place, key: Key)
+fn put_last(knotes: &mut Knotes, at: Place, key: Key)
     requires there { is_some (find_knote key knotes.old.knotes) ≡ true }
     requires absent { has_key key knotes.old.queue ≡ false }
     ensures queue { knotes.new.queue ≡ knotes.old.queue ++ key ∷ [] }
