@@ -10,7 +10,6 @@ ghost use Rattle.kq_model.specs.WatchedNumbers.{LeavesOpen, WatchTheirNumbers};
 ghost use Rattle.kq_kevent.specs.Owned.{limit};
 
 use crate::Kq;
-use kq_model::{Filter, Key};
 
 impl Kq {
     /// A descriptor of the owner was closed: the READ, WRITE and VNODE knotes of its number are
@@ -35,18 +34,6 @@ impl Kq {
         ensures room { self.old.room ≤ self.new.room }
         ensures limit { limit self.new ≡ limit self.old }
     {
-        let ident = u64::from(number);
-        self.unmake(Key {
-            ident,
-            filter: Filter::Read,
-        });
-        self.unmake(Key {
-            ident,
-            filter: Filter::Write,
-        });
-        self.unmake(Key {
-            ident,
-            filter: Filter::Vnode,
-        });
+        self.knotes.remove_descriptor(number);
     }
 }

@@ -165,20 +165,8 @@ impl Kq {
         place(&mut self.knotes, at, &knote);
     }
 
-    /// Takes out the knote of a key, where there is one, and its key from the queue.
-    pub(crate) fn unmake(&mut self, key: Key)
-        ensures kq { self.new.kq ≡ with_removed key self.old.kq }
-        ensures owner { self.new.owner ≡ self.old.owner }
-        ensures version { self.new.version ≡ self.old.version }
-        ensures room { self.old.room ≤ self.new.room }
-        ensures limit { limit self.new ≡ limit self.old }
-    {
-        let guess = self.knotes.guess(key);
-        self.unmake_at(guess, key);
-    }
-
-    /// Takes out the knote of a key, where there is one, and its key from the queue; no search is made where the
-    /// knote stands at the guessed place.
+    /// Takes out the knote of a key, where there is one, and its key from the queue. Where it stands at the
+    /// guessed place, no search is made for it.
     pub(crate) fn unmake_at(&mut self, guess: Place, key: Key)
         ensures kq { self.new.kq ≡ with_removed key self.old.kq }
         ensures owner { self.new.owner ≡ self.old.owner }
