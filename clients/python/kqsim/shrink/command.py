@@ -6,10 +6,12 @@ import re
 import subprocess
 import sys
 import tempfile
-from typing import List, NamedTuple, Optional, Sequence, Tuple
+from typing import List, NamedTuple, Optional, Sequence, Set, Tuple
 
-from ..view.programs import Stopped, Verdict, answers_to, found, verdict_on
+from ..view.programs import Stopped, Verdict, answers_to, beside, found, verdict_on
+from .concerning import Whole
 from .entries import Entry, answers_text, read, trace_text
+from .progress import Line
 from .shrinking import shrunk
 
 # What an answer says that has no events.
@@ -38,10 +40,12 @@ def kind_of(verdict: Verdict) -> Kind:
 class Shrinker:
     """Tests what is tried. A command decides, or kqcheck: that what it says is of one kind."""
 
-    def __init__(self, folder: str, header: bytes, command: Optional[str], has_answers: bool) -> None:
-        self.header, self.command = header, command
+    def __init__(self, folder: str, header: bytes, command: Optional[str], has_answers: bool, line: Line) -> None:
+        self.header, self.command, self.line = header, command, line
         self.trace, self.answers = f"{folder}/trace", f"{folder}/answers"
         self.files = [self.trace, self.answers] if has_answers else [self.trace]
+        self.whole = ""
+        self.impossible: Set[int] = set()
         self.options = ["--permit-impossible"]
         self.kind: Optional[Kind] = None
         self.place: Optional[int] = None
@@ -55,8 +59,11 @@ class Shrinker:
 
     def begin(self, files: Sequence[str]) -> None:
         """Looks at the whole, as these files have it: its lines are good, and it passes."""
-        for _ in answers_to(files[0]):
-            pass
+        self.whole = files[0]
+        for place, answer in enumerate(answers_to(files[0]), 1):
+            self.line.show(f"{place} records read")
+            if "impossible" in answer:
+                self.impossible.add(place)
         if self.command is None:
             verdict = self._verdict(files)
             if verdict.place is None:
@@ -77,10 +84,20 @@ class Shrinker:
             return subprocess.run(["sh", "-c", f'{self.command} "$@"', "sh", *files]).returncode == 0
         return kind_of(self._verdict(files)) == self.kind
 
+    def private_list(self, kqueue: int) -> Optional[bytes]:
+        """What kqsplit says of the kqueue that was made at this place; none where it is not there, or fails."""
+        program = beside("kqsplit", "kqcheck")
+        if program is None:
+            return None
+        try:
+            ran = subprocess.run([program, "--kqueue", str(kqueue), self.whole], capture_output=True)
+        except OSError:
+            return None
+        return ran.stdout if ran.returncode == 0 else None
+
     def test(self, entries: List[Entry]) -> Optional[List[Entry]]:
         """What is left of entries that pass: those that are impossible by now are spared too, where that passes."""
-        if sys.stderr.isatty():
-            print(f"\rkqshrink: {len(entries)} records, {self.tries} tries ", end="", file=sys.stderr, flush=True)
+        self.line.show(f"{len(entries)} records, {self.tries} tries")
         self._write(entries)
         if not self._passes(self.files):
             return None
@@ -98,7 +115,8 @@ def words_of(given: Sequence[str]) -> argparse.Namespace:
     parser = argparse.ArgumentParser(
         prog="kqshrink",
         description="Takes from a trace, and the answers recorded to it, what can be spared while the fault stays.",
-        epilog="The programs kqstep and kqcheck are those that KQSTEP and KQCHECK name, or on the PATH.",
+        epilog="The programs kqstep and kqcheck are those that KQSTEP and KQCHECK name, or on the PATH; kqsplit, where "
+        "it is there, that of KQSPLIT, beside kqcheck or on the PATH.",
     )
     parser.add_argument("--test", metavar="COMMAND", help="in place of kqcheck: status 0 where the fault is there")
     parser.add_argument("--out", metavar="NAME", default="small", help="write NAME.trace and NAME.answers")
@@ -119,14 +137,14 @@ def write_out(name: str, texts: Sequence[Tuple[str, bytes]]) -> None:
             raise Stopped(7, f"cannot write {name}.{ending}: {error.strerror}") from None
 
 
-def carried_out(asked: argparse.Namespace) -> None:
+def carried_out(asked: argparse.Namespace, line: Line) -> None:
     header, entries = read(asked.trace, asked.answers)
     with tempfile.TemporaryDirectory() as folder:
-        shrinker = Shrinker(folder, header, asked.test, asked.answers is not None)
+        shrinker = Shrinker(folder, header, asked.test, asked.answers is not None, line)
         shrinker.begin([asked.trace, asked.answers] if asked.answers is not None else [asked.trace])
-        left = shrunk(entries, shrinker.place, shrinker.test)
-    if sys.stderr.isatty():
-        print(file=sys.stderr)
+        whole = Whole(shrinker.impossible, shrinker.private_list)
+        left = shrunk(entries, shrinker.place, whole, shrinker.test)
+    line.clear()
     texts = [("trace", trace_text(header, left))]
     write_out(asked.out, texts + ([("answers", answers_text(left))] if asked.answers is not None else []))
     print(f"{len(entries)} records, {len(left)} are left, by {shrinker.tries} tries")
@@ -134,8 +152,10 @@ def carried_out(asked: argparse.Namespace) -> None:
 
 def run() -> None:
     """The command, as it is installed."""
+    asked, line = words_of(sys.argv[1:]), Line("kqshrink")
     try:
-        carried_out(words_of(sys.argv[1:]))
+        carried_out(asked, line)
     except Stopped as stopped:
+        line.clear()
         print(f"kqshrink: {stopped.text}", file=sys.stderr)
         sys.exit(stopped.status)

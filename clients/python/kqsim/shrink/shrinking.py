@@ -1,8 +1,9 @@
 """What is tried, so that little is left of a trace: each result is tested, and kept where the test passes."""
 from __future__ import annotations
 
-from typing import Any, Callable, List, Optional, Sequence, TypeVar
+from typing import Any, Callable, Iterator, List, Optional, Sequence, TypeVar
 
+from .concerning import Whole, concerning
 from .entries import Entries, Entry
 
 Item = TypeVar("Item")
@@ -78,16 +79,26 @@ def less_room(entries: List[Entry], at: int, test: Test) -> List[Entry]:
     return entries
 
 
-def without_answers(entries: Entries, wrong: int) -> List[Entry]:
-    """No answers but that at this place; a call without one is answered by the rules."""
-    return [it if place == wrong else it._replace(answer=None) for place, it in enumerate(entries, 1)]
+def without_answers(entries: Entries) -> List[Entry]:
+    """No answers but that of the last entry; a call without one is answered by the rules."""
+    return [*(it._replace(answer=None) for it in entries[:-1]), *entries[-1:]]
 
 
-def shrunk(entries: List[Entry], wrong: Optional[int], test: Test) -> List[Entry]:
+def first_tried(entries: List[Entry], wrong: int, whole: Whole) -> Iterator[List[Entry]]:
+    """What is tried first, the least of it at the start: what concerns the kqueue of the wrong call, and all before."""
+    until = entries[:wrong]
+    concerned = concerning(until, whole)
+    if concerned is not None and len(concerned) < len(until):
+        yield without_answers(concerned)
+        yield concerned
+    yield without_answers(until)
+    yield until
+
+
+def shrunk(entries: List[Entry], wrong: Optional[int], whole: Whole, test: Test) -> List[Entry]:
     """What is left of entries that pass the test. wrong is the place of the wrong answer, where one is known."""
     if wrong is not None:
-        until = entries[:wrong]
-        entries = test(without_answers(until, wrong)) or test(until) or entries
+        entries = next(filter(None, map(test, first_tried(entries, wrong, whole))), entries)
         # An answer that names few kevents is wrong for the same reason after more other records.
         entries = fewer_events(entries, len(entries) - 1, test)
     while True:

@@ -31,6 +31,12 @@ def found(name: str) -> str:
     return program
 
 
+def beside(name: str, other: str) -> Optional[str]:
+    """The program that the variable of this name names, that beside the other program, or the one on the PATH."""
+    near = os.path.join(os.path.dirname(os.path.abspath(found(other))), name)
+    return os.environ.get(name.upper()) or shutil.which(near) or shutil.which(name)
+
+
 def lines_of(path: str) -> List[bytes]:
     """The lines of a file; one that ends with LF has none behind it."""
     try:
