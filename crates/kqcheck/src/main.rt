@@ -13,6 +13,7 @@ mod words;
 
 use fault::Fault;
 use input::{MOST_BYTES, read_in};
+use kq_progress::{Clearing, Meter, Watched};
 use order::{Order, order_of};
 use running::{Given, run_order, tell};
 use std::alloc::Global;
@@ -20,10 +21,13 @@ use std::env;
 use std::fs::File;
 use std::io::ErrorKind;
 use std::process::ExitCode;
+use std::sync::atomic::AtomicBool;
 
 fn main(rt: HostRuntime) -> ExitCode {
-    let (mut out, mut err) = (rt.stdout(), rt.stderr());
-    let status = match asked(&rt) {
+    // Whether the line that tells how much was read stands on the terminal.
+    let stands = AtomicBool::new(false);
+    let (mut out, mut err) = (rt.stdout(), Clearing::new(rt.stderr(), &stands));
+    let status = match asked(&rt, &stands) {
         Ok((order, given)) => run_order(&rt, &order, &given, &mut out, &mut err),
         Err(fault) => {
             tell(fault, &mut err);
@@ -34,10 +38,10 @@ fn main(rt: HostRuntime) -> ExitCode {
 }
 
 /// The order of the command line, and what its files have.
-fn asked(rt: &HostRuntime) -> Result<(Order, Given), Fault> {
+fn asked(rt: &HostRuntime, stands: &AtomicBool) -> Result<(Order, Given), Fault> {
     let words = words_given(rt)?;
     let order = ordered(rt.alloc(), words.as_slice())?;
-    let given = given_for(rt, &order)?;
+    let given = given_for(rt, stands, &order)?;
     Ok((order, given))
 }
 
@@ -64,29 +68,41 @@ fn ordered(alloc: Global, words: &[String]) -> Result<Order, Fault> {
 }
 
 /// The files of an order, read whole.
-fn given_for(rt: &HostRuntime, order: &Order) -> Result<Given, Fault> {
+fn given_for(rt: &HostRuntime, stands: &AtomicBool, order: &Order) -> Result<Given, Fault> {
     let (trace, answers) = match order {
         Order::Help => ("", ""),
         Order::Explain { trace, .. } => (trace.as_str(), ""),
         Order::Check { trace, answers, .. } => (trace.as_str(), answers.as_str()),
     };
     Ok(Given {
-        trace: bytes_of(rt, trace, Fault::ReadTrace)?,
-        answers: bytes_of(rt, answers, Fault::ReadAnswers)?,
+        trace: bytes_of(rt, stands, trace, Fault::ReadTrace)?,
+        answers: bytes_of(rt, stands, answers, Fault::ReadAnswers)?,
     })
 }
 
 /// What a file has, or standard input by the name `-`; nothing where no file is named.
-fn bytes_of(rt: &HostRuntime, name: &str, unread: Fault) -> Result<Vec<u8>, Fault> {
+fn bytes_of(
+    rt: &HostRuntime,
+    stands: &AtomicBool,
+    name: &str,
+    unread: Fault,
+) -> Result<Vec<u8>, Fault> {
     if name.is_empty() {
         return Ok(Vec::new(rt.alloc()));
     }
+    let meter = Meter::on("kqcheck", rt, rt.stderr(), stands);
     if name == "-" {
-        return read_in(rt.alloc(), &mut rt.stdin(), MOST_BYTES, unread);
+        let mut input = Watched::new(rt.stdin(), meter);
+        return read_in(rt.alloc(), &mut input, MOST_BYTES, unread);
     }
-    let mut file = File::open(rt, name).map_err(|error| match error.kind() {
+    let file = File::open(rt, name).map_err(|error| match error.kind() {
         ErrorKind::OutOfMemory => Fault::Memory,
         _ => unread,
     })?;
-    read_in(rt.alloc(), &mut file, MOST_BYTES, unread)
+    read_in(
+        rt.alloc(),
+        &mut Watched::new(file, meter),
+        MOST_BYTES,
+        unread,
+    )
 }

@@ -3,19 +3,30 @@
 #![tactic(auto)]
 
 use kq_command::{Order, parse_words, run_order, tell};
+use kq_progress::{Clearing, Meter, Watched};
 use kq_run::Fault;
 use std::alloc::Global;
 use std::env;
 use std::fs::File;
 use std::io::ErrorKind;
 use std::process::ExitCode;
+use std::sync::atomic::AtomicBool;
 
 fn main(rt: HostRuntime) -> ExitCode {
-    let (mut out, mut err) = (rt.stdout(), rt.stderr());
+    // Whether the line that tells how much was read stands on the terminal.
+    let stands = AtomicBool::new(false);
+    let (mut out, mut err) = (rt.stdout(), Clearing::new(rt.stderr(), &stands));
+    let meter = Meter::on("kqsim", &rt, rt.stderr(), &stands);
     let status = match asked(&rt) {
         Ok((order, file)) => match file {
-            Some(mut file) => run_order(&rt, &order, &mut file, &mut out, &mut err),
-            None => run_order(&rt, &order, &mut rt.stdin(), &mut out, &mut err),
+            Some(file) => {
+                let mut input = Watched::new(file, meter);
+                run_order(&rt, &order, &mut input, &mut out, &mut err)
+            }
+            None => {
+                let mut input = Watched::new(rt.stdin(), meter);
+                run_order(&rt, &order, &mut input, &mut out, &mut err)
+            }
         },
         Err(fault) => {
             tell(fault, &mut err);
