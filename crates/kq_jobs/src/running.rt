@@ -8,7 +8,7 @@ use crate::fault::RunFault;
 use crate::jobs::Jobs;
 use crate::seat::ClaimSeat;
 use crate::worker::{WorkOf, work};
-use kq_gate::{Gate, Starts};
+use kq_threads::{Gate, Starts};
 use std::alloc::Global;
 use std::sync::Wait;
 use std::thread;

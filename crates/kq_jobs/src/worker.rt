@@ -5,8 +5,8 @@ ghost use Rattle.kq_jobs.specs.Outcomes.{AreRan};
 use crate::counter::ClaimCounter;
 use crate::jobs::Jobs;
 use crate::seat::ClaimSeat;
-use kq_gate::Gate;
 use kq_model::Memory;
+use kq_threads::Gate;
 use std::alloc::Global;
 use std::thread::Promise;
 

@@ -5,9 +5,9 @@ ghost use Rattle.kq_serve.specs.Faults.{IsServeFault};
 
 use crate::book::Book;
 use crate::machine::LiveMachine;
-use kq_gate::{Gate, Starts};
 use kq_model::Trace;
 use kq_serve::{ServeError, serve};
+use kq_threads::{Gate, Starts};
 use std::alloc::Global;
 use std::sync::Wait;
 use std::thread::Threads;

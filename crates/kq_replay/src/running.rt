@@ -5,10 +5,10 @@ ghost use Rattle.kq_jobs.specs.Outcomes.{IsRunFault};
 ghost use Rattle.kq_replay.specs.Replayed.{AreReplayed};
 
 use crate::kqueues::Kqueues;
-use kq_gate::{Always, Gate, Starts};
 use kq_history::Split;
 use kq_jobs::{RunFault, run_all};
 use kq_model::Rows;
+use kq_threads::{Always, Gate, Starts};
 use std::sync::Wait;
 use std::thread::Threads;
 

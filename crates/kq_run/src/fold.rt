@@ -9,10 +9,10 @@ ghost use Rattle.kq_run.specs.Folding.{Answers, GoesOn, IsFolded};
 
 use crate::lines::with_rows;
 use crate::row_sink::RowSink;
-use kq_join::join;
 use kq_merge::{ReportText, TextChunks};
 use kq_model::{Event, Memory, Row};
 use kq_system::System;
+use kq_threads::join;
 use std::alloc::Global;
 use std::sync::Wait;
 use std::thread::Threads;

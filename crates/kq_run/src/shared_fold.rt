@@ -11,11 +11,11 @@ ghost use Rattle.kq_shares.specs.Going.{events_in};
 ghost use Rattle.kq_shares.specs.Whole.{AreRowsOf, AreSharesOf};
 
 use crate::lines::with_lists;
-use kq_join::join;
 use kq_merge::{ReportText, TextChunks};
 use kq_model::{Event, Memory, Rows};
 use kq_shares::{After, ShareFault, Shares};
 use kq_system::Dealing;
+use kq_threads::join;
 use std::alloc::Global;
 use std::sync::Wait;
 use std::thread::Threads;

@@ -8,8 +8,8 @@ ghost use Rattle.kq_serve.specs.Shares.{share, shares, steps_of, AreServed, Serv
 use crate::error::ServeError;
 use crate::served::Served;
 use crate::share::{ShareOf, serve_share};
-use kq_gate::{Gate, Starts};
 use kq_lock::{Entry, TurnLock, TurnSeat};
+use kq_threads::{Gate, Starts};
 use std::alloc::Global;
 use std::snapshot::Snapshot;
 use std::sync::Wait;

@@ -6,8 +6,8 @@ ghost use Rattle.kq_serve.specs.Shares.{share, HasServed};
 
 use crate::error::ServeError;
 use crate::served::Served;
-use kq_gate::Gate;
 use kq_lock::{TurnLock, TurnSeat};
+use kq_threads::Gate;
 use std::snapshot::Snapshot;
 use std::sync::Wait;
 use std::thread::Promise;

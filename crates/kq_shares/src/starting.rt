@@ -4,9 +4,9 @@ ghost use Rattle.std.specs.Prelude.{◌≡◌, ◌≤◌, All, IfOk, false, leng
 ghost use Rattle.kq_shares.specs.Going.{events_in, HasGone, HasPlaces, HaveGone};
 
 use crate::going::{Gone, go_over};
-use kq_join::join;
 use kq_model::{Event, Memory};
 use kq_system::Share;
+use kq_threads::join;
 use std::alloc::Global;
 use std::sync::Wait;
 use std::thread::Threads;

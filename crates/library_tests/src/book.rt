@@ -1,10 +1,10 @@
 //! That the rows of a book come when its trace is replayed kqueue by kqueue, which no clause says.
 use bitflags::Flags;
-use kq_gate::{Always, Open};
 use kq_live::{Book, live_run};
 use kq_merge::report_text;
 use kq_model::{Change, EvFlags, Event, Filter, Memory, Row, Series, Trace};
 use kq_replay::RunFault;
+use kq_threads::{Always, Open};
 use replayed_book::replayed_rows;
 use std::alloc::Global;
 use std::process::Abort;

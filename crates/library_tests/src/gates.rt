@@ -1,5 +1,5 @@
 //! Gates that count the workers and hold them, and starts of which one is refused.
-use kq_gate::{Gate, Starts};
+use kq_threads::{Gate, Starts};
 use std::sync::atomic::AtomicU64;
 use std::sync::atomic::Ordering::SeqCst;
 use std::thread::yield_now;

@@ -3,9 +3,9 @@
 ghost use Rattle.std.specs.Prelude.{◌≡◌, ◌*◌};
 
 use crate::gates::{Counts, Meeting, Without};
-use kq_gate::{Always, Gate, Open, Starts};
 use kq_jobs::{Jobs, RunFault, run_all};
 use kq_model::Memory;
+use kq_threads::{Always, Gate, Open, Starts};
 use std::alloc::Global;
 use std::process::Abort;
 use std::sync::Wait;

@@ -1,5 +1,5 @@
 //! Two calls at once.
-use kq_join::{join, join_mut};
+use kq_threads::{join, join_mut};
 use std::sync::atomic::AtomicU64;
 use std::sync::atomic::Ordering::SeqCst;
 use std::thread::yield_now;

@@ -3,10 +3,10 @@ ghost use Rattle.kq_history.specs.Traced.{IsBorn};
 
 use crate::dup::dup_over;
 use crate::gates::{Meeting, Without};
-use kq_gate::{Always, Gate, Open, Starts};
 use kq_history::Split;
 use kq_model::{Memory, Reply, Row, Rows, Trace};
 use kq_replay::{Replay, RunFault, replay_all, replay_all_with};
+use kq_threads::{Always, Gate, Open, Starts};
 use std::alloc::Global;
 use std::process::Abort;
 use std::sync::Wait;

@@ -2,8 +2,8 @@
 
 use crate::Outcome;
 use crate::fault::Fault;
-use kq_gate::{Always, Open};
 use kq_run::{Fault as ReplayFault, replay_with};
+use kq_threads::{Always, Open};
 use std::sync::Wait;
 use std::thread::Threads;
 

@@ -2,11 +2,11 @@
 
 use crate::watch::Watch;
 use anyhow::Context;
-use kq_gate::Open;
 use kq_history::Split;
 use kq_merge::{merge, report_text};
 use kq_model::{Row, Trace};
 use kq_replay::replay_all;
+use kq_threads::Open;
 use kq_trace::read_trace_with;
 use std::alloc::AllocError;
 use std::io::Write;

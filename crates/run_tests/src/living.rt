@@ -1,11 +1,11 @@
 //! Traces on a live system: by one thread, by several, and where a start is refused.
 use crate::gates::{Pair, Without};
 use crate::given::{FORKED, REPORT, STORED};
-use kq_gate::{Always, Open};
 use kq_live::Book;
 use kq_merge::report_text;
 use kq_model::Memory;
 use kq_run::{Fault, book_text, live_report, live_run, live_run_with, replay};
+use kq_threads::{Always, Open};
 use kq_trace::{read_trace, write_trace};
 use std::alloc::Global;
 use std::test::Fail;

@@ -1,8 +1,8 @@
 //! A replay by one worker, by several that meet at a gate, and where a start is refused.
 use crate::gates::{Counts, Meeting, Without};
 use crate::given::FORKED;
-use kq_gate::{Always, Gate, Open, Starts};
 use kq_run::{Fault, replay_with};
+use kq_threads::{Always, Gate, Open, Starts};
 use std::sync::Wait;
 use std::test::Fail;
 use std::thread::Threads;

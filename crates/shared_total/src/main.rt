@@ -7,8 +7,8 @@ ghost use Rattle.std.specs.Prelude.{◌≡◌, ◌^◌, ◌<◌, ◌≤◌, leng
 mod meeting;
 mod total;
 
-use kq_gate::{Always, Gate, Open, Starts};
 use kq_serve::{ServeError, serve};
+use kq_threads::{Always, Gate, Open, Starts};
 use meeting::Meeting;
 use std::alloc::Global;
 use std::io;

@@ -1,6 +1,6 @@
 //! A gate at which two threads wait for each other, so that they call at the same time.
 
-use kq_gate::Gate;
+use kq_threads::Gate;
 use std::sync::atomic::AtomicU64;
 use std::sync::atomic::Ordering::SeqCst;
 use std::thread::yield_now;

@@ -2,10 +2,10 @@
 ghost use Rattle.std.specs.Prelude.{◌≤◌};
 
 use crate::gates::{Meeting, Without};
-use kq_gate::{Always, Open};
 use kq_live::live_run;
 use kq_model::{Event, Memory, Series, Trace};
 use kq_serve::ServeError;
+use kq_threads::{Always, Open};
 use std::alloc::Global;
 use std::test::Fail;
 

@@ -1,5 +1,4 @@
 //! Where threads that share work are held, and whose start is refused.
-#![tactic(auto)]
 
 ghost use Rattle.std.specs.Prelude.{◌≡◌, true};
 

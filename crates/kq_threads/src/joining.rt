@@ -1,13 +1,10 @@
 //! Two calls at once, where it is told whether the first had a thread of its own.
-#![tactic(auto)]
 
 ghost use Rattle.std.specs.Prelude.{◌≡◌};
 
-mod task;
-
+use crate::task::{Lent, Once, run_both};
 use std::sync::Wait;
 use std::thread::Threads;
-use task::{Lent, Once, run_both};
 
 /// What two calls returned.
 #[derive(Drop)]

@@ -2,7 +2,7 @@
 
 ghost use Rattle.std.specs.Prelude.{◌≡◌};
 
-use crate::Joined;
+use crate::joining::Joined;
 use std::snapshot::Snapshot;
 use std::sync::Wait;
 use std::thread;
