@@ -1,5 +1,5 @@
 -- Texts, cut at their first line feed.
-use Rattle.std.proofs.Common.{◌≡◌, ◌∙◌, ℕ, zero, suc, ◌+◌, ◌-◌, ◌<◌, ◌≤◌, Bool, true, false, ◌==◌, ◌||◌, cond, List, [], ◌∷◌, ◌++◌, length, take, drop, get_or, min, refl, sym, ap, arith, drop-cons, true≢false, Option, None, Some, append-nil, append_assoc, length-append, add-one, take_all, drop_of_length-le}
+use Rattle.std.proofs.Common.{◌≡◌, ◌∙◌, ℕ, zero, suc, ◌+◌, ◌-◌, ◌<◌, ◌≤◌, Bool, true, false, ◌==◌, ◌||◌, cond, List, [], ◌∷◌, ◌++◌, length, take, drop, get_or, min, refl, sym, ap, arith, drop-cons, true≢false, Option, None, Some, append-nil, append_assoc, length-append, add-one, take_all, drop_of_length-le, inl, inr, subst}
 use Rattle.std.proofs.lemmas.List.{drop-take, take-append-drop, take_min}
 use Rattle.std.proofs.lemmas.Bool.{eqb-true}
 use Rattle.std.proofs.lemmas.List.Folds.{list_any-append}
@@ -7,7 +7,7 @@ use Rattle.std.proofs.lemmas.Grind.{common_steps}
 use Rattle.std.specs.Io.KnownBytes.{Consumes, IsAtEnd, Keeps, prepend_known}
 use Rattle.std.proofs.KnownBytes.{Consumes-kept, Consumes-nil, Consumes-trans}
 use Rattle.kq_model.specs.Lines.{line_feed, onto_first, pieces_of, without_empty_end}
-use Rattle.kq_input.specs.Unread.{HasMore, IsNextLine, LinesState, has_line_feed, lines_left}
+use Rattle.kq_input.specs.Unread.{HasMore, IsLastLine, IsNextLine, LinesState, TookLine, TookPart, has_line_feed, lines_left}
 
 -- ---- texts without a line feed
 
@@ -46,12 +46,12 @@ no_feed b bs plain = (or_false (b == 10) (has_line_feed bs) plain).0
 no_feed_behind : (b : ℕ) (bs : List ℕ) → has_line_feed (b ∷ bs) ≡ false → has_line_feed bs ≡ false
 no_feed_behind b bs plain = (or_false (b == 10) (has_line_feed bs) plain).1
 
-cut : (line rest : List ℕ) → has_line_feed line ≡ false → pieces_of (line ++ 10 ∷ rest) ≡ line ∷ pieces_of rest
+pub cut : (line rest : List ℕ) → has_line_feed line ≡ false → pieces_of (line ++ 10 ∷ rest) ≡ line ∷ pieces_of rest
 unfolding pieces_of onto_first
 cut [] rest plain = refl
 cut (b ∷ bs) rest plain = rw (no_feed b bs plain, cut bs rest (no_feed_behind b bs plain)) refl
 
-uncut : (line : List ℕ) → has_line_feed line ≡ false → pieces_of line ≡ line ∷ []
+pub uncut : (line : List ℕ) → has_line_feed line ≡ false → pieces_of line ≡ line ∷ []
 unfolding pieces_of onto_first
 uncut [] plain = refl
 uncut (b ∷ bs) plain = rw (no_feed b bs plain, uncut bs (no_feed_behind b bs plain)) refl
@@ -122,14 +122,11 @@ skipped text from to count within ordered =
 
 -- ---- a line that comes piece by piece
 
--- these bytes of a line came, and so many at most were kept
+-- these bytes of a line came, some where this is not the first turn
 pub record HasSoFar (most : ℕ) (before now : Option (List ℕ)) (line : List ℕ) (some : Bool) : Type 0 where
-  pub came : List ℕ
-  pub plain : has_line_feed came ≡ false
-  pub gone : Consumes before now came
-  pub kept : line ≡ take most came
-  pub none : some ≡ false → came ≡ []
-  pub any : some ≡ true → 0 < length came
+  pub took : TookPart most before now line
+  pub none : some ≡ false → took.part ≡ []
+  pub any : some ≡ true → 0 < length took.part
 
 none_kept : (most : ℕ) → take {A = ℕ} most [] ≡ []
 none_kept zero = refl
@@ -137,29 +134,32 @@ none_kept (suc most) = refl
 
 pub nothing_yet : (most : ℕ) (given : Option (List ℕ)) → HasSoFar most given given [] false
 nothing_yet most given = record {
-  came = [];
-  plain = refl;
-  gone = Consumes-nil given;
-  kept = sym (none_kept most);
+  took = record { part = []; plain = refl; gone = Consumes-nil given; kept = sym (none_kept most) };
   none = λ _. refl;
   any = λ is. absurd (true≢false (sym is));
 }
 
 -- a read brought nothing new
-pub kept_on : (most : ℕ) (before now later : Option (List ℕ)) (line : List ℕ) (some : Bool) → HasSoFar most before now line some → Keeps now later
-    → HasSoFar most before later line some
-kept_on most before now later line some so_far same = record {
-  came = so_far.came;
-  plain = so_far.plain;
-  gone = Consumes-kept before now later so_far.came so_far.gone same;
-  kept = so_far.kept;
-  none = so_far.none;
-  any = so_far.any;
+pub took_kept : (most : ℕ) (before now later : Option (List ℕ)) (line : List ℕ) → TookPart most before now line → Keeps now later
+    → TookPart most before later line
+took_kept most before now later line took same = record {
+  part = took.part;
+  plain = took.plain;
+  gone = Consumes-kept before now later took.part took.gone same;
+  kept = took.kept;
 }
 
-piece_gone : (input : Option (List ℕ)) (old new piece : List ℕ) → old ≡ piece → new ≡ [] → Consumes (prepend_known old input) (prepend_known new input) piece
-piece_gone None old new piece all none = tt
-piece_gone (Some rest) old new piece all none = rw (all, none) refl
+pub kept_on : (most : ℕ) (before now later : Option (List ℕ)) (line new : List ℕ) (some : Bool) → HasSoFar most before now line some → Keeps now later
+    → new ≡ line → HasSoFar most before later new some
+unfolding took_kept
+kept_on most before now later line new some so_far same is =
+    subst (λ l. HasSoFar most before later l some) (sym is)
+    (record { took = took_kept most before now later line so_far.took same; none = so_far.none; any = so_far.any })
+
+-- the first bytes of those that waited were taken
+waited_gone : (input : Option (List ℕ)) (old new front : List ℕ) → old ≡ front ++ new → Consumes (prepend_known old input) (prepend_known new input) front
+waited_gone None old new front is = tt
+waited_gone (Some rest) old new front is = ap (λ w. w ++ rest) is ∙ append_assoc front new rest
 
 kept_more : (most : ℕ) (came line piece new : List ℕ) → line ≡ take most came → new ≡ take most (line ++ piece) → new ≡ take most (came ++ piece)
 kept_more most came line piece new was is = is ∙ ap (λ l. take most (l ++ piece)) was ∙ kept_twice most came piece
@@ -170,45 +170,80 @@ pub goes_on : (most : ℕ) (before input : Option (List ℕ)) (some : Bool) (old
     → HasSoFar most before (prepend_known new.waiting input) new.line true
 goes_on most before input some old new so_far waited added =
     let all = added.whole refl in
+    let took = so_far.took in
+    let is : old.waiting ≡ added.piece ++ new.waiting = all.0 ∙ sym (append-nil added.piece) ∙ ap (λ w. added.piece ++ w) (sym all.1) in
     record {
-      came = so_far.came ++ added.piece;
-      plain = plain-append so_far.came added.piece so_far.plain added.plain;
-      gone = Consumes-trans before (prepend_known old.waiting input) (prepend_known new.waiting input) so_far.came added.piece so_far.gone
-          (piece_gone input old.waiting new.waiting added.piece all.0 all.1);
-      kept = kept_more most so_far.came old.line added.piece new.line so_far.kept added.kept;
+      took = record {
+        part = took.part ++ added.piece;
+        plain = plain-append took.part added.piece took.plain added.plain;
+        gone = Consumes-trans before (prepend_known old.waiting input) (prepend_known new.waiting input) took.part added.piece took.gone
+            (waited_gone input old.waiting new.waiting added.piece is);
+        kept = kept_more most took.part old.line added.piece new.line took.kept added.kept;
+      };
       none = λ is. absurd (true≢false is);
-      any = λ _. omega (arith, length-append so_far.came added.piece, waited, ap length all.0);
+      any = λ _. omega (arith, length-append took.part added.piece, waited, ap length all.0);
     }
-
-regrouped : (came piece waiting rest : List ℕ) → came ++ ((piece ++ 10 ∷ waiting) ++ rest) ≡ (came ++ piece) ++ 10 ∷ (waiting ++ rest)
-regrouped came piece waiting rest = simp append_assoc refl
 
 -- the line feed came
 pub line_came : (most : ℕ) (before input : Option (List ℕ)) (some : Bool) (old new : LinesState)
     → HasSoFar most before (prepend_known old.waiting input) old.line some → HasMore most old new true
-    → IsNextLine most before (prepend_known new.waiting input) new.line
-line_came most None input some old new so_far added = tt
-line_came most (Some text) None some old new so_far added = absurd so_far.gone
-line_came most (Some text) (Some rest) some old new so_far added =
-    let whole = so_far.came ++ added.piece in
-    let is : text ≡ whole ++ 10 ∷ (new.waiting ++ rest) =
-    so_far.gone ∙ ap (λ w. so_far.came ++ (w ++ rest)) (added.closed refl) ∙ regrouped so_far.came added.piece new.waiting rest in (
-      whole,
-      ap lines_left is ∙ line_then whole (new.waiting ++ rest) (plain-append so_far.came added.piece so_far.plain added.plain),
-      kept_more most so_far.came old.line added.piece new.line so_far.kept added.kept,
-    )
+    → TookLine most before (prepend_known new.waiting input) new.line
+line_came most before input some old new so_far added =
+    let took = so_far.took in
+    let whole = took.part ++ added.piece in
+    let end : List ℕ = added.piece ++ 10 ∷ [] in
+    let is : old.waiting ≡ end ++ new.waiting = added.closed refl ∙ sym (append_assoc added.piece (10 ∷ []) new.waiting) in
+    record {
+      whole = whole;
+      plain = plain-append took.part added.piece took.plain added.plain;
+      gone = inl (subst (Consumes before (prepend_known new.waiting input)) (sym (append_assoc took.part added.piece (10 ∷ [])))
+          (Consumes-trans before (prepend_known old.waiting input) (prepend_known new.waiting input) took.part end took.gone
+          (waited_gone input old.waiting new.waiting end is)));
+      kept = kept_more most took.part old.line added.piece new.line took.kept added.kept;
+    }
 
 -- the input ended behind some bytes
 pub last_came : (most : ℕ) (before now : Option (List ℕ)) (line : List ℕ) (some : Bool) → HasSoFar most before now line some → IsAtEnd now
-    → some ≡ true → IsNextLine most before now line
-last_came most None now line some so_far end any = tt
-last_came most (Some text) None line some so_far end any = absurd so_far.gone
-last_came most (Some text) (Some left) line some so_far end any =
-    let is : text ≡ so_far.came = so_far.gone ∙ ap (λ l. so_far.came ++ l) end ∙ append-nil so_far.came in (
-      so_far.came,
-      ap lines_left is ∙ last_line so_far.came (so_far.any any) so_far.plain ∙ ap (λ l. so_far.came ∷ lines_left l) (sym end),
-      so_far.kept,
-    )
+    → some ≡ true → TookLine most before now line
+last_came most before now line some so_far end any =
+    let took = so_far.took in
+    record { whole = took.part; plain = took.plain; gone = inr (so_far.any any, took.gone, end); kept = took.kept }
+
+-- what was taken is the first line that was left
+pub line_taken : (most : ℕ) (text rest line : List ℕ) → (took : TookLine most (Some text) (Some rest) line) → lines_left text ≡ took.whole ∷ lines_left rest
+line_taken most text rest line took =
+    elim took.gone [
+      | inl gone ↦ ap lines_left (gone ∙ append_assoc took.whole (10 ∷ []) rest) ∙ line_then took.whole rest took.plain
+      | inr last ↦ ap lines_left (last.1 ∙ ap (λ l. took.whole ++ l) last.2 ∙ append-nil took.whole) ∙ last_line took.whole last.0 took.plain
+          ∙ ap (λ l. took.whole ∷ lines_left l) (sym last.2)
+    ]
+
+pub next_line : (most : ℕ) (before now : Option (List ℕ)) (line : List ℕ) → TookLine most before now line → IsNextLine most before now line
+next_line most None now line took = tt
+next_line most (Some text) None line took = elim took.gone [ inl gone ↦ absurd gone | inr last ↦ absurd last.1 ]
+next_line most (Some text) (Some rest) line took = (took.whole, line_taken most text rest line took, took.kept)
+
+-- the input had ended
+no_bytes : (before now : Option (List ℕ)) (part : List ℕ) → Consumes before now part → part ≡ [] → Keeps before now
+no_bytes None now part gone none = tt
+no_bytes (Some text) None part gone none = absurd gone
+no_bytes (Some text) (Some rest) part gone none = sym (gone ∙ ap (λ p. p ++ rest) none)
+
+pub nothing_came : (most : ℕ) (before now : Option (List ℕ)) (line : List ℕ) (some : Bool) → HasSoFar most before now line some → some ≡ false → Keeps before now
+nothing_came most before now line some so_far none = no_bytes before now so_far.took.part so_far.took.gone (so_far.none none)
+
+pub none_left : (before now : Option (List ℕ)) → Keeps before now → IsAtEnd now → IsLastLine before now
+none_left None now same end = (tt, end)
+none_left (Some text) None same end = absurd same
+none_left (Some text) (Some rest) same end = (sym same ∙ end, end)
+
+pub no_line : (most : ℕ) (before now : Option (List ℕ)) (line : List ℕ) (some : Bool) → HasSoFar most before now line some → some ≡ false → line ≡ []
+no_line most before now line some so_far none = so_far.took.kept ∙ ap (take most) (so_far.none none) ∙ none_kept most
+
+-- behind a line feed fewer bytes wait than came with it
+pub fewer_wait : (most : ℕ) (old new : LinesState) (room : ℕ) → HasMore most old new true → length old.waiting ≤ room → length new.waiting < room
+fewer_wait most old new room added few =
+    omega (arith, few, ap length (added.closed refl), length-append added.piece (10 ∷ new.waiting))
 
 -- ---- where the line feed is in what waits
 

@@ -1,8 +1,8 @@
 -- The lines of an input of which some bytes wait in a reader, and what reading one line more leaves.
-use Rattle.std.specs.Prelude.{◌≡◌, ◌==◌, ℕ, Bool, true, false, List, [], ◌∷◌, ◌++◌, take}
+use Rattle.std.specs.Prelude.{◌≡◌, ◌==◌, ◌<◌, ◌⊎◌, ℕ, Bool, true, false, List, [], ◌∷◌, ◌++◌, length, take}
 use Rattle.std.specs.Prelude.{Option, Some, None}
 use Rattle.std.specs.List.{list_any}
-use Rattle.std.specs.Io.KnownBytes.{IsAtEnd}
+use Rattle.std.specs.Io.KnownBytes.{Consumes, IsAtEnd}
 use Rattle.kq_model.specs.Lines.{line_feed, pieces_of, without_empty_end}
 
 -- the lines of what stands behind a line feed
@@ -17,6 +17,10 @@ pub record LinesState : Type 0 where
   pub line : List ℕ
   pub waiting : List ℕ
 
+-- bytes that one read takes at most
+abbrev pub most_read_bytes : ℕ
+most_read_bytes = 65536
+
 -- The next line was read off what an input has, and of its bytes so many at most were kept. Nothing is said where it is
 -- not known what the input has.
 abbrev pub IsNextLine : ℕ → Option (List ℕ) → Option (List ℕ) → List ℕ → Type 0
@@ -28,6 +32,23 @@ IsNextLine most (Some text) (Some rest) line =
 -- no line was left
 abbrev pub IsLastLine : Option (List ℕ) → Option (List ℕ) → Type 0
 IsLastLine before after = IsAtEnd before × IsAtEnd after
+
+-- These bytes of a line were taken off what an input has, its line feed not among them, and none behind them. Of them
+-- so many at most were kept.
+pub record TookPart (most : ℕ) (before after : Option (List ℕ)) (line : List ℕ) : Type 0 where
+  pub part : List ℕ
+  pub plain : has_line_feed part ≡ false
+  pub gone : Consumes before after part
+  pub kept : line ≡ take most part
+
+-- A whole line was taken, and the line feed that ended it; or some bytes that the input's end ended, behind which
+-- nothing is left.
+pub record TookLine (most : ℕ) (before after : Option (List ℕ)) (line : List ℕ) : Type 0 where
+  pub whole : List ℕ
+  pub plain : has_line_feed whole ≡ false
+  pub gone : Consumes before after (whole ++ line_feed ∷ [])
+      ⊎ ((0 < length whole) × Consumes before after whole × IsAtEnd after)
+  pub kept : line ≡ take most whole
 
 -- Bytes went behind those of a line, up to its line feed or all of them, and no more than so many are kept.
 pub record HasMore (most : ℕ) (old new : LinesState) (ended : Bool) : Type 0 where

@@ -1,7 +1,8 @@
 //! Bytes that one read took.
 
-ghost use Rattle.std.specs.Prelude.{◌≡◌, ◌↔◌, ◌≤◌, [], drop, length, IfErr, IfOk, IsTrue, OnOk};
-ghost use Rattle.std.specs.Io.KnownBytes.{Consumes, IsAtEnd};
+ghost use Rattle.std.specs.Prelude.{◌≡◌, ◌↔◌, ◌≤◌, [], drop, length, IfErr, IfOk, IsTrue, OnErr, OnOk};
+ghost use Rattle.std.specs.Io.KnownBytes.{Consumes, IsAtEnd, Keeps};
+ghost use Rattle.kq_input.specs.Unread.{most_read_bytes};
 
 use kq_model::Memory;
 use std::alloc::Global;
@@ -21,13 +22,15 @@ pub struct Arrived {
 }
 
 impl Model for Arrived {
-    ghost use Rattle.std.specs.Prelude.{◌≤◌, ◌<◌, ◌-◌, ℕ, List, drop, length, take};
+    ghost use Rattle.std.specs.Prelude.{◌≡◌, ◌≤◌, ◌-◌, ℕ, List, drop, length, take};
+    ghost use Rattle.kq_input.specs.Unread.{most_read_bytes};
 
     ghost Value = { List ℕ };
 
     ghost view = { λ a. take (a.to - a.from) (drop a.from a.room.items) };
 
-    ghost invariant = { λ a. (a.from ≤ a.to) × (a.to ≤ length a.room.items) × (0 < length a.room.items) };
+    ghost invariant = { λ a. (a.from ≤ a.to) × (a.to ≤ length a.room.items)
+        × (length a.room.items ≡ most_read_bytes) };
 }
 
 impl Arrived {
@@ -62,14 +65,17 @@ impl Arrived {
         self.from += count;
     }
 
-    /// Takes what comes next, in place of what is here; nothing comes only at the end.
+    /// Takes what comes next, in place of what is here; nothing comes only at the end, and where the read fails.
     pub fn refill<I: Read>(&mut self, input: &mut I) -> io::Result<()>
         ensures given { OnOk result (Consumes (I.remaining input.old) (I.remaining input.new) self.new) }
         ensures end { OnOk result (self.new ≡ [] → IsAtEnd (I.remaining input.new)) }
+        ensures failed { OnErr result (Keeps (I.remaining input.old) (I.remaining input.new)) }
+        ensures none { OnErr result (self.new ≡ []) }
+        ensures few { length self.new ≤ most_read_bytes }
     {
-        let count = input.read(&mut self.room)?;
         self.from = 0;
-        self.to = count;
+        self.to = 0;
+        self.to = input.read(&mut self.room)?;
         Ok(())
     }
 }

@@ -1,8 +1,9 @@
+//! Reads lines one after the other.
 ghost use Rattle.std.specs.Prelude.{◌≡◌, ◌<◌, ◌≤◌, ◌+◌, ◌++◌, [], length, take, true};
-ghost use Rattle.std.specs.Prelude.{false, IfOk, OnOk};
+ghost use Rattle.std.specs.Prelude.{false, IfErr, IfOk, MatchResult, OnErr, OnOk};
 ghost use Rattle.std.specs.Io.KnownBytes.{IsAtEnd, Keeps, prepend_known};
 ghost use Rattle.kq_model.specs.Limits.{most_line_bytes};
-ghost use Rattle.kq_input.specs.Unread.{HasMore, IsLastLine, IsNextLine};
+ghost use Rattle.kq_input.specs.Unread.{HasMore, IsLastLine, IsNextLine, TookLine, TookPart, most_read_bytes};
 
 use crate::arrived::Arrived;
 use kq_model::Memory;
@@ -35,13 +36,13 @@ pub struct Lines {
 impl Model for Lines {
     ghost use Rattle.std.specs.Prelude.{◌≤◌, ◌+◌, length};
     ghost use Rattle.kq_model.specs.Limits.{most_line_bytes};
-    ghost use Rattle.kq_input.specs.Unread.{LinesState};
+    ghost use Rattle.kq_input.specs.Unread.{LinesState, most_read_bytes};
 
     ghost Value = { LinesState };
 
     ghost view = { λ l. record { line = l.line.items; waiting = l.arrived } };
 
-    ghost invariant = { λ l. length l.line.items ≤ most_line_bytes + 1 };
+    ghost invariant = { λ l. (length l.line.items ≤ most_line_bytes + 1) × (length l.arrived ≤ most_read_bytes) };
 }
 
 impl Lines {
@@ -67,7 +68,7 @@ impl Lines {
     /// is whole, so an input that comes bit by bit, as a pipe's, is answered line by line.
     ///
     /// An input is read by one reader, from its first line to its last. A line of 2^64 reads is [`LinesError::Read`].
-    /// After an error nothing is known of the reader.
+    /// After an error the bytes that were taken of the line are gone; where a read failed, no others were taken.
     pub fn next<I: Read>(&mut self, input: &mut I) -> Result<bool, LinesError>
         ensures line { IfOk result (λ some. some ≡ true → IsNextLine (most_line_bytes + 1)
             (prepend_known self.old.waiting (I.remaining input.old))
@@ -76,10 +77,22 @@ impl Lines {
         ensures last { IfOk result (λ some. some ≡ false → IsLastLine
             (prepend_known self.old.waiting (I.remaining input.old))
             (prepend_known self.new.waiting (I.remaining input.new))) }
+        ensures taken { IfOk result (λ some. some ≡ true → TookLine (most_line_bytes + 1)
+            (prepend_known self.old.waiting (I.remaining input.old))
+            (prepend_known self.new.waiting (I.remaining input.new)) self.new.line) }
+        ensures kept { IfOk result (λ some. some ≡ false → Keeps
+            (prepend_known self.old.waiting (I.remaining input.old))
+            (prepend_known self.new.waiting (I.remaining input.new))) }
+        ensures part { OnErr result (TookPart (most_line_bytes + 1)
+            (prepend_known self.old.waiting (I.remaining input.old))
+            (prepend_known self.new.waiting (I.remaining input.new)) self.new.line) }
+        ensures read { IfErr result (λ error. error ≡ LinesError.Read → self.new.waiting ≡ []) }
+        ensures few { MatchResult result (λ _. length self.new.waiting < most_read_bytes)
+            (λ _. length self.new.waiting ≤ most_read_bytes) }
     {
         self.line.clear();
         let mut some = false;
-        'pieces: for _ in 0..u64::MAX {
+        'pieces: for _turn in 0..u64::MAX {
             if !self.arrive(input)? {
                 return Ok(some);
             }
@@ -93,12 +106,14 @@ impl Lines {
 
     /// Reads where no bytes wait; whether some do then.
     fn arrive<I: Read>(&mut self, input: &mut I) -> Result<bool, LinesError>
-        ensures kept { OnOk result (Keeps (prepend_known self.old.waiting (I.remaining input.old))
-            (prepend_known self.new.waiting (I.remaining input.new))) }
+        ensures kept { Keeps (prepend_known self.old.waiting (I.remaining input.old))
+            (prepend_known self.new.waiting (I.remaining input.new)) }
         ensures line { self.new.line ≡ self.old.line }
         ensures some { IfOk result (λ some. some ≡ true → 0 < length self.new.waiting) }
         ensures none { IfOk result (λ some. some ≡ false
-            → IsAtEnd (prepend_known self.new.waiting (I.remaining input.new))) }
+            → (self.new.waiting ≡ []) × IsAtEnd (prepend_known self.new.waiting (I.remaining input.new))) }
+        ensures failed { IfErr result (λ error. (error ≡ LinesError.Read) × (self.new.waiting ≡ [])) }
+        ensures few { length self.new.waiting ≤ most_read_bytes }
     {
         if self.arrived.is_empty() {
             self.arrived.refill(input).map_err(|_| LinesError::Read)?;
@@ -108,7 +123,8 @@ impl Lines {
 
     /// Puts what came behind the line, up to its line feed; whether that was among it.
     fn add(&mut self) -> Result<bool, LinesError>
-        ensures { IfOk result (HasMore (most_line_bytes + 1) self.old self.new) }
+        ensures more { IfOk result (HasMore (most_line_bytes + 1) self.old self.new) }
+        ensures memory { IfErr result (λ error. (error ≡ LinesError.Memory) × (self.new ≡ self.old)) }
     {
         let came = self.arrived.as_slice();
         match memchr(b'\n', came) {
@@ -132,6 +148,7 @@ fn put(line: &mut Vec<u8>, piece: &[u8]) -> Result<(), LinesError>
     requires { length line.old.items ≤ most_line_bytes + 1 }
     ensures within { length line.new.items ≤ most_line_bytes + 1 }
     ensures put { OnOk result (line.new.items ≡ take (most_line_bytes + 1) (line.old.items ++ piece.now)) }
+    ensures memory { IfErr result (λ error. (error ≡ LinesError.Memory) × (line.new.items ≡ line.old.items)) }
 {
     let room = MOST_KEPT_BYTES - line.len();
     line.extend_from_slice(&piece[..piece.len().min(room)])
