@@ -2,7 +2,7 @@
 use Rattle.std.specs.Prelude.{◌≡◌, ℕ, ◌+◌, List, ◌∷◌, length, Option, Ok}
 use Rattle.std.specs.Io.KnownBytes.{Appends}
 use Rattle.kq_model.specs.Reading.{version_on}
-use Rattle.kq_step.specs.Given.{AreRead}
+use Rattle.kq_step.specs.Given.{AreEnded, AreRead}
 use Rattle.kq_step.specs.Stepping.{answered, before_records, standing_after}
 use Rattle.kq_step.specs.Stood.{IsAt, Stood}
 
@@ -13,6 +13,7 @@ pub record SoFar (given before left out : Option (List ℕ)) (number : ℕ) (s :
   pub version : ℕ
   pub good : version_on header ≡ Ok version
   pub read : AreRead given (header ∷ lines) left
+  pub ended : AreEnded given left (header ∷ lines)
   pub count : number ≡ 2 + length lines
   pub at : IsAt (standing_after (before_records version) lines) s
   pub wrote : Appends before out (answered (header ∷ lines))

@@ -1,5 +1,7 @@
-ghost use Rattle.std.specs.Prelude.{◌≡◌, ◌+◌, [], true, false, IfErr, IfOk, OnOk};
+//! Answers the lines of an input.
+ghost use Rattle.std.specs.Prelude.{◌≡◌, ◌+◌, ◌≤◌, [], length, true, false, IfErr, IfOk, OnOk};
 ghost use Rattle.std.specs.Io.KnownBytes.{prepend_known};
+ghost use Rattle.kq_input.specs.Unread.{most_read_bytes};
 ghost use Rattle.kq_model.specs.Limits.{IsVersion};
 ghost use Rattle.kq_step.specs.Answering.{IsHeaderFault, IsOpened, LeavesBy, WroteAll};
 ghost use Rattle.kq_step.specs.SoFar.{FromSoFar, SoFar};
@@ -18,11 +20,13 @@ use std::io::{Read, Write};
 /// Answers each line of a trace behind its header before it reads the next one, and writes the last line of the report
 /// once none is left. The first line alone, where it is no header, is [`Fault::Header`].
 ///
-/// After `Read` the lines that were read whole are answered, and after `Memory` the first of them; after `Write` a
-/// beginning of their answers was written. An input of 2^64 lines is [`Fault::Read`].
+/// What was written after `Read` is the answers to all lines that were whole in what the input gave; after `Memory` to
+/// all but some that end in the last bytes of it, no more than one read takes. After `Write` a beginning of the answers
+/// was written. An input of 2^64 lines is [`Fault::Read`].
 pub fn answer_all<I: Read, O: Write>(alloc: Global, input: &mut I, out: &mut O) -> Result<(), Fault>
     ensures all { OnOk result (WroteAll (I.remaining input.old) (O.contents out.old) (O.contents out.new)) }
-    ensures fault { IfErr result (LeavesBy (I.remaining input.old) (O.contents out.old) (O.contents out.new)) }
+    ensures fault { IfErr result (LeavesBy (I.remaining input.old) (I.remaining input.new) (O.contents out.old)
+        (O.contents out.new)) }
 {
     match Lines::new(alloc) {
         Ok(mut lines) => answer_behind(alloc, &mut lines, input, out),
@@ -30,7 +34,7 @@ pub fn answer_all<I: Read, O: Write>(alloc: Global, input: &mut I, out: &mut O) 
     }
 }
 
-/// The same with lines of which none was read.
+/// Answers all with a reader that has read nothing.
 fn answer_behind<I: Read, O: Write>(
     alloc: Global,
     lines: &mut Lines,
@@ -39,7 +43,8 @@ fn answer_behind<I: Read, O: Write>(
 ) -> Result<(), Fault>
     requires { lines.old.waiting ≡ [] }
     ensures all { OnOk result (WroteAll (I.remaining input.old) (O.contents out.old) (O.contents out.new)) }
-    ensures fault { IfErr result (LeavesBy (I.remaining input.old) (O.contents out.old) (O.contents out.new)) }
+    ensures fault { IfErr result (LeavesBy (I.remaining input.old) (I.remaining input.new) (O.contents out.old)
+        (O.contents out.new)) }
 {
     let version = header(alloc, lines, input)?;
     let Ok(mut stepping) = stepping_from(alloc, version) else {
@@ -63,7 +68,8 @@ fn header<I: Read>(alloc: Global, lines: &mut Lines, input: &mut I) -> Result<u3
     ensures opened { IfOk result (IsOpened (I.remaining input.old)
         (prepend_known lines.new.waiting (I.remaining input.new))) }
     ensures known { IfOk result IsVersion }
-    ensures fault { IfErr result (IsHeaderFault (I.remaining input.old)) }
+    ensures fault { IfErr result (IsHeaderFault (I.remaining input.old) (I.remaining input.new)) }
+    ensures few { OnOk result (length lines.new.waiting ≤ most_read_bytes) }
 {
     let _ = lines.next(input)?;
     match version_on(alloc, lines.line())? {
@@ -82,7 +88,8 @@ fn answer_lines<I: Read, O: Write>(
     ensures all { OnOk result (FromSoFar (prepend_known lines.old.waiting (I.remaining input.old)) (O.contents out.old)
         2 stepping.old (λ given before. WroteAll given before (O.contents out.new))) }
     ensures fault { IfErr result (λ fault. FromSoFar (prepend_known lines.old.waiting (I.remaining input.old))
-        (O.contents out.old) 2 stepping.old (λ given before. LeavesBy given before (O.contents out.new) fault)) }
+        (O.contents out.old) 2 stepping.old
+        (λ given before. LeavesBy given (I.remaining input.new) before (O.contents out.new) fault)) }
 {
     'lines: for number in 2..u64::MAX {
         if !answer_next(stepping, number, lines, input, out)? {
@@ -109,7 +116,7 @@ fn answer_next<I: Read, O: Write>(
         (λ given before. WroteAll given before (O.contents out.new))) }
     ensures fault { IfErr result (λ fault. FromSoFar
         (prepend_known lines.old.waiting (I.remaining input.old)) (O.contents out.old) number stepping.old
-        (λ given before. LeavesBy given before (O.contents out.new) fault)) }
+        (λ given before. LeavesBy given (I.remaining input.new) before (O.contents out.new) fault)) }
 {
     match lines.next(input) {
         Ok(true) => {

@@ -41,7 +41,8 @@ pub fn run_order<I: Read, O: Write, E: Write>(
     out: &mut O,
     err: &mut E,
 ) -> u8
-    ensures { EndsBy result order (I.remaining input.old) (O.contents out.old) (O.contents out.new) }
+    ensures { EndsBy result order (I.remaining input.old) (I.remaining input.new) (O.contents out.old)
+        (O.contents out.new) }
 {
     match order {
         Order::Answers => match answer_all(alloc, input, out) {
