@@ -1,4 +1,5 @@
 pub mod InOrder
+pub mod CarriedRun
 pub mod Folded
 pub mod FirstAnswer
 pub mod Orders

@@ -4,3 +4,5 @@ pub mod LeftOpen
 pub mod Judged
 pub mod Placed
 pub mod Status
+pub mod Carried
+pub mod Words

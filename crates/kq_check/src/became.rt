@@ -1,5 +1,8 @@
 //! What one record did to one kevent.
 
+ghost use Rattle.std.specs.Prelude.{◌≡◌};
+ghost use Rattle.kq_check.specs.Words.{step_text};
+
 use kq_knote::Knote;
 use kq_model::{Event, Filter};
 
@@ -41,7 +44,9 @@ pub enum Step {
 
 impl Step {
     /// The words for it.
-    pub fn text(self) -> &'static str {
+    pub fn text(self) -> &'static str
+        ensures { result.now ≡ step_text self }
+    {
         match self {
             Step::RegisteredReady => "registered, the condition held: put at the back",
             Step::Registered => "registered, the condition did not hold",

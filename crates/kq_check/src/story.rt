@@ -1,7 +1,15 @@
 //! The run up to one call, with what some kevents of its kqueue went through.
 
-ghost use Rattle.std.specs.Prelude.{◌≡◌, ◌+◌, ◌-◌, ◌^◌, ◌<◌, ◌≤◌, IfOk, IfSome, OnOk};
+ghost use Rattle.std.specs.Prelude.{◌≡◌, ◌+◌, ◌-◌, ◌^◌, ◌<◌, ◌≤◌, IfOk, IfSome, MatchOption, OnOk, length, take};
+ghost use Rattle.std.specs.Option.{option_map};
+ghost use Rattle.kq_model.specs.declared.event.Event.TheVariants as event_of;
+ghost use Rattle.kq_model.specs.System.{step};
 ghost use Rattle.kq_process.specs.World.{last_of};
+ghost use Rattle.kq_system.specs.Beginning.{IsBeginning, IsStepSoFar};
+ghost use Rattle.kq_system.specs.SystemState.{system_of};
+ghost use Rattle.kq_check.specs.Carried.{AreCarried, IsCallCarried, IsCarried, IsNoCall, IsReadOn, IsRunBefore};
+ghost use Rattle.kq_check.specs.Carried.{record_at};
+ghost use Rattle.kq_check.specs.Replies.{behind_place, given_at};
 
 use crate::became::{Part, name_of};
 use crate::history::History;
@@ -32,6 +40,8 @@ pub struct Story<'r> {
 pub fn event_at(trace: &Trace, at: u64) -> Option<&Event>
     ensures place { IfSome result (λ _. at < 2 ^ 31) }
     ensures positive { IfSome result (λ _. 0 < at) }
+    ensures within { IfSome result (λ _. at ≤ length trace.now.events) }
+    ensures there { option_map (λ e. e.now) result ≡ record_at at trace.now.events }
 {
     let events = trace.events.as_slice();
     if at == 0 || at > events.len() as u64 {
@@ -41,7 +51,10 @@ pub fn event_at(trace: &Trace, at: u64) -> Option<&Event>
 }
 
 /// The call that a record is, and its changes; none for another record.
-pub fn call_of(event: &Event) -> Option<(Call, &[Change])> {
+pub fn call_of(event: &Event) -> Option<(Call, &[Change])>
+    ensures { MatchOption result (IsNoCall event.now)
+        (λ call. event.now ≡ event_of.Kevent call.0.pid call.0.fd call.1.now call.0.room) }
+{
     match event {
         Event::Kevent {
             pid,
@@ -72,7 +85,11 @@ pub fn story_before<'r>(
 ) -> Result<Box<Story<'r>>, Memory>
     requires small { at < 2 ^ 31 }
     requires positive { 0 < at }
-    ensures { IfOk result (λ story. story.value.system.applied < at) }
+    ensures applied { IfOk result (λ story. story.value.system.applied < at) }
+    ensures all { IfOk result (λ story. at ≤ length trace.now.events → story.value.system.applied + 1 ≡ at) }
+    ensures run { IfOk result (λ story. IsRunBefore ignored.now trace.now.version trace.now.events answers.now at
+        (system_of story.value.system) story.value.rest.now) }
+    ensures ignored { IfOk result (λ story. story.value.ignored.now ≡ ignored.now) }
 {
     let story = Story {
         alloc,
@@ -91,11 +108,17 @@ impl<'r> Story<'r> {
     /// Carries out the records before a place, where none was carried out yet.
     fn go_on_before(&mut self, trace: &Trace, at: u64) -> Result<(), Memory>
         requires small { at < 2 ^ 31 }
-        requires before { self.old.system.applied < at }
+        requires positive { 0 < at }
+        requires none { self.old.system.applied ≡ 0 }
         requires world { last_of self.old.world ≤ self.old.system.applied }
-        ensures { OnOk result (self.new.system.applied < at) }
+        ensures applied { OnOk result (self.new.system.applied < at) }
+        ensures all { OnOk result (at ≤ length trace.now.events → self.new.system.applied + 1 ≡ at) }
+        ensures run { OnOk result (AreCarried self.old.ignored.now 1 (system_of self.old.system)
+            (take (at - 1) trace.now.events) self.old.rest.now (system_of self.new.system) self.new.rest.now) }
+        ensures ignored { OnOk result (self.new.ignored.now ≡ self.old.ignored.now) }
     {
-        'records: for event in trace.events.as_slice() {
+        let events = trace.events.as_slice();
+        'records: for event in events {
             if self.system.applied() + 1 >= at {
                 return Ok(());
             }
@@ -110,16 +133,44 @@ impl<'r> Story<'r> {
         requires world { last_of self.old.world ≤ self.old.system.applied }
         ensures applied { OnOk result (self.new.system.applied ≡ self.old.system.applied + 1) }
         ensures world { OnOk result (last_of self.new.world ≤ self.new.system.applied) }
+        ensures carried { OnOk result (IsCarried self.old.ignored.now (self.old.system.applied + 1) event.now
+            (given_at (self.old.system.applied + 1) self.old.rest.now)
+            (system_of self.old.system) (system_of self.new.system)) }
+        ensures rest { OnOk result
+            (self.new.rest.now ≡ behind_place (self.old.system.applied + 1) self.old.rest.now) }
+        ensures ignored { OnOk result (self.new.ignored.now ≡ self.old.ignored.now) }
     {
         let (given, behind) = answer_at(self.rest, self.system.applied() + 1);
         self.rest = behind;
-        let Some((call, changes)) = call_of(event) else {
-            return self.carry_out(event);
-        };
-        if self.begin(call, changes)?.is_none() {
-            let _ = self.read(call, given)?;
+        match call_of(event) {
+            Some((call, changes)) => self.go_on_call(call, changes, given),
+            None => self.carry_out(event),
         }
-        Ok(())
+    }
+
+    /// Carries out a call.
+    fn go_on_call(
+        &mut self,
+        call: Call,
+        changes: &[Change],
+        given: Option<&Given>,
+    ) -> Result<(), Memory>
+        requires few { self.old.system.applied < 2 ^ 31 - 1 }
+        ensures applied { OnOk result (self.new.system.applied ≡ self.old.system.applied + 1) }
+        ensures world { self.new.world ≡ self.old.world }
+        ensures carried { OnOk result (IsCallCarried self.old.ignored.now (self.old.system.applied + 1)
+            call.pid call.fd changes.now call.room (option_map (λ g. g.now) given.entry)
+            (system_of self.old.system) (system_of self.new.system)) }
+        ensures rest { self.new.rest.now ≡ self.old.rest.now }
+        ensures ignored { self.new.ignored.now ≡ self.old.ignored.now }
+    {
+        match self.begin(call, changes)? {
+            Some(_) => Ok(()),
+            None => {
+                let _ = self.read(call, given)?;
+                Ok(())
+            }
+        }
     }
 
     /// Carries out a record that is no call.
@@ -128,6 +179,10 @@ impl<'r> Story<'r> {
         requires world { last_of self.old.world ≤ self.old.system.applied }
         ensures applied { OnOk result (self.new.system.applied ≡ self.old.system.applied + 1) }
         ensures world { OnOk result (last_of self.new.world ≤ self.new.system.applied) }
+        ensures carried { OnOk result (system_of self.new.system
+            ≡ (step (self.old.system.applied + 1) event.now (system_of self.old.system)).system) }
+        ensures rest { self.new.rest.now ≡ self.old.rest.now }
+        ensures ignored { self.new.ignored.now ≡ self.old.ignored.now }
     {
         let effect = self.world.apply(self.system.applied() + 1, event)?;
         let told = self
@@ -142,6 +197,13 @@ impl<'r> Story<'r> {
         requires { self.old.system.applied < 2 ^ 31 - 1 }
         ensures applied { OnOk result (self.new.system.applied ≡ self.old.system.applied + 1) }
         ensures world { self.new.world ≡ self.old.world }
+        ensures begun { IfOk result (IsBeginning (self.old.system.applied + 1)
+            (event_of.Kevent call.pid call.fd changes.now call.room)
+            (system_of self.old.system) (system_of self.new.system)) }
+        ensures steps { IfOk result (IsStepSoFar (self.old.system.applied + 1) call.pid call.fd changes.now call.room
+            (system_of self.old.system) (system_of self.new.system)) }
+        ensures rest { self.new.rest.now ≡ self.old.rest.now }
+        ensures ignored { self.new.ignored.now ≡ self.old.ignored.now }
     {
         let told = self.history.told_by_changes(self.alloc, call, changes)?;
         let reply = self
@@ -156,6 +218,11 @@ impl<'r> Story<'r> {
     pub fn read(&mut self, call: Call, given: Option<&Given>) -> Result<Reply, Memory>
         ensures applied { OnOk result (self.new.system.applied ≡ self.old.system.applied) }
         ensures world { self.new.world ≡ self.old.world }
+        ensures read { IfOk result (λ reply. IsReadOn self.old.ignored.now self.old.system.applied
+            call.pid call.fd call.room (option_map (λ g. g.now) given.entry)
+            (system_of self.old.system) reply (system_of self.new.system)) }
+        ensures rest { self.new.rest.now ≡ self.old.rest.now }
+        ensures ignored { self.new.ignored.now ≡ self.old.ignored.now }
     {
         let _ = arrange(self.alloc, &mut self.system, call, given, self.ignored)?;
         let told = self.history.looked_at(self.alloc, &self.system, call)?;
