@@ -59,7 +59,7 @@ same_as_itself ignored [] = tt
 same_as_itself ignored (e ∷ events) =
     (record { key = refl; members = λ member compared. agree_on_itself member e }, same_as_itself ignored events)
 
-same-keys : (ignored : List Ignored) (xs ys : List Kevent) → AreSame ignored xs ys
+pub same-keys : (ignored : List Ignored) (xs ys : List Kevent) → AreSame ignored xs ys
     → map key_of_event xs ≡ map key_of_event ys
 same-keys ignored [] [] same = refl
 same-keys ignored [] (y ∷ ys) same = absurd same
@@ -219,7 +219,7 @@ given-right ignored views kq (x ∷ events) (y ∷ own) sound within due same = 
 )
 
 -- the kqueue in another order is as sound
-IsSound-ordered : (kq : Kqueue) (order : List Key) → IsSound kq → AreOnce order
+pub IsSound-ordered : (kq : Kqueue) (order : List Key) → IsSound kq → AreOnce order
     → ((key : Key) → has_key key kq.queue ≡ has_key key order) → IsSound (record kq { queue = order })
 IsSound-ordered kq order sound once same = record {
   own_keys = sound.own_keys;

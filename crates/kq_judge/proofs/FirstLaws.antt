@@ -33,7 +33,7 @@ unfolding turned_at
 found-event views kq None = refl
 found-event views kq (Some k) = looked-event views k kq (look views k)
 
-turn-event : (views : Views) (front : Key) (kq : Kqueue)
+pub turn-event : (views : Views) (front : Key) (kq : Kqueue)
     → (turned views front kq).event ≡ event_due views kq.knotes front
 unfolding turned
 turn-event views front kq = found-event views kq (find_knote front kq.knotes)
@@ -52,7 +52,7 @@ found-other views front key kq (Some k) found apart =
     looked-other views key k kq (look views k)
     (ap (λ o. key_eq o key) (sym (find_knote-key front kq.knotes k found)) ∙ apart)
 
-turn-other : (views : Views) (front key : Key) (kq : Kqueue) → key_eq front key ≡ false
+pub turn-other : (views : Views) (front key : Key) (kq : Kqueue) → key_eq front key ≡ false
     → find_knote key (turned views front kq).kq.knotes ≡ find_knote key kq.knotes
 unfolding turned
 turn-other views front key kq apart = found-other views front key kq (find_knote front kq.knotes) refl apart

@@ -7,3 +7,8 @@ pub mod JudgeLaws
 pub mod VerdictLaws
 pub mod LookedLaws
 pub mod WorkedAnswers
+pub mod Telling
+pub mod Alike
+pub mod AlikeTurns
+pub mod AlikeChanges
+pub mod AlikeHints
