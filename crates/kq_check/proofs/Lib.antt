@@ -5,3 +5,7 @@ pub mod FirstAnswer
 pub mod Orders
 pub mod PlainSteps
 pub mod Unanswered
+pub mod AlikeSystems
+pub mod AlikeSteps
+pub mod AlikeReads
+pub mod AnyOrder

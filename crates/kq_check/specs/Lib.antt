@@ -6,3 +6,4 @@ pub mod Placed
 pub mod Status
 pub mod Carried
 pub mod Words
+pub mod AnyOrder

@@ -3,6 +3,7 @@
 ghost use Rattle.std.specs.Prelude.{◌≡◌, ◌+◌, ◌-◌, ◌^◌, ◌<◌, List, [], None, Some, IfOk, OnOk};
 ghost use Rattle.std.specs.Option.{option_map};
 ghost use Rattle.kq_system.specs.SystemState.{system_of};
+ghost use Rattle.kq_check.specs.AnyOrder.{IsOutcomeInAnyOrder};
 ghost use Rattle.kq_check.specs.Judged.{IsJudged, IsJudgedFrom, IsNext, ended};
 ghost use Rattle.kq_check.specs.Replies.{behind_place, given_at};
 ghost use Rattle.kq_check.specs.LeftOpen.{opened, opened_by, opened_in};
@@ -283,7 +284,11 @@ pub fn judge_all(
     ignored: &[Ignored],
     permits: bool,
 ) -> Result<Outcome, Memory>
-    ensures { IfOk result (IsJudged ignored.now permits trace.now.version trace.now.events answers.now) }
+    ensures judged { IfOk result (IsJudged ignored.now permits trace.now.version trace.now.events answers.now) }
+
+    // Where each call has its answer, one that goes on from any order that gives an answer comes to the same.
+    ensures any_order { IfOk result
+        (IsOutcomeInAnyOrder ignored.now permits trace.now.version trace.now.events answers.now) }
 {
     let empty = System::new(alloc, trace.version)?;
     let mut system = Box::new(alloc, empty)?;
