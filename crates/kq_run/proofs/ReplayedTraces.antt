@@ -8,7 +8,7 @@ use Rattle.kq_model.specs.Reading.{Good, reading}
 use Rattle.kq_model.specs.Report.{report, report_of}
 use Rattle.kq_model.specs.System.{rows}
 use Rattle.kq_model.proofs.VersionOne.{report-version_one}
-use Rattle.kq_history.specs.Traced.{Traced, births_of, places_of}
+use Rattle.kq_projection.specs.Traced.{Traced, births_of, places_of}
 use Rattle.kq_trace.specs.declared.fault.TraceError.{TraceError}
 use Rattle.kq_trace.specs.declared.fault.TraceError.TheVariants as error
 use Rattle.kq_trace.specs.Blocks.{IsInputFault as IsTraceInputFault}

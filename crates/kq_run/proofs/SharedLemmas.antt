@@ -18,7 +18,7 @@ use Rattle.kq_merge.proofs.WrittenRows.{nothing_is, report-is}
 use Rattle.kq_system.specs.declared.sharing.Share.{Share}
 use Rattle.kq_system.specs.Sharing.{ShareState}
 use Rattle.kq_system.proofs.RowLemmas.{rows-begin}
-use Rattle.kq_history.specs.Traced.{births_of}
+use Rattle.kq_projection.specs.Traced.{births_of}
 use Rattle.std.specs.Prelude.{slice_get}
 use Rattle.kq_shares.specs.Going.{events_in}
 use Rattle.kq_shares.specs.Births.{births_after}

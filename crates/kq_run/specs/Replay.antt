@@ -5,7 +5,7 @@ use Rattle.kq_model.specs.declared.event.Event.{Event}
 use Rattle.kq_model.specs.Reading.{Good, Bad, reading}
 use Rattle.kq_model.specs.Report.{report, report_of}
 use Rattle.kq_model.specs.VersionOne as one
-use Rattle.kq_history.specs.Traced.{births_of}
+use Rattle.kq_projection.specs.Traced.{births_of}
 use Rattle.kq_trace.specs.Source.{Ahead, WereGiven, Had as HadAhead}
 use Rattle.kq_run.specs.Workers.{IsWorkerCount}
 use Rattle.kq_run.specs.declared.fault.Fault.{Fault}

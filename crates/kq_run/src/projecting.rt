@@ -6,10 +6,9 @@ ghost use Rattle.kq_run.specs.Replay.{IsReplayFault};
 ghost use Rattle.kq_run.specs.Workers.{IsWorkerCount};
 
 use crate::fault::Fault;
-use kq_history::Split;
 use kq_merge::merge;
 use kq_model::{Row, Trace};
-use kq_replay::{RunFault, replay_all_with};
+use kq_projection::{RunFault, Split, replay_all_with};
 use kq_threads::{Gate, Starts};
 use std::sync::Wait;
 use std::thread::Threads;

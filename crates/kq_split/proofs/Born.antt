@@ -12,12 +12,12 @@ use Rattle.kq_model.specs.Objects.{Keeping}
 use Rattle.kq_model.specs.Objects as objects
 use Rattle.kq_model.specs.Plans.{plan}
 use Rattle.kq_model.specs.World.{Call, World, Planned, Impossible, Possible, empty_world, seen_world}
-use Rattle.kq_history.specs.declared.item.Item.{Item}
-use Rattle.kq_history.specs.Private.{IsPrivate}
-use Rattle.kq_history.specs.Sayings.{SaysBy, born_of, call_of, clock_of}
-use Rattle.kq_history.specs.Traced.{Traced, births_of, event_at, IsBorn}
-use Rattle.kq_history.proofs.PrivateOf.{owner-born}
-use Rattle.kq_history.proofs.Sayings.{says}
+use Rattle.kq_projection.specs.declared.history.item.Item.{Item}
+use Rattle.kq_projection.specs.Private.{IsPrivate}
+use Rattle.kq_projection.specs.Sayings.{SaysBy, born_of, call_of, clock_of}
+use Rattle.kq_projection.specs.Traced.{Traced, births_of, event_at, IsBorn}
+use Rattle.kq_projection.proofs.PrivateOf.{owner-born}
+use Rattle.kq_projection.proofs.Sayings.{says}
 
 -- of the events from this place on: the record of the birth
 pub record IsMade (place : ℕ) (es : List Event) (b : Birth) : Type 0 where

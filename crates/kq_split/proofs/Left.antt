@@ -4,7 +4,7 @@ use Rattle.std.specs.Prelude.{OnErr}
 use Rattle.std.specs.Io.KnownBytes.{Appends}
 use Rattle.std.proofs.KnownBytes.{Keeps-refl}
 use Rattle.kq_model.specs.declared.trace.Trace.{Trace}
-use Rattle.kq_history.specs.Traced.{traced}
+use Rattle.kq_projection.specs.Traced.{traced}
 use Rattle.kq_split.specs.Texts.{IsText}
 use Rattle.kq_split.specs.Written.{IsInputFault, IsRead, IsTextFault, LeavesBy}
 use Rattle.kq_split.specs.declared.fault.Fault.{Fault}

@@ -8,8 +8,8 @@ use Rattle.kq_model.specs.declared.object.Hint.TheVariants as hint
 use Rattle.kq_model.specs.declared.object.Target.{Target}
 use Rattle.kq_model.specs.declared.object.Target.TheVariants as target
 use Rattle.kq_model.specs.Spelling.{line_text, natural}
-use Rattle.kq_history.specs.declared.item.Item.{Item}
-use Rattle.kq_history.specs.declared.item.What.TheVariants.{Closed, Told, Clocked, Called}
+use Rattle.kq_projection.specs.declared.history.item.Item.{Item}
+use Rattle.kq_projection.specs.declared.history.item.What.TheVariants.{Closed, Told, Clocked, Called}
 use Rattle.kq_split.specs.Lines.{call_count, hint_data, kqueue_line, target_data, what_line}
 
 pub close-is : (place pid number : ℕ) → what_line place (Closed pid number)

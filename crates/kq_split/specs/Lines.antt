@@ -7,9 +7,9 @@ use Rattle.kq_model.specs.declared.object.Hint.TheVariants as hint
 use Rattle.kq_model.specs.declared.object.Target.{Target}
 use Rattle.kq_model.specs.declared.object.Target.TheVariants as target
 use Rattle.kq_model.specs.Spelling.{line_text, natural}
-use Rattle.kq_history.specs.declared.item.Item.{Item}
-use Rattle.kq_history.specs.declared.item.What.{What}
-use Rattle.kq_history.specs.declared.item.What.TheVariants as what
+use Rattle.kq_projection.specs.declared.history.item.Item.{Item}
+use Rattle.kq_projection.specs.declared.history.item.What.{What}
+use Rattle.kq_projection.specs.declared.history.item.What.TheVariants as what
 
 -- ---- items
 

@@ -7,10 +7,10 @@ use Rattle.kq_model.specs.Objects as objects
 use Rattle.kq_model.specs.OwnedRows.{rows_of}
 use Rattle.kq_model.specs.Projection.{folded}
 use Rattle.kq_model.specs.Report.{row_lines}
-use Rattle.kq_history.specs.declared.item.Item.{Item}
-use Rattle.kq_history.specs.Concerned.{private_items}
-use Rattle.kq_history.specs.Private.{IsPrivate}
-use Rattle.kq_history.specs.Traced.{Traced, births_of, moments_of, places_of, IsBorn}
+use Rattle.kq_projection.specs.declared.history.item.Item.{Item}
+use Rattle.kq_projection.specs.Concerned.{private_items}
+use Rattle.kq_projection.specs.Private.{IsPrivate}
+use Rattle.kq_projection.specs.Traced.{Traced, births_of, moments_of, places_of, IsBorn}
 use Rattle.kq_text.specs.Adds.{Adds}
 use Rattle.kq_split.specs.Lines.{item_lines, kqueue_line}
 use Rattle.kq_split.specs.declared.wanted.Wanted.{Wanted}

@@ -3,7 +3,7 @@ use Rattle.std.specs.Prelude.{◌≡◌, ◌≤◌, ℕ, List, ◌++◌, length,
 use Rattle.std.specs.Io.KnownBytes.{Appends, Keeps}
 use Rattle.kq_model.specs.declared.trace.Trace.{Trace}
 use Rattle.kq_model.specs.Reading.{Good, Bad, reading}
-use Rattle.kq_history.specs.Traced.{Traced, traced, IsBorn}
+use Rattle.kq_projection.specs.Traced.{Traced, traced, IsBorn}
 use Rattle.kq_trace.specs.Source.{WereGiven}
 use Rattle.kq_split.specs.Texts.{IsText}
 use Rattle.kq_split.specs.declared.fault.Fault.{Fault}

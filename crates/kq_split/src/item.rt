@@ -1,12 +1,12 @@
 //! The line of an item of a private list.
 ghost use Rattle.std.specs.Prelude.{◌++◌, codes, OnOk};
 ghost use Rattle.serde_json.specs.Written.{compact_text};
-ghost use Rattle.kq_history.specs.declared.item.What.TheVariants as what_of;
+ghost use Rattle.kq_projection.specs.declared.history.item.What.TheVariants as what_of;
 ghost use Rattle.kq_text.specs.Adds.{Adds};
 ghost use Rattle.kq_split.specs.Lines.{hint_data, item_line, target_data, what_line};
 
-use kq_history::{Item, What};
 use kq_model::{Hint, Memory, Target};
+use kq_projection::{Item, What};
 use kq_text::{put, put_number};
 
 /// Adds the line of an item.

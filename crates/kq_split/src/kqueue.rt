@@ -1,13 +1,13 @@
 //! The line of a kqueue.
 ghost use Rattle.std.specs.Prelude.{◌≡◌, ◌≤◌, ℕ, OnOk, Some};
 ghost use Rattle.kq_model.specs.declared.event.Event.TheVariants as event_of;
-ghost use Rattle.kq_history.specs.Traced.{event_at, IsBorn};
+ghost use Rattle.kq_projection.specs.Traced.{event_at, IsBorn};
 ghost use Rattle.kq_text.specs.Adds.{Adds};
 ghost use Rattle.kq_split.specs.Lines.{call_count, calls_in, kqueue_line};
 ghost use Rattle.kq_split.specs.Texts.{AddsKqueueLine};
 
-use kq_history::{Item, Split, What};
 use kq_model::{Event, Memory};
+use kq_projection::{Item, Split, What};
 use kq_text::{put, put_number};
 
 /// Adds the line of the kqueue that was made at a place.

@@ -1,16 +1,15 @@
 //! What is printed of a trace that was split.
 ghost use Rattle.std.specs.Prelude.{◌≡◌, IfOk};
 ghost use Rattle.kq_model.specs.Report.{row_lines};
-ghost use Rattle.kq_history.specs.Traced.{places_of, IsBorn};
+ghost use Rattle.kq_projection.specs.Traced.{places_of, IsBorn};
 ghost use Rattle.kq_split.specs.Lines.{item_lines};
 ghost use Rattle.kq_split.specs.Texts.{rows_text, AreKqueueLines, IsItemsText};
 
 use crate::item::put_item;
 use crate::kqueue::put_kqueue;
-use kq_history::{Item, Split};
 use kq_merge::put_reply;
 use kq_model::{Memory, Row};
-use kq_replay::Replay;
+use kq_projection::{Item, Replay, Split};
 use std::alloc::Global;
 
 /// A line for each kqueue, in the order of their birth.

@@ -1,6 +1,6 @@
 //! A trace that is read, split, and printed.
 ghost use Rattle.std.specs.Prelude.{◌↔◌, IfErr, IfOk, IsTrue, OnOk};
-ghost use Rattle.kq_history.specs.Traced.{traced, IsBorn};
+ghost use Rattle.kq_projection.specs.Traced.{traced, IsBorn};
 ghost use Rattle.kq_split.specs.Texts.{IsText};
 ghost use Rattle.kq_split.specs.Written.{IsInputFault, IsRead, IsTextFault, LeavesBy, Writes};
 
@@ -8,8 +8,8 @@ use crate::fault::Fault;
 use crate::listing::{items_text, kqueues_text, rows_text};
 use crate::output::write_out;
 use crate::wanted::Wanted;
-use kq_history::Split;
 use kq_model::{Series, Trace};
+use kq_projection::Split;
 use kq_trace::{Input, Kept, read_trace_into};
 use std::alloc::Global;
 use std::io::{Read, Write};

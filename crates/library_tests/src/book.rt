@@ -3,7 +3,7 @@ use bitflags::Flags;
 use kq_live::{Book, live_run};
 use kq_merge::report_text;
 use kq_model::{Change, EvFlags, Event, Filter, Memory, Row, Series, Trace};
-use kq_replay::RunFault;
+use kq_projection::RunFault;
 use kq_threads::{Always, Open};
 use replayed_book::replayed_rows;
 use std::alloc::Global;

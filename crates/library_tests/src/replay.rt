@@ -1,11 +1,10 @@
 //! The rows of each kqueue, by any number of workers.
-ghost use Rattle.kq_history.specs.Traced.{IsBorn};
+ghost use Rattle.kq_projection.specs.Traced.{IsBorn};
 
 use crate::dup::dup_over;
 use crate::gates::{Meeting, Without};
-use kq_history::Split;
 use kq_model::{Memory, Reply, Row, Rows, Trace};
-use kq_replay::{Replay, RunFault, replay_all, replay_all_with};
+use kq_projection::{Replay, RunFault, Split, replay_all, replay_all_with};
 use kq_threads::{Always, Gate, Open, Starts};
 use std::alloc::Global;
 use std::process::Abort;

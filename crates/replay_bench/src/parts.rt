@@ -2,10 +2,9 @@
 
 use crate::watch::Watch;
 use anyhow::Context;
-use kq_history::Split;
 use kq_merge::{merge, report_text};
 use kq_model::{Row, Trace};
-use kq_replay::replay_all;
+use kq_projection::{Split, replay_all};
 use kq_threads::Open;
 use kq_trace::read_trace_with;
 use std::alloc::AllocError;

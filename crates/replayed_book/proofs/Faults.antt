@@ -2,7 +2,7 @@
 use Rattle.std.proofs.Common.{◌≡◌, ◌<◌, ◌⊎◌, ℕ, Result, Ok, Err, IfErr, subst}
 use Rattle.std.specs.Result.{IsErrAnd}
 use Rattle.kq_jobs.specs.Outcomes.{IsRunFault}
-use Rattle.kq_replay.specs.declared.RunFault.{RunFault}
+use Rattle.kq_projection.specs.declared.RunFault.{RunFault}
 
 -- want of memory says nothing of the number of workers
 pub memory_is_no_count : {A : Type 0} (r : Result A RunFault) (P : Type 0) → IsErrAnd r (λ f. f ≡ RunFault.Memory) → IfErr r (λ f. f ≡ RunFault.Workers → P)

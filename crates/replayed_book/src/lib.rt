@@ -6,11 +6,10 @@
 ghost use Rattle.std.specs.Prelude.{◌≡◌, ◌<◌, ◌⊎◌, IfErr, IfOk};
 ghost use Rattle.kq_model.specs.System.{rows};
 
-use kq_history::Split;
 use kq_live::Book;
 use kq_merge::merge;
 use kq_model::Row;
-use kq_replay::{RunFault, replay_all};
+use kq_projection::{RunFault, Split, replay_all};
 use kq_threads::Open;
 use std::sync::Wait;
 use std::thread::Threads;

@@ -3,9 +3,9 @@ use Rattle.std.proofs.Common.{◌≡◌, ◌∙◌, ◌<◌, ◌⊎◌, List, le
 use Rattle.kq_model.specs.declared.row.Row.{Row}
 use Rattle.kq_model.specs.System.{rows}
 use Rattle.kq_model.proofs.Results.{error_passed}
-use Rattle.kq_history.specs.Traced.{Traced, places_of, plain_rows_of}
+use Rattle.kq_projection.specs.Traced.{Traced, places_of, plain_rows_of}
 use Rattle.kq_merge.specs.ByPlace.{IsOnlyOrder, rows_in}
-use Rattle.kq_replay.specs.declared.RunFault.{RunFault}
+use Rattle.kq_projection.specs.declared.RunFault.{RunFault}
 use Rattle.replayed_book.proofs.Faults.{memory_is_no_count, workers_are_told}
 use Rattle.replayed_book.proofs.replayed_rows.Goals as goal
 

@@ -3,7 +3,7 @@ use Rattle.std.proofs.Common.{◌≡◌, List, rules, subst}
 use Rattle.kq_model.specs.declared.row.Row.{Row}
 use Rattle.kq_model.specs.System.{rows}
 use Rattle.kq_model.proofs.Results.{error_passed}
-use Rattle.kq_history.specs.Traced.{plain_rows_of}
+use Rattle.kq_projection.specs.Traced.{plain_rows_of}
 use Rattle.kq_merge.specs.ByPlace.{IsOnlyOrder, rows_in}
 use Rattle.kq_run.specs.Replay.{IsReplayFault}
 use Rattle.kq_run.specs.declared.fault.Fault.TheVariants.{Memory}

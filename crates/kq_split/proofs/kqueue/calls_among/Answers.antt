@@ -1,7 +1,7 @@
 use Rattle.std.proofs.Common.{◌∙◌, ◌+◌, get_or, drop, sym, ap, arith}
 use Rattle.std.proofs.lemmas.List.{at_drop_more, at_drop_all}
-use Rattle.kq_history.specs.declared.item.Item.{Item}
-use Rattle.kq_history.specs.declared.item.What.TheVariants.{Closed}
+use Rattle.kq_projection.specs.declared.history.item.Item.{Item}
+use Rattle.kq_projection.specs.declared.history.item.What.TheVariants.{Closed}
 use Rattle.kq_split.specs.Lines.{call_count}
 use Rattle.kq_split.proofs.kqueue.calls_among.Goals as goal
 

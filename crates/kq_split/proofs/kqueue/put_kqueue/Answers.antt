@@ -1,7 +1,7 @@
 use Rattle.std.proofs.Common.{ℕ, List, refl, sym, subst}
 use Rattle.std.proofs.lemmas.Result.{on_ok_weaker}
-use Rattle.kq_history.specs.declared.item.Item.{Item}
-use Rattle.kq_history.specs.Private.{IsPrivate}
+use Rattle.kq_projection.specs.declared.history.item.Item.{Item}
+use Rattle.kq_projection.specs.Private.{IsPrivate}
 use Rattle.kq_split.specs.Lines.{kqueue_line}
 use Rattle.kq_split.proofs.Born.{born-record, is-birth}
 use Rattle.kq_split.proofs.kqueue.put_kqueue.Goals as goal

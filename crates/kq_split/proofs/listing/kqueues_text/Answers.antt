@@ -1,6 +1,6 @@
 use Rattle.std.proofs.Common.{◌≡◌, ◌∙◌, ◌∷◌, ◌+◌, ◌++◌, ℕ, List, [], drop, length, refl, sym, ap, subst, arith, append-nil, append_assoc}
 use Rattle.std.proofs.lemmas.List.{at_drop_more, at_drop_all}
-use Rattle.kq_history.specs.Traced.{places_of}
+use Rattle.kq_projection.specs.Traced.{places_of}
 use Rattle.kq_split.specs.Texts.{AreKqueueLines}
 use Rattle.kq_split.proofs.listing.kqueues_text.Goals as goal
 

@@ -1,6 +1,6 @@
 -- What is written, with the lines of the kqueues that are left behind it.
 use Rattle.std.proofs.Common.{◌≡◌, ◌++◌, ℕ, List, drop}
-use Rattle.kq_history.specs.Traced.{places_of}
+use Rattle.kq_projection.specs.Traced.{places_of}
 use Rattle.kq_split.specs.Texts.{AreKqueueLines}
 use Rattle.kq_split.proofs.listing.kqueues_text.Given as goal
 

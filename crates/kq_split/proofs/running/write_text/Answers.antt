@@ -1,7 +1,7 @@
 -- What was written or kept is by what the input had.
 use Rattle.std.proofs.Common.{subst, sym}
 use Rattle.std.proofs.lemmas.Result.{on_ok_weaker}
-use Rattle.kq_history.specs.Traced.{traced}
+use Rattle.kq_projection.specs.Traced.{traced}
 use Rattle.kq_model.proofs.Results.{error_passed}
 use Rattle.kq_split.specs.Texts.{IsText}
 use Rattle.kq_split.specs.Written.{LeavesBy}

@@ -1,7 +1,0 @@
-use Rattle.std.proofs.Common.{take}
-use Rattle.kq_history.specs.Sources.{call_sources, Grows}
-use Rattle.kq_history.proofs.sources.Sources.name_all.Given as goal
-
-abbrev pub invariant-loop-change : goal.invariant-loop-change
-invariant-loop-change g l =
-    Grows (call_sources (g.V.Views.sees l.views) l.pid (take l.change-index l.changes)) l.initial.self l.self

@@ -1,6 +1,0 @@
-use Rattle.std.proofs.Common.{◌≡◌, ◌++◌, take}
-use Rattle.kq_history.specs.Touched.{told_targets}
-use Rattle.kq_history.proofs.touched.push_told.Given as goal
-
-abbrev pub invariant-loop-hint : goal.invariant-loop-hint
-invariant-loop-hint l = l.targets.items ≡ l.initial.targets.items ++ told_targets (take l.hint-index l.hints)

@@ -1,9 +1,0 @@
-use Rattle.std.proofs.Common.{sym, ap, ◌∙◌}
-use Rattle.kq_replay.specs.Alone.{LoneKqueue}
-use Rattle.kq_replay.proofs.Kept.{none-closed}
-use Rattle.kq_replay.proofs.alone.Alone.close.Goals as goal
-
-pub returns-else-pid-owner : goal.returns-else-pid-owner
-returns-else-pid-owner c =
-    none-closed c.args.pid c.args.number c.args.self.now
-    (λ same. c.if-pid-owner.false (same ∙ sym (c.owner.ensures ∙ ap (λ (a : LoneKqueue). a.owner) c.self.view_is)))
