@@ -6,4 +6,6 @@ mod record_line;
 mod spell;
 mod write;
 
+pub use record_line::put_record;
+pub use spell::put_header;
 pub use write::write_trace;
