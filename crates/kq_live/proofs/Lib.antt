@@ -1,5 +1,3 @@
-pub mod Calling
-pub mod Fitting
 pub mod Replaying
 pub mod Telling
 pub mod Copying

@@ -1,5 +1,4 @@
 pub mod Replies
-pub mod Rooms
 pub mod Owners
 pub mod LiveSteps
 pub mod Lives

@@ -1,8 +1,8 @@
 //! The second copy of a reply.
 ghost use Rattle.std.specs.Prelude.{◌≡◌, ◌≤◌, length, IfOk};
-ghost use Rattle.kq_live.specs.Rooms.{HasAtMost, room_of};
+ghost use Rattle.kq_merge.specs.Rooms.{HasAtMost, room_of};
 
-use kq_model::limits::MOST_ROOM;
+use kq_merge::room_of;
 use kq_model::{Event, Kevent, Memory, Reply, Series};
 use std::alloc::Global;
 use std::marker::Model;
@@ -29,7 +29,7 @@ impl Spare {
     pub fn for_reply_to(alloc: Global, event: &Event) -> Result<Spare, Memory>
         ensures { IfOk result (λ s. room_of event.now ≤ s) }
     {
-        let kevents = Vec::with_capacity(alloc, room(event))?;
+        let kevents = Vec::with_capacity(alloc, room_of(event))?;
         Ok(Spare { kevents })
     }
 
@@ -55,15 +55,5 @@ impl Spare {
             Ok(()) => Series::from_vec(kevents),
             Err(_) => unreachable!(),
         }
-    }
-}
-
-/// How many events the reply to an event can have.
-fn room(event: &Event) -> usize
-    ensures { result ≡ room_of event.now }
-{
-    match event {
-        Event::Kevent { room, .. } if *room <= MOST_ROOM => *room as usize,
-        _ => 0,
     }
 }

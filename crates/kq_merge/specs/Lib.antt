@@ -2,4 +2,5 @@ pub mod Bounds
 pub mod ByPlace
 pub mod Chunks
 pub mod EventsText
+pub mod Rooms
 pub mod Written

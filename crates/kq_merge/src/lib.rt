@@ -5,4 +5,7 @@ mod merging;
 mod report;
 
 pub use merging::merge;
-pub use report::{ReportText, TextChunks, calls_in, events_in, put_counts, put_reply, report_text};
+pub use report::{
+    ReportText, TextChunks, answer_bound, calls_in, events_in, put_counts, put_reply, report_text,
+    room_of, write_reply_at,
+};

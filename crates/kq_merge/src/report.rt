@@ -9,9 +9,10 @@ mod line;
 mod lines;
 mod text;
 
+pub use bound::{answer_bound, room_of};
 pub use chunks::TextChunks;
 use kq_model::{Memory, Row};
-pub use line::{put_counts, put_reply};
+pub use line::{put_counts, put_reply, write_reply_at};
 use std::alloc::Global;
 pub use text::{ReportText, calls_in, events_in};
 

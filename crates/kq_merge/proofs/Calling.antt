@@ -22,7 +22,7 @@ use Rattle.kq_model.specs.Plans.{plan}
 use Rattle.kq_model.specs.Processes.{is_live, was_used}
 use Rattle.kq_model.specs.ProcessPlans.{is_signal, plan_clock, plan_clock_at, plan_exec, plan_exit, plan_fork, plan_proc, plan_sig, plan_sigset}
 use Rattle.kq_model.specs.World.{Call, Impossible, Plan, Planned, Possible, World, idle, named_by}
-use Rattle.kq_live.specs.Rooms.{room_of}
+use Rattle.kq_merge.specs.Rooms.{room_of}
 
 -- a call with at most this room
 abbrev pub CallsWithin : ℕ → Option Call → Type 0

@@ -1,5 +1,5 @@
--- How many events the reply to an event can have.
-use Rattle.std.specs.Prelude.{ℕ, ◌≤◌, length, nat_lt, if◌then◌else◌}
+-- How many events the reply to an event can have, and how many bytes its line.
+use Rattle.std.specs.Prelude.{ℕ, ◌≤◌, ◌+◌, ◌*◌, length, nat_lt, if◌then◌else◌}
 use Rattle.kq_model.specs.declared.event.Event.{Event}
 use Rattle.kq_model.specs.declared.event.Event.TheVariants.{Kevent}
 use Rattle.kq_model.specs.declared.reply.Reply.{Reply}
@@ -14,3 +14,11 @@ room_of _ = 0
 abbrev pub HasAtMost : ℕ → Reply → Type 0
 HasAtMost room (Events events) = length events ≤ room
 HasAtMost room _ = Unit {0}
+
+-- the bytes of a line with so many events
+abbrev pub bytes_for : ℕ → ℕ
+bytes_for room = 64 + 256 * room
+
+-- the line of the reply to an event has at most so many bytes
+abbrev pub answer_bound : Event → ℕ
+answer_bound event = bytes_for (room_of event)

@@ -9,7 +9,7 @@ use Rattle.kq_model.specs.declared.kevent.Kevent as kevents
 use Rattle.kq_model.specs.declared.key.Key.{Key}
 use Rattle.kq_model.specs.declared.reply.Reply.{Reply}
 use Rattle.kq_model.specs.declared.reply.Reply.TheVariants as reply
-use Rattle.kq_model.specs.Call.{Called, Processed, after, by_answer, by_entries, call, concluded, ended, entry_of, is_answered, process, returned}
+use Rattle.kq_model.specs.Call.{Processed, after, by_answer, by_entries, call, concluded, ended, entry_of, is_answered, process, returned}
 use Rattle.kq_model.specs.Caller.{Caller}
 use Rattle.kq_model.specs.Hearing.{Hearing}
 use Rattle.kq_model.specs.Kqueue.{Kqueue}
@@ -17,15 +17,16 @@ use Rattle.kq_model.specs.Moment.{Moment, called_at, caller_at, happened, moment
 use Rattle.kq_model.specs.Objects.{Keeping}
 use Rattle.kq_model.specs.Plans.{plan}
 use Rattle.kq_model.specs.Registration.{Registered, register}
+use Rattle.kq_model.specs.Report.{events_in}
 use Rattle.kq_model.specs.Retrieval.{Retrieved, after_turn, delivered, retrieval, retrieve, turned}
 use Rattle.kq_model.specs.System.{Live, System, answer, reply_to, step, step_by}
 use Rattle.kq_model.specs.Tallied as system
 use Rattle.kq_model.specs.Views.{Views}
 use Rattle.kq_model.specs.World.{Call, Impossible, Planned, Possible, seen_world}
 use Rattle.kq_model.proofs.KnoteLaws.{by_test}
-use Rattle.kq_system.specs.SystemState.{IsStep}
-use Rattle.kq_live.specs.Rooms.{HasAtMost, room_of}
-use Rattle.kq_live.proofs.Calling.{CallsWithin, PlansWithin, plan_within}
+use Rattle.kq_merge.specs.Bounds.{line_bound}
+use Rattle.kq_merge.specs.Rooms.{HasAtMost, answer_bound, bytes_for, room_of}
+use Rattle.kq_merge.proofs.Calling.{CallsWithin, PlansWithin, plan_within}
 
 weaker : (small large : ℕ) (r : Reply) → small ≤ large → HasAtMost small r → HasAtMost large r
 weaker small large reply.Done le fits = tt
@@ -153,8 +154,26 @@ module _ {S A B C D : Type 0} {h : Hearing S} {k : Keeping A B C D} where
   step_fits place e s =
       step_by_fits (room_of e) place (plan place e (seen_world s.world)) s (plan_within place e (seen_world s.world))
 
--- a reply of the system has room for at most so many events
-pub reply_fits : (place : ℕ) (e : Event) (old new : system.System) (r : Reply) (room : ℕ) → IsStep place e old new r
+-- a step of the system, as the definitions have it
+abbrev IsReplyOf : ℕ → Event → system.System → Reply → Type 0
+IsReplyOf place e old r = r ≡ (step place e old).reply
+
+-- the reply has at most so many events
+pub reply_fits : (place : ℕ) (e : Event) (old : system.System) (r : Reply) (room : ℕ) → IsReplyOf place e old r
     → room_of e ≤ room → HasAtMost room r
-reply_fits place e old new r room steps le =
-    weaker (room_of e) room r le (subst (λ (x : Reply). HasAtMost (room_of e) x) (sym steps.1) (step_fits place e old))
+reply_fits place e old r room is le =
+    weaker (room_of e) room r le (subst (λ (x : Reply). HasAtMost (room_of e) x) (sym is) (step_fits place e old))
+
+bound_by : (room : ℕ) (r : Reply) → HasAtMost room r → line_bound r ≤ bytes_for room
+unfolding events_in
+bound_by room reply.Done fits = omega arith
+bound_by room (reply.Events events) fits = omega arith
+bound_by room (reply.Failed e) fits = omega arith
+bound_by room (reply.Impossible why) fits = omega arith
+
+-- its line fits into the bytes for such a reply
+pub line_fits : (place : ℕ) (e : Event) (old : system.System) (r : Reply) (bytes : ℕ) → IsReplyOf place e old r
+    → answer_bound e ≤ bytes → line_bound r ≤ bytes
+line_fits place e old r bytes is le =
+    let fits = reply_fits place e old r (room_of e) is (omega arith) in
+    let within = bound_by (room_of e) r fits in omega arith
