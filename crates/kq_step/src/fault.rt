@@ -1,3 +1,5 @@
+//! Why not all of a trace was answered, the line that says so, and the exit status.
+
 ghost use Rattle.std.specs.Prelude.{◌≡◌};
 
 use kq_input::LinesError;

@@ -1,3 +1,5 @@
+//! One record after the other: the system, and what the last line counts.
+
 ghost use Rattle.std.specs.Prelude.{◌≡◌, ◌<◌, IfOk};
 ghost use Rattle.kq_model.specs.Limits.{IsVersion};
 ghost use Rattle.kq_step.specs.Stepping.{Standing, before_records, counts_line};
