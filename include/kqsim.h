@@ -6,7 +6,7 @@
  * A `struct kqsim` is a system of processes with descriptors and kqueues. A function tells it one thing that happened,
  * makes one call of kevent(2) in it, or asks what comes of a kqueue. docs/TRACE.md says what each record does and asks
  * for. Nothing waits and nothing is shared: each call answers at once, a system is used by one thread at a time, and
- * two systems know nothing of each other.
+ * two systems know nothing of each other. A system takes 2^31 - 1 records and no more.
  *
  * Link with libkqsim.a. It calls malloc, realloc and free. Numbers and pointers have to be of 64 bits (LP64).
  */
@@ -270,6 +270,43 @@ static inline int kqsim_kevent(struct kqsim *sim, uint32_t pid, uint32_t kq, con
     events = nevents > 0 ? events : no_events;
     number = kqsim_call(sim, pid, kq, changes, nchanges, events, nevents, n);
     kqsim_own_filters(changes, nchanges, events, *n);
+    return number;
+}
+
+/* ---- The log: what is told and what was answered, as text.
+ *
+ * From kqsim_log on, each record that is applied is a line of a trace in its canonical text (docs/TRACE.md), and each
+ * answer a line of its report (docs/REPORT.md); the header of the trace is there from the start. `kqsim replay` of the
+ * trace gives the report, as long as it has no more than 1,000,000 records. A record that is refused by KQSIM_ENOMEM,
+ * _ARGUMENT or _FULL is not logged. Memory for the lines is asked for before a record is applied, for a call as much
+ * as its room asks for. */
+
+/* Begins the log, of a system to which no record was applied yet; later, and where there was a log, it is
+ * KQSIM_ARGUMENT. */
+int kqsim_log(struct kqsim *sim);
+
+/* Ends the log by the last line of the report, which counts. From there on nothing is logged. Without a log it is
+ * KQSIM_ARGUMENT. */
+int kqsim_log_end(struct kqsim *sim);
+
+/* Take text that was logged and not taken yet: up to `room` bytes, written to `text`, which is not NULL. They give
+ * the number of bytes, 0 where there is no text left or no room. Text is kept until it is taken, or its system ends. */
+size_t kqsim_read_trace(struct kqsim *sim, char *text, size_t room);
+size_t kqsim_read_report(struct kqsim *sim, char *text, size_t room);
+
+/* What is given text: `to` is what the caller gave. Another number than 0 stops. */
+typedef int kqsim_write_text(void *to, const char *text, size_t size);
+
+/* Gives all text that was logged and not taken yet to `write`: that of the trace with `trace`, and that of the report
+ * with `report`. The number is 0, or that of the write that stopped; the text that it was given has been taken. */
+static inline int kqsim_log_to(struct kqsim *sim, kqsim_write_text *write, void *trace, void *report) {
+    char text[4096];
+    size_t size;
+    int number = 0;
+    while (number == 0 && (size = kqsim_read_trace(sim, text, sizeof text)) > 0)
+        number = write(trace, text, size);
+    while (number == 0 && (size = kqsim_read_report(sim, text, sizeof text)) > 0)
+        number = write(report, text, size);
     return number;
 }
 

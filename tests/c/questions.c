@@ -1,4 +1,4 @@
-/* Questions about a kqueue, calls with changes that are not known and in one array, and the numbers of the header.
+/* Questions about a kqueue, calls with changes that are not known and in one array, logs, and the numbers of the header.
  * It is linked with --wrap=malloc and --wrap=realloc, so that memory can fail. */
 #define KQSIM_AS_KQUEUE
 #include "kqsim.h"
@@ -190,6 +190,63 @@ static void unknown(void) {
     want(it[1].ident == 3 && it[1].data == 0 && it[2].ident == 4 && it[2].data == 0, "are receipts of these");
 }
 
+/* Whether this is all text of the trace, or of the report, that is left. */
+static int has_text(struct kqsim *it, size_t read(struct kqsim *, char *, size_t), const char *wanted) {
+    char text[256];
+    size_t n = read(it, text, sizeof text);
+    return n == strlen(wanted) && memcmp(text, wanted, n) == 0 && read(it, text, sizeof text) == 0;
+}
+
+static int stopped(void *to, const char *text, size_t size) {
+    (void)text;
+    *(size_t *)to += size;
+    return 7;
+}
+
+static void logs(void) {
+    struct kqsim *it = NULL;
+    struct kevent change;
+    char text[8];
+    size_t n;
+    want(kqsim_log(sim) == KQSIM_ARGUMENT && kqsim_log_end(sim) == KQSIM_ARGUMENT, "too late for a log");
+    want(kqsim_read_trace(sim, text, 8) == 0 && kqsim_read_report(sim, text, 8) == 0, "and none is there");
+    want(kqsim_new(2, &it) == KQSIM_OK && kqsim_log_end(it) == KQSIM_ARGUMENT, "no log to end");
+    is_short = 1;
+    want(kqsim_log(it) == KQSIM_ENOMEM && kqsim_read_trace(it, text, 8) == 0, "no memory for the header");
+    is_short = 0;
+    want(kqsim_log(it) == KQSIM_OK && kqsim_log(it) == KQSIM_ARGUMENT, "a log is begun once");
+    want(kqsim_read_trace(it, text, 5) == 5 && memcmp(text, "{\"kqs", 5) == 0, "a part of its header");
+    want(kqsim_read_trace(it, text, 0) == 0, "no room");
+    want(has_text(it, kqsim_read_trace, "im\":2}\n"), "the rest of it");
+    is_short = 1;
+    want(kqsim_proc(it, 1) == KQSIM_ENOMEM, "no memory for a record");
+    is_short = 0;
+    want(has_text(it, kqsim_read_trace, ""), "what was refused is not logged");
+    want(kqsim_proc(it, 1) == KQSIM_OK && kqsim_proc(it, 1) == KQSIM_USED_PID, "a process");
+    want(has_text(it, kqsim_read_report, "{\"at\":2,\"impossible\":\"UsedPid\"}\n"), "it is used");
+    want(has_text(it, kqsim_read_trace, "{\"op\":\"proc\",\"pid\":1}\n{\"op\":\"proc\",\"pid\":1}\n"), "twice");
+    want(kqsim_note(it, 1, 3) == KQSIM_ARGUMENT && has_text(it, kqsim_read_trace, ""), "no record");
+    want(kqsim_kqueue(it, 1, 3) == KQSIM_OK, "a kqueue");
+    want(has_text(it, kqsim_read_trace, "{\"fd\":3,\"op\":\"kqueue\",\"pid\":1}\n"), "its line");
+    EV_SET(&change, 1, EVFILT_TIMER, EV_ADD, 0, 10, NULL);
+    is_short = 1;
+    want(kqsim_kevent(it, 1, 3, &change, 1, NULL, 0, &n) == KQSIM_ENOMEM, "no memory for a call");
+    is_short = 0;
+    want(has_text(it, kqsim_read_trace, "") && has_text(it, kqsim_read_report, ""), "and no line of it");
+    want(kqsim_kevent(it, 1, 3, &change, 1, NULL, 0, &n) == KQSIM_OK, "a call");
+    want(has_text(it, kqsim_read_trace, "{\"changes\":[{\"data\":10,\"fflags\":0,\"filter\":\"TIMER\","
+         "\"flags\":[\"ADD\"],\"ident\":1,\"udata\":0}],\"fd\":3,\"op\":\"kevent\",\"pid\":1,\"room\":0}\n"), "its line");
+    want(has_text(it, kqsim_read_report, "{\"at\":4,\"events\":[]}\n"), "its answer");
+    want(kqsim_exec(it, 1) == KQSIM_OK, "a record that is not taken yet");
+    n = 0;
+    want(kqsim_log_to(it, stopped, &n, &n) == 7 && n == strlen("{\"op\":\"exec\",\"pid\":1}\n"), "a write stops");
+    want(kqsim_log_end(it) == KQSIM_OK, "the log is ended");
+    want(has_text(it, kqsim_read_report, "{\"calls\":1,\"events\":0,\"records\":5}\n"), "by its last line");
+    want(kqsim_proc(it, 2) == KQSIM_OK && has_text(it, kqsim_read_trace, ""), "nothing is logged behind the end");
+    want(kqsim_log(it) == KQSIM_ARGUMENT && kqsim_log_end(it) == KQSIM_ARGUMENT, "and none is begun again");
+    kqsim_free(it);
+}
+
 int main(void) {
     want(kqsim_new(2, &sim) == KQSIM_OK, "a system");
     want(kqsim_proc(sim, PID) == KQSIM_OK && kqsim_socket(sim, PID, SOCKET, 100, 100) == KQSIM_OK, "a process");
@@ -201,6 +258,7 @@ int main(void) {
     reasons();
     without_memory();
     unknown();
+    logs();
     kqsim_free(sim);
     printf("%d tests\n", tests);
     return 0;

@@ -1,5 +1,7 @@
 /* Replays a trace by libkqsim, and prints its report. Standard input has the version, and then a line of words for
- * each record: its name and its numbers. A call is `kevent PID FD ROOM COUNT` and six numbers for each change. */
+ * each record: its name and its numbers. A call is `kevent PID FD ROOM COUNT` and six numbers for each change.
+ *
+ *     replay [TRACE REPORT]     also logs, and writes the log to these files */
 #include <inttypes.h>
 #include <stdio.h>
 #include <stdlib.h>
@@ -163,19 +165,51 @@ static void record(struct kqsim *sim, const char *name, struct counts *counts) {
     fail("a record that is not known");
 }
 
-int main(void) {
+/* ---- the log */
+
+static FILE *trace, *report;
+
+static int write_text(void *to, const char *text, size_t size) {
+    return fwrite(text, 1, size, to) != size;
+}
+
+static void begin_log(struct kqsim *sim, char **names) {
+    trace = fopen(names[0], "wb");
+    report = fopen(names[1], "wb");
+    if (!trace || !report || kqsim_log(sim) != KQSIM_OK)
+        fail("no log");
+}
+
+static void write_log(struct kqsim *sim) {
+    if (trace && kqsim_log_to(sim, write_text, trace, report) != 0)
+        fail("the log cannot be written");
+}
+
+static void end_log(struct kqsim *sim) {
+    if (trace && kqsim_log_end(sim) != KQSIM_OK)
+        fail("the log cannot be ended");
+    write_log(sim);
+    if (trace && (fclose(trace) != 0 || fclose(report) != 0))
+        fail("the log cannot be closed");
+}
+
+int main(int argc, char **argv) {
     struct kqsim *sim = NULL;
     struct counts counts = {0, 0, 0};
     char name[16];
     if (kqsim_new((uint32_t)whole(), &sim) != KQSIM_OK)
         fail("no system");
+    if (argc == 3)
+        begin_log(sim, argv + 1);
     while (scanf("%15s", name) == 1) {
         counts.records++;
         if (!strcmp(name, "kevent"))
             call(sim, &counts);
         else
             record(sim, name, &counts);
+        write_log(sim);
     }
+    end_log(sim);
     printf("{\"calls\":%" PRIu64 ",\"events\":%" PRIu64 ",\"records\":%" PRIu64 "}\n", counts.calls, counts.events,
            counts.records);
     kqsim_free(sim);

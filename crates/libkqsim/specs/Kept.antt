@@ -32,4 +32,4 @@ abbrev pub IsNew : ℕ → Ptr → Ptr → ℤ → Option Kqsim → Type 0
 IsNew version old new number None =
     (refusal : Refusal) × (number ≡ refusal_number refusal) × (refusal ≡ Argument → IsVersion version → ⊥)
     × (new ≡ old)
-IsNew version old new number (Some handle) = (number ≡ pos 0) × IsVersion version × IsEmpty version handle.system
+IsNew version old new number (Some handle) = (number ≡ pos 0) × IsVersion version × IsEmpty version handle.state

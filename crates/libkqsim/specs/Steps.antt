@@ -19,6 +19,7 @@ use Rattle.kq_model.specs.System as model
 use Rattle.kq_model.specs.System.{step}
 use Rattle.kq_model.specs.WatchedNumbers.{AllWatchTheirNumbers}
 use Rattle.kq_system.specs.SystemState.{SystemState, IsStep, IsUnchanged, system_of}
+use Rattle.libkqsim.specs.Logs.{IsLogged, SimState}
 
 -- the records that a system takes
 abbrev pub most_records : ℕ
@@ -39,17 +40,22 @@ pub record IsAnswered (event : Event) (old new : SystemState) (answer : Result R
   pub full : answer ≡ Err Full → most_records ≤ old.applied
   pub argument : answer ≡ Err Argument → ⊥
 
--- the event is applied, and the number says with which answer
-abbrev pub IsNumbered : Event → SystemState → SystemState → ℤ → Type 0
+-- nothing has changed, and nothing is logged
+abbrev pub IsSame : SimState → SimState → Type 0
+IsSame old new = IsUnchanged old.system new.system × (new.log ≡ old.log)
+
+-- the event is applied, and logged where the log is on, and the number says with which answer
+abbrev pub IsNumbered : Event → SimState → SimState → ℤ → Type 0
 IsNumbered event old new number =
-    (answer : Result Reply Refusal) × IsAnswered event old new answer × (number ≡ number_of answer)
+    (answer : Result Reply Refusal) × IsAnswered event old.system new.system answer × IsLogged event old new answer
+    × (number ≡ number_of answer)
 
 -- nothing has changed, and the number says that an argument is none that the call takes
-abbrev pub IsNoArgument : SystemState → SystemState → ℤ → Type 0
-IsNoArgument old new number = IsUnchanged old new × (number ≡ refusal_number Argument)
+abbrev pub IsNoArgument : SimState → SimState → ℤ → Type 0
+IsNoArgument old new number = IsSame old new × (number ≡ refusal_number Argument)
 
 -- the same for a record with a choice, which a number stood for
-abbrev pub IsChosen : {X : Type 0} → Option X → (X → Event) → SystemState → SystemState → ℤ → Type 0
+abbrev pub IsChosen : {X : Type 0} → Option X → (X → Event) → SimState → SimState → ℤ → Type 0
 IsChosen None event old new number = IsNoArgument old new number
 IsChosen (Some x) event old new number = IsNumbered (event x) old new number
 
@@ -58,20 +64,21 @@ abbrev pub room_of : List CKevent → ℕ
 room_of array = if nat_lt (length array) (2 ^ 32) then length array else 2 ^ 32 - 1
 
 -- a kevent call was made with these changes, and its events are in the array and counted
-pub record IsCall (pid fd : ℕ) (changes before after : List CKevent) (old new : SystemState) (count : ℕ)
+pub record IsCall (pid fd : ℕ) (changes before after : List CKevent) (old new : SimState) (count : ℕ)
     (number : ℤ)
     : Type 0 where
   pub asked : List Change
   pub answer : Result Reply Refusal
   pub read : AreChanges changes asked
-  pub answered : IsAnswered (event_of.Kevent pid fd asked (room_of before)) old new answer
+  pub answered : IsAnswered (event_of.Kevent pid fd asked (room_of before)) old.system new.system answer
+  pub logged : IsLogged (event_of.Kevent pid fd asked (room_of before)) old new answer
   pub numbered : number ≡ number_of answer
   pub handed : after ≡ handed_out (events_of answer) before
   pub counted : count ≡ length (take (length before) (events_of answer))
 
 -- no call was made for want of memory, and nothing has changed
-pub record IsNoCall (before after : List CKevent) (old new : SystemState) (count : ℕ) (number : ℤ) : Type 0 where
-  pub unchanged : IsUnchanged old new
+pub record IsNoCall (before after : List CKevent) (old new : SimState) (count : ℕ) (number : ℤ) : Type 0 where
+  pub unchanged : IsSame old new
   pub numbered : number ≡ refusal_number Memory
   pub untouched : after ≡ before
   pub none : count ≡ 0

@@ -28,8 +28,8 @@ fn moment_number(next: Option<u64>) -> i64
 /// does.
 #[unsafe(no_mangle)]
 pub extern "C" fn kqsim_next(sim: &mut Kqsim, pid: u32, fd: u32, moment: &mut i64) -> i32
-    ensures told { IsNextTold pid fd sim.old.system moment.old moment.new result }
-    ensures same { sim.new.system ≡ sim.old.system }
+    ensures told { IsNextTold pid fd sim.old.state.system moment.old moment.new result }
+    ensures same { sim.new.state ≡ sim.old.state }
 {
     let question = Question::Next;
     match sim.ask(&Asked { pid, fd, question }) {
@@ -51,8 +51,8 @@ pub extern "C" fn kqsim_pending(
     room: u32,
     count: &mut u32,
 ) -> i32
-    ensures told { IsPendingTold pid fd room sim.old.system count.old count.new result }
-    ensures same { sim.new.system ≡ sim.old.system }
+    ensures told { IsPendingTold pid fd room sim.old.state.system count.old count.new result }
+    ensures same { sim.new.state ≡ sim.old.state }
 {
     let question = Question::Pending(room);
     match sim.ask(&Asked { pid, fd, question }) {
@@ -67,8 +67,8 @@ pub extern "C" fn kqsim_pending(
 
 /// What is registered under a key.
 fn find(sim: &mut Kqsim, pid: u32, fd: u32, key: Key, knote: &mut CKnote) -> i32
-    ensures told { IsFoundTold pid fd key sim.old.system knote.old knote.new result }
-    ensures same { sim.new.system ≡ sim.old.system }
+    ensures told { IsFoundTold pid fd key sim.old.state.system knote.old knote.new result }
+    ensures same { sim.new.state ≡ sim.old.state }
 {
     let question = Question::Registered(key);
     match sim.ask(&Asked { pid, fd, question }) {
@@ -92,8 +92,8 @@ pub extern "C" fn kqsim_find(
     filter: i16,
     knote: &mut CKnote,
 ) -> i32
-    ensures told { IsFoundBy pid fd ident filter sim.old.system knote.old knote.new result }
-    ensures same { sim.new.system ≡ sim.old.system }
+    ensures told { IsFoundBy pid fd ident filter sim.old.state.system knote.old knote.new result }
+    ensures same { sim.new.state ≡ sim.old.state }
 {
     match filter_numbered(filter) {
         Some(filter) => find(sim, pid, fd, Key { ident, filter }, knote),

@@ -1,3 +1,4 @@
+//! A call of kevent(2), for C.
 ghost use Rattle.std.specs.Prelude.{◌≡◌, ◌⊎◌, ◌<◌, length};
 ghost use Rattle.kq_freebsd.specs.Answers.{events_of};
 ghost use Rattle.libkqsim.specs.Steps.{IsCall, IsNoCall, room_of};
@@ -36,8 +37,8 @@ pub extern "C" fn kqsim_call(
     events: &mut [CKevent],
     count: &mut usize,
 ) -> i32
-    ensures { IsCall pid fd changes.now events.old events.new sim.old.system sim.new.system count.new result
-        ⊎ IsNoCall events.old events.new sim.old.system sim.new.system count.new result }
+    ensures { IsCall pid fd changes.now events.old events.new sim.old.state sim.new.state count.new result
+        ⊎ IsNoCall events.old events.new sim.old.state sim.new.state count.new result }
 {
     *count = 0;
     let changes = match changes_of(alloc, changes) {

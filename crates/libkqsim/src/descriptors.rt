@@ -1,3 +1,4 @@
+//! Records of descriptors and pipes, for C.
 ghost use Rattle.kq_model.specs.declared.event.Event.TheVariants as event_of;
 ghost use Rattle.libkqsim.specs.Steps.{IsNumbered};
 
@@ -8,7 +9,7 @@ use kq_model::Event;
 /// The record `kqueue`: a process opens a kqueue.
 #[unsafe(no_mangle)]
 pub extern "C" fn kqsim_kqueue(sim: &mut Kqsim, pid: u32, fd: u32) -> i32
-    ensures { IsNumbered (event_of.Kqueue pid fd) sim.old.system sim.new.system result }
+    ensures { IsNumbered (event_of.Kqueue pid fd) sim.old.state sim.new.state result }
 {
     record(sim, &Event::Kqueue { pid, fd })
 }
@@ -16,7 +17,7 @@ pub extern "C" fn kqsim_kqueue(sim: &mut Kqsim, pid: u32, fd: u32) -> i32
 /// The record `dup`: `to` names what `fd` names.
 #[unsafe(no_mangle)]
 pub extern "C" fn kqsim_dup(sim: &mut Kqsim, pid: u32, fd: u32, to: u32) -> i32
-    ensures { IsNumbered (event_of.Dup pid fd to) sim.old.system sim.new.system result }
+    ensures { IsNumbered (event_of.Dup pid fd to) sim.old.state sim.new.state result }
 {
     record(sim, &Event::Dup { pid, fd, to })
 }
@@ -24,7 +25,7 @@ pub extern "C" fn kqsim_dup(sim: &mut Kqsim, pid: u32, fd: u32, to: u32) -> i32
 /// The record `close`: a process closes a number.
 #[unsafe(no_mangle)]
 pub extern "C" fn kqsim_close(sim: &mut Kqsim, pid: u32, fd: u32) -> i32
-    ensures { IsNumbered (event_of.Close pid fd) sim.old.system sim.new.system result }
+    ensures { IsNumbered (event_of.Close pid fd) sim.old.state sim.new.state result }
 {
     record(sim, &Event::Close { pid, fd })
 }
@@ -32,7 +33,7 @@ pub extern "C" fn kqsim_close(sim: &mut Kqsim, pid: u32, fd: u32) -> i32
 /// The record `pipe`: a process makes a pipe that holds `cap` bytes.
 #[unsafe(no_mangle)]
 pub extern "C" fn kqsim_pipe(sim: &mut Kqsim, pid: u32, rfd: u32, wfd: u32, cap: u32) -> i32
-    ensures { IsNumbered (event_of.Pipe pid rfd wfd cap) sim.old.system sim.new.system result }
+    ensures { IsNumbered (event_of.Pipe pid rfd wfd cap) sim.old.state sim.new.state result }
 {
     record(sim, &Event::Pipe { pid, rfd, wfd, cap })
 }
@@ -40,7 +41,7 @@ pub extern "C" fn kqsim_pipe(sim: &mut Kqsim, pid: u32, rfd: u32, wfd: u32, cap:
 /// The record `read`: a process reads `n` bytes.
 #[unsafe(no_mangle)]
 pub extern "C" fn kqsim_read(sim: &mut Kqsim, pid: u32, fd: u32, n: u32) -> i32
-    ensures { IsNumbered (event_of.Read pid fd n) sim.old.system sim.new.system result }
+    ensures { IsNumbered (event_of.Read pid fd n) sim.old.state sim.new.state result }
 {
     record(sim, &Event::Read { pid, fd, n })
 }
@@ -48,7 +49,7 @@ pub extern "C" fn kqsim_read(sim: &mut Kqsim, pid: u32, fd: u32, n: u32) -> i32
 /// The record `write`: a process writes `n` bytes.
 #[unsafe(no_mangle)]
 pub extern "C" fn kqsim_write(sim: &mut Kqsim, pid: u32, fd: u32, n: u32) -> i32
-    ensures { IsNumbered (event_of.Write pid fd n) sim.old.system sim.new.system result }
+    ensures { IsNumbered (event_of.Write pid fd n) sim.old.state sim.new.state result }
 {
     record(sim, &Event::Write { pid, fd, n })
 }

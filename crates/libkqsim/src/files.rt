@@ -1,3 +1,4 @@
+//! Records of files, for C.
 ghost use Rattle.kq_freebsd.specs.Numbers.{mode_of_number, note_of_number};
 ghost use Rattle.kq_model.specs.declared.event.Event.TheVariants as event_of;
 ghost use Rattle.libkqsim.specs.Steps.{IsChosen, IsNumbered};
@@ -10,7 +11,7 @@ use kq_model::Event;
 /// The record `file`: a file is there, with so many bytes.
 #[unsafe(no_mangle)]
 pub extern "C" fn kqsim_file(sim: &mut Kqsim, file: u32, size: i64) -> i32
-    ensures { IsNumbered (event_of.File file size) sim.old.system sim.new.system result }
+    ensures { IsNumbered (event_of.File file size) sim.old.state sim.new.state result }
 {
     record(sim, &Event::File { file, size })
 }
@@ -19,7 +20,7 @@ pub extern "C" fn kqsim_file(sim: &mut Kqsim, file: u32, size: i64) -> i32
 #[unsafe(no_mangle)]
 pub extern "C" fn kqsim_open(sim: &mut Kqsim, pid: u32, fd: u32, file: u32, mode: u32) -> i32
     ensures { IsChosen (mode_of_number mode)
-        (λ mode. event_of.Open pid fd file mode) sim.old.system sim.new.system result }
+        (λ mode. event_of.Open pid fd file mode) sim.old.state sim.new.state result }
 {
     match mode_numbered(mode) {
         Some(mode) => record(
@@ -38,7 +39,7 @@ pub extern "C" fn kqsim_open(sim: &mut Kqsim, pid: u32, fd: u32, file: u32, mode
 /// The record `seek`: the offset of an open file is set.
 #[unsafe(no_mangle)]
 pub extern "C" fn kqsim_seek(sim: &mut Kqsim, pid: u32, fd: u32, offset: i64) -> i32
-    ensures { IsNumbered (event_of.Seek pid fd offset) sim.old.system sim.new.system result }
+    ensures { IsNumbered (event_of.Seek pid fd offset) sim.old.state sim.new.state result }
 {
     record(sim, &Event::Seek { pid, fd, offset })
 }
@@ -46,7 +47,7 @@ pub extern "C" fn kqsim_seek(sim: &mut Kqsim, pid: u32, fd: u32, offset: i64) ->
 /// The record `truncate`: the size of a file is set.
 #[unsafe(no_mangle)]
 pub extern "C" fn kqsim_truncate(sim: &mut Kqsim, file: u32, size: i64) -> i32
-    ensures { IsNumbered (event_of.Truncate file size) sim.old.system sim.new.system result }
+    ensures { IsNumbered (event_of.Truncate file size) sim.old.state sim.new.state result }
 {
     record(sim, &Event::Truncate { file, size })
 }
@@ -54,7 +55,7 @@ pub extern "C" fn kqsim_truncate(sim: &mut Kqsim, file: u32, size: i64) -> i32
 /// The record `note`: something else happens to a file, by the bit of EVFILT_VNODE's note.
 #[unsafe(no_mangle)]
 pub extern "C" fn kqsim_note(sim: &mut Kqsim, file: u32, note: u32) -> i32
-    ensures { IsChosen (note_of_number note) (λ note. event_of.Note file note) sim.old.system sim.new.system result }
+    ensures { IsChosen (note_of_number note) (λ note. event_of.Note file note) sim.old.state sim.new.state result }
 {
     match note_numbered(note) {
         Some(note) => record(sim, &Event::Note { file, note }),

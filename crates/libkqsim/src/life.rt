@@ -1,3 +1,4 @@
+//! A system is made and let go, for C.
 ghost use Rattle.std.specs.Prelude.{◌≡◌, IfOk, Err};
 ghost use Rattle.std.specs.Borrow.{sem};
 ghost use Rattle.kq_freebsd.specs.declared.refusal.Refusal.TheVariants.{Argument};
@@ -8,24 +9,24 @@ ghost use Rattle.libkqsim.specs.declared.handle.Kqsim.{Kqsim};
 
 use crate::handle::Kqsim;
 use crate::published::Published;
+use crate::sim::Sim;
 use kq_freebsd::{Refusal, refusal_number};
-use kq_system::System;
 use std::alloc::Global;
 
 /// An empty system on the heap.
-fn empty(alloc: Global, version: u32) -> Result<Box<System>, Refusal>
+fn empty(alloc: Global, version: u32) -> Result<Box<Sim>, Refusal>
     requires { IsVersion version }
-    ensures system { IfOk result (λ system. IsEmpty version system.value) }
+    ensures sim { IfOk result (λ sim. IsEmpty version sim.value) }
     ensures argument { result ≡ Err Argument → ⊥ }
 {
-    let system = System::new(alloc, version).map_err(|_| Refusal::Memory)?;
-    let system = Box::new(alloc, system).map_err(|_| Refusal::Memory)?;
-    Ok(system)
+    let sim = Sim::new(alloc, version).map_err(|_| Refusal::Memory)?;
+    let sim = Box::new(alloc, sim).map_err(|_| Refusal::Memory)?;
+    Ok(sim)
 }
 
 /// A handle to an empty system, on the heap.
 fn made(alloc: Global, version: u32) -> Result<Box<Kqsim>, Refusal>
-    ensures system { IfOk result (λ sim. IsEmpty version sim.value.system) }
+    ensures system { IfOk result (λ sim. IsEmpty version sim.value.state) }
     ensures version { IfOk result (λ _. IsVersion version) }
     ensures argument { result ≡ Err Argument → IsVersion version → ⊥ }
 {

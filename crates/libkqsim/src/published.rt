@@ -1,3 +1,4 @@
+//! What `kqsim_new` hands out.
 ghost use Rattle.std.specs.Prelude.{◌≡◌, pos, Option, None, Some};
 ghost use Rattle.std.specs.contracts.option.Option as option_row;
 ghost use Rattle.libkqsim.specs.contracts.handle.Kqsim as kqsim_row;

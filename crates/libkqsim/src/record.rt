@@ -1,3 +1,4 @@
+//! A record that is applied, and the number that C gets.
 ghost use Rattle.std.specs.Prelude.{◌≡◌};
 ghost use Rattle.kq_freebsd.specs.Answers.{refusal_number};
 ghost use Rattle.kq_freebsd.specs.declared.refusal.Refusal.TheVariants.{Argument};
@@ -9,7 +10,7 @@ use kq_model::Event;
 
 /// Applies a record, and gives the number of its answer.
 pub(crate) fn record(sim: &mut Kqsim, event: &Event) -> i32
-    ensures { IsNumbered event.now sim.old.system sim.new.system result }
+    ensures { IsNumbered event.now sim.old.state sim.new.state result }
 {
     let answer = sim.step(event);
     number_of(&answer)

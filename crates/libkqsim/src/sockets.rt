@@ -1,3 +1,4 @@
+//! Records of sockets, for C.
 ghost use Rattle.kq_freebsd.specs.Numbers.{side_of_number};
 ghost use Rattle.kq_model.specs.declared.event.Event.TheVariants as event_of;
 ghost use Rattle.libkqsim.specs.Steps.{IsChosen, IsNumbered};
@@ -10,7 +11,7 @@ use kq_model::Event;
 /// The record `socket`: a process makes a socket with buffers of these sizes.
 #[unsafe(no_mangle)]
 pub extern "C" fn kqsim_socket(sim: &mut Kqsim, pid: u32, fd: u32, rcv: u32, snd: u32) -> i32
-    ensures { IsNumbered (event_of.Socket pid fd rcv snd) sim.old.system sim.new.system result }
+    ensures { IsNumbered (event_of.Socket pid fd rcv snd) sim.old.state sim.new.state result }
 {
     record(sim, &Event::Socket { pid, fd, rcv, snd })
 }
@@ -18,7 +19,7 @@ pub extern "C" fn kqsim_socket(sim: &mut Kqsim, pid: u32, fd: u32, rcv: u32, snd
 /// The record `listen`: a socket takes connections.
 #[unsafe(no_mangle)]
 pub extern "C" fn kqsim_listen(sim: &mut Kqsim, pid: u32, fd: u32, backlog: u32) -> i32
-    ensures { IsNumbered (event_of.Listen pid fd backlog) sim.old.system sim.new.system result }
+    ensures { IsNumbered (event_of.Listen pid fd backlog) sim.old.state sim.new.state result }
 {
     record(sim, &Event::Listen { pid, fd, backlog })
 }
@@ -26,7 +27,7 @@ pub extern "C" fn kqsim_listen(sim: &mut Kqsim, pid: u32, fd: u32, backlog: u32)
 /// The record `arrive`: a connection arrives at a listening socket.
 #[unsafe(no_mangle)]
 pub extern "C" fn kqsim_arrive(sim: &mut Kqsim, pid: u32, fd: u32) -> i32
-    ensures { IsNumbered (event_of.Arrive pid fd) sim.old.system sim.new.system result }
+    ensures { IsNumbered (event_of.Arrive pid fd) sim.old.state sim.new.state result }
 {
     record(sim, &Event::Arrive { pid, fd })
 }
@@ -41,7 +42,7 @@ pub extern "C" fn kqsim_accept(
     rcv: u32,
     snd: u32,
 ) -> i32
-    ensures { IsNumbered (event_of.Accept pid fd to rcv snd) sim.old.system sim.new.system result }
+    ensures { IsNumbered (event_of.Accept pid fd to rcv snd) sim.old.state sim.new.state result }
 {
     record(
         sim,
@@ -58,7 +59,7 @@ pub extern "C" fn kqsim_accept(
 /// The record `connect`: a socket is connected.
 #[unsafe(no_mangle)]
 pub extern "C" fn kqsim_connect(sim: &mut Kqsim, pid: u32, fd: u32) -> i32
-    ensures { IsNumbered (event_of.Connect pid fd) sim.old.system sim.new.system result }
+    ensures { IsNumbered (event_of.Connect pid fd) sim.old.state sim.new.state result }
 {
     record(sim, &Event::Connect { pid, fd })
 }
@@ -66,7 +67,7 @@ pub extern "C" fn kqsim_connect(sim: &mut Kqsim, pid: u32, fd: u32) -> i32
 /// The record `rx`: `n` bytes come from the peer of a socket.
 #[unsafe(no_mangle)]
 pub extern "C" fn kqsim_rx(sim: &mut Kqsim, pid: u32, fd: u32, n: u32) -> i32
-    ensures { IsNumbered (event_of.Rx pid fd n) sim.old.system sim.new.system result }
+    ensures { IsNumbered (event_of.Rx pid fd n) sim.old.state sim.new.state result }
 {
     record(sim, &Event::Rx { pid, fd, n })
 }
@@ -74,7 +75,7 @@ pub extern "C" fn kqsim_rx(sim: &mut Kqsim, pid: u32, fd: u32, n: u32) -> i32
 /// The record `tx`: `n` bytes of a socket's send buffer go to its peer.
 #[unsafe(no_mangle)]
 pub extern "C" fn kqsim_tx(sim: &mut Kqsim, pid: u32, fd: u32, n: u32) -> i32
-    ensures { IsNumbered (event_of.Tx pid fd n) sim.old.system sim.new.system result }
+    ensures { IsNumbered (event_of.Tx pid fd n) sim.old.state sim.new.state result }
 {
     record(sim, &Event::Tx { pid, fd, n })
 }
@@ -83,7 +84,7 @@ pub extern "C" fn kqsim_tx(sim: &mut Kqsim, pid: u32, fd: u32, n: u32) -> i32
 #[unsafe(no_mangle)]
 pub extern "C" fn kqsim_shut(sim: &mut Kqsim, pid: u32, fd: u32, side: u32, error: u32) -> i32
     ensures { IsChosen (side_of_number side)
-        (λ side. event_of.Shut pid fd side error) sim.old.system sim.new.system result }
+        (λ side. event_of.Shut pid fd side error) sim.old.state sim.new.state result }
 {
     match side_numbered(side) {
         Some(side) => record(
@@ -103,7 +104,7 @@ pub extern "C" fn kqsim_shut(sim: &mut Kqsim, pid: u32, fd: u32, side: u32, erro
 #[unsafe(no_mangle)]
 pub extern "C" fn kqsim_lowat(sim: &mut Kqsim, pid: u32, fd: u32, side: u32, n: u32) -> i32
     ensures { IsChosen (side_of_number side)
-        (λ side. event_of.Lowat pid fd side n) sim.old.system sim.new.system result }
+        (λ side. event_of.Lowat pid fd side n) sim.old.state sim.new.state result }
 {
     match side_numbered(side) {
         Some(side) => record(sim, &Event::Lowat { pid, fd, side, n }),

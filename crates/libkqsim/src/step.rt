@@ -1,3 +1,4 @@
+//! One step of the system.
 ghost use Rattle.std.specs.Prelude.{◌≡◌};
 ghost use Rattle.libkqsim.specs.Steps.{IsAnswered};
 

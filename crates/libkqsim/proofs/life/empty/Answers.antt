@@ -1,12 +1,9 @@
 -- The system is new, and stands on the heap as it was made.
-use Rattle.std.proofs.Common.{◌≡◌, ◌∙◌, ap, rules, of_calls}
-use Rattle.kq_model.specs.System.{empty_system}
-use Rattle.kq_system.specs.SystemState.{system_of}
+use Rattle.std.proofs.Common.{◌≡◌, rules, of_calls, sym, subst}
+use Rattle.libkqsim.specs.Handles.{IsEmpty}
 use Rattle.libkqsim.proofs.life.empty.Goals as goal
 
-pub returns-clause-system : goal.returns-clause-system
-returns-clause-system c =
-    let same : c.in_ok-system-2.system.value ≡ c.in_ok-system.system = search rules in
-    let system : system_of c.in_ok-system.system ≡ empty_system c.args.version = search (rules, of_calls) in
-    let applied : c.in_ok-system.system.applied ≡ 0 = search (rules, of_calls) in
-    (ap system_of same ∙ system, ap (λ s. s.applied) same ∙ applied)
+pub returns-clause-sim : goal.returns-clause-sim
+returns-clause-sim c =
+    let same : c.in_ok-sim-2.sim.value ≡ c.in_ok-sim.sim = search rules in
+    subst (IsEmpty c.args.version) (sym same) (search (rules, of_calls))

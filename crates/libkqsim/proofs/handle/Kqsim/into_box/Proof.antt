@@ -45,8 +45,8 @@ use Rattle.std.proofs.impls.GlobalAllocator.TheImpl.Met.{passed}
 use Rattle.std.specs.contracts.boxed.Box as Box
 use Rattle.std.specs.contracts.boxed.Box.from_raw as g
 use Rattle.std.proofs.boxed.Box.from_raw.Met.{met}
-use Rattle.kq_system.specs.contracts.system.System.{the_row as S}
-use Rattle.kq_system.proofs.system.System.TheLaws.{the_row_laws as LS}
+use Rattle.libkqsim.specs.contracts.sim.Sim.{the_row as S}
+use Rattle.libkqsim.proofs.sim.Sim.TheLaws.{the_row_laws as LS}
 use Rattle.libkqsim.specs.Handles.{heap, held}
 use Rattle.libkqsim.specs.contracts.handle.Kqsim.{the_row as R}
 use Rattle.libkqsim.specs.contracts.handle.Kqsim.into_box as f
@@ -101,7 +101,7 @@ into_box_spec {M = M} 𝓤 𝓛 𝓜 𝓡 wired =
     qed 𝓛 ((‵ ftrue ⊛ ‵ (owns (types_at f.ended.signature.params tt) z.0.3 z.0.4)) ∷ ‵ ftrue ∷ []) ∵
     split ! $ drop ! $ fsplit ! $ peeks ! R _ (shows 𝓛 R) v us (λ is. fsplit ! $ move ! (2 ∷ []) $ fsplit ! $
     handle_tells E.al ! a hs (λ h ea fits. move ! (3 ∷ []) $
-    in_a_block ! v.at (λ p. held p v.system) (fst∗ 𝓤 (never 𝓤) (sem 𝓛 (ghosts.dealloc_token heap (bare (lone
+    in_a_block ! v.at (λ p. held p v.state) (fst∗ 𝓤 (never 𝓤) (sem 𝓛 (ghosts.dealloc_token heap (bare (lone
     S.mir)) null_ptr)))
     (λ b o e.
     -- [the system and the right to free it; the allocator; ..]
@@ -129,7 +129,7 @@ into_box_spec {M = M} 𝓤 𝓛 𝓜 𝓡 wired =
         (a, (block_ptr b o, tt)),
         (h ∷ [], (vptr b o ∷ [], tt)),
       ),
-      v.system,
+      v.state,
     ) in
     nothing ! $ move ! (1 ∷ 0 ∷ []) $ join ! $ move ! (1 ∷ 0 ∷ []) $ join ! $
     nothing ! $ feq_i ! (List Val) (vptr b o ∷ []) (vptr b o ∷ []) refl $ join ! $
@@ -145,7 +145,7 @@ into_box_spec {M = M} 𝓤 𝓛 𝓜 𝓡 wired =
     ftrue) ⊛
     ‵ ((box.B E).own_val r (u ∷ []))) ⊛ some (λ (ls : Lasts (g.ended S' Z' ghosts dict none) y.0.0 y.0.3).
     ‵ (lasts (g.ended S' Z' ghosts dict none) y.0.0 y.0.3 ls) ⊛
-    raw (fact 𝓤 (r.value ≡ v.system)) ⊛ raw (fact 𝓤 (r.alloc ≡ a)))))) (id⊢ 𝓤 (k.post y u)) $
+    raw (fact 𝓤 (r.value ≡ v.state)) ⊛ raw (fact 𝓤 (r.alloc ≡ a)))))) (id⊢ 𝓤 (k.post y u)) $
     await ! tt $ pick ! (λ r. split ! $ split ! $ drop ! $ move ! (1 ∷ []) $ pick ! (λ _. split3 ! $ drop ! $
     move ! (2 ∷ []) $
     box_out E ! r (u ∷ []) (λ b' o' h' e' ws fits'. box_in E ! r b' o' r.value e' refl $

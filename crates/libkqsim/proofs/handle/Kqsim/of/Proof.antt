@@ -51,12 +51,12 @@ use borrow.Fn.Kinds as kinds
 use borrow.Fn.Run.{Over}
 use borrow.Fn.World.{World}
 use denote.Triple.Carry.{AllWithin}
-use Rattle.libkqsim.proofs.kq_system++system++System+Destruct.drop.Kinds as drop_kinds
-use Rattle.libkqsim.proofs.kq_system++system++System+Destruct.drop.Met as drop_met
-use Rattle.libkqsim.proofs.kq_system++system++System+Destruct.drop.Reads as drop_reads
-use Rattle.libkqsim.proofs.kq_system++system++System+Destruct.drop.Symbol as drop_symbol
-use Rattle.kq_system.specs.contracts.system.System.{the_row as S}
-use Rattle.kq_system.proofs.system.System.TheLaws.{the_row_laws as LS}
+use Rattle.libkqsim.proofs.libkqsim++sim++Sim+Destruct.drop.Kinds as drop_kinds
+use Rattle.libkqsim.proofs.libkqsim++sim++Sim+Destruct.drop.Met as drop_met
+use Rattle.libkqsim.proofs.libkqsim++sim++Sim+Destruct.drop.Reads as drop_reads
+use Rattle.libkqsim.proofs.libkqsim++sim++Sim+Destruct.drop.Symbol as drop_symbol
+use Rattle.libkqsim.specs.contracts.sim.Sim.{the_row as S}
+use Rattle.libkqsim.proofs.sim.Sim.TheLaws.{the_row_laws as LS}
 use Rattle.libkqsim.specs.Handles.{heap, held}
 use Rattle.libkqsim.specs.contracts.handle.Kqsim.{the_type}
 use Rattle.libkqsim.specs.contracts.handle.Kqsim.of as f
@@ -103,7 +103,7 @@ of_spec {M = M} 𝓤 𝓛 𝓜 𝓡 wired =
     box_in E ! v b o v.value e refl $
     let w : Val = box.word E h b o in
     let typed = box.box_typed E h b o fits in
-    let ends = impl ("libkqsim::kq_system++system++System+Destruct::drop" ∷ []) tnil dnil in
+    let ends = impl ("libkqsim::libkqsim++sim++Sim+Destruct::drop" ∷ []) tnil dnil in
     let alive = passed 𝓡.env (code.calls-std_heap::GlobalAllocator::allocate 𝓡.env wired)
     (code.calls-std_heap::GlobalAllocator::deallocate 𝓡.env wired)
     (code.calls-std_heap::GlobalAllocator::grow 𝓡.env wired)
@@ -124,8 +124,8 @@ of_spec {M = M} 𝓤 𝓛 𝓜 𝓡 wired =
     (λ κs a. AllWithin 1 (κs.0, tt) (S'.lives, tt) × Unit {0}) m 0 tt (λ κs. tt) (λ κs a. drop_reads.Asked tt a)
     (λ κs a p. (tt, tt)) (λ κs bd within a vss qs. method_Known 0 drop_kinds.ps drop_kinds.r drop_reads.requires
     drop_reads.ensures drop_reads.Asked drop_reads.Learnt drop_reads.known world drop_symbol.name m
-    (drop_symbol.as_method 𝓡.env (code.calls-libkqsim::kq_system++system++System+Destruct::drop 𝓡.env wired) m refl)
-    (drop_met.met 𝓤 𝓛 𝓜 𝓡 (code.calls-libkqsim::kq_system++system++System+Destruct::drop 𝓡.env wired)) (
+    (drop_symbol.as_method 𝓡.env (code.calls-libkqsim::libkqsim++sim++Sim+Destruct::drop 𝓡.env wired) m refl)
+    (drop_met.met 𝓤 𝓛 𝓜 𝓡 (code.calls-libkqsim::libkqsim++sim++Sim+Destruct::drop 𝓡.env wired)) (
       (
         tt,
         qs,
@@ -171,7 +171,7 @@ of_spec {M = M} 𝓤 𝓛 𝓜 𝓡 wired =
     nothing ! $ nothing ! $ fjoin ! $ nothing ! $
     -- [nothing; nothing of the parameter; the `ensures`; the handle]
     returns ! (look_at ! 0 refl) $ free_all ! refl $ keep ! (0 ∷ 1 ∷ 3 ∷ 2 ∷ []) $
-    by ! (leaves 𝓛 f.ended stayed c z kv (record { at = block_ptr b' o'; system = v.value }) (tt, tt) (
+    by ! (leaves 𝓛 f.ended stayed c z kv (record { at = block_ptr b' o'; state = v.value }) (tt, tt) (
       tt,
       tt,
     ))))))))))))

@@ -1,4 +1,4 @@
--- `apply` lends the system behind the pointer to `Sys::apply`, and has it back.
+-- `step` lends the system behind the pointer to `Sim::apply`, and has it back.
 use Rattle.std.proofs.Common.{List, [], ◌∷◌, refl, sym, ap, ◌∙◌}
 use Rattle.std.proofs.raw_atomic.Walks.{proved, leaves}
 use mir.Syntax.{named}
@@ -33,14 +33,14 @@ use denote.Triple.Table.{framed}
 use denote.Triple.Walked.{Stays, stay_ref, stay_dropped, Goes-ref, Goes-dropped, walk_of}
 use Rattle.std.proofs.result.Result.TheLaws.{the_row_laws as result_laws}
 use Rattle.std.specs.contracts.impls.GlobalAllocator.TheImpl.{ghosts}
-use Rattle.kq_system.specs.contracts.system.System.{the_row as S}
+use Rattle.libkqsim.specs.contracts.sim.Sim.{the_row as S}
 use Rattle.kq_model.specs.contracts.event.Event.{the_row as E}
 use Rattle.kq_freebsd.specs.contracts.refusal.Refusal.{the_row as Y}
 use Rattle.kq_model.specs.contracts.reply.Reply.{the_row as X}
 use Rattle.kq_model.proofs.reply.Reply.TheLaws.{the_row_laws as reply_laws}
 use Rattle.kq_freebsd.proofs.refusal.Refusal.TheLaws.{the_row_laws as refusal_laws}
-use Rattle.libkqsim.specs.contracts.step.step as g
-use Rattle.libkqsim.proofs.step.step.Met.{met}
+use Rattle.libkqsim.specs.contracts.sim.Sim.apply as g
+use Rattle.libkqsim.proofs.sim.Sim.apply.Met.{met}
 use Rattle.libkqsim.specs.Handles.{heap, held}
 use Rattle.libkqsim.specs.contracts.handle.Kqsim.step as f
 use Rattle.libkqsim.proofs.handle.Kqsim.step.Statement.{statement}
@@ -72,7 +72,7 @@ step_spec 𝓤 𝓛 𝓜 𝓡 wired =
     let b = a.0.ref_ptr.0 in
     let o = a.0.ref_ptr.1 in
     let h = a.0.now in
-    let x = h.system in
+    let x = h.state in
     let vs = mut_vals a.0 in
     let es = shr_vals a.1.0 in
     let y : W.Ghost = ((κs, qs, bounds, a, (vs, (es, tt))), tt) in
@@ -115,7 +115,7 @@ step_spec 𝓤 𝓛 𝓜 𝓡 wired =
     nothing ! $ move ! (1 ∷ 0 ∷ []) $ use2 𝓛 (raw (G.pre z)) (id⊢ 𝓤 _) $
     -- [before the call; what is lent; the right to free; the fields; the cell; the open borrow, three;
     -- self's first part]
-    calls_at_last ! (framed 𝓤 𝓛.H 𝓜 𝓣) G (met 𝓤 𝓛 𝓜 𝓡 (code.calls-libkqsim::step::step 𝓡.env wired)) z
+    calls_at_last ! (framed 𝓤 𝓛.H 𝓜 𝓣) G (met 𝓤 𝓛 𝓜 𝓡 (code.calls-libkqsim::sim::Sim::apply 𝓡.env wired)) z
     (and_then ! (get ! refl) (and_then ! (get ! refl) (no_more !))) (λ v.
     use1 𝓛 (later (some (λ (r : Out.Denot).
     ((‵ (flft (α ∷ []) full_share) ⊛ ‵ (flft κs.1.0 qs.1.0) ⊛ ‵ ftrue) ⊛ ‵ (Out.own_val r (v ∷ []))) ⊛
@@ -129,7 +129,7 @@ step_spec 𝓤 𝓛 𝓜 𝓡 wired =
     -- fields; the cell; ..]
     move ! (0 ∷ 6 ∷ []) $ fjoin ! $ rewrite ! 0 (λ (p : Ptr). ‵ (held p ws.0)) (sym e) refl $
     rewrite ! 7 Cell (sym word) refl $ move ! (6 ∷ 0 ∷ []) $ fjoin ! $
-    move ! (6 ∷ 0 ∷ 7 ∷ 8 ∷ 9 ∷ []) $ closes ! tt R (record h { system = ws.0 }) us b o $
+    move ! (6 ∷ 0 ∷ 7 ∷ 8 ∷ 9 ∷ []) $ closes ! tt R (record h { state = ws.0 }) us b o $
     -- [two parts of self; its token; ..; ..; what the call ensures; the event's token; the result; self's first part]
     move ! (7 ∷ []) $ peeks ! Out (Is Out) (shows 𝓛 Out) r (v ∷ []) (λ fits.
     let good = (LOut.lawful 𝓛).typed r (v ∷ []) fits in
@@ -139,4 +139,4 @@ step_spec 𝓤 𝓛 𝓜 𝓡 wired =
     returns ! (look_at ! 0 refl) $ free_all ! refl $
     nothing ! $ nothing ! $ fjoin ! $ move ! (9 ∷ 2 ∷ 3 ∷ []) $ fjoin3 ! $ fjoin ! $
     move ! (2 ∷ 6 ∷ []) $ join ! $ keep ! (0 ∷ 1 ∷ 2 ∷ 5 ∷ []) $
-    by ! (leaves 𝓛 f.ended stayed c y v r (record h { system = ws.0 }, (tt, tt)) (tt, (tt, tt))))))))))))))
+    by ! (leaves 𝓛 f.ended stayed c y v r (record h { state = ws.0 }, (tt, tt)) (tt, (tt, tt))))))))))))))

@@ -1,0 +1,3 @@
+mod Taking
+mod Texts
+pub mod Wholes
