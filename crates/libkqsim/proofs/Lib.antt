@@ -1,3 +1,1 @@
-mod Taking
-mod Texts
 pub mod Wholes

@@ -1,18 +1,16 @@
 -- What a run logs is its trace and its report.
-use Rattle.std.proofs.Common.{◌≡◌, ◌∙◌, ◌+◌, ℕ, List, [], ◌∷◌, ◌++◌, length, refl, sym, ap, ap₂, subst, arith}
+use Rattle.std.proofs.Common.{◌≡◌, ◌∙◌, ◌+◌, ℕ, List, [], ◌∷◌, ◌++◌, length, refl, sym, ap, ap₂, arith}
 use Rattle.std.proofs.lemmas.List.{append-nil, append_assoc}
 use Rattle.kq_model.specs.declared.event.Event.{Event}
 use Rattle.kq_model.specs.declared.reply.Reply.{Reply}
 use Rattle.kq_model.specs.declared.reply.Reply.TheVariants.{Done, Events, Failed, Impossible}
 use Rattle.kq_model.specs.declared.row.Row.{Row}
 use Rattle.kq_model.specs.Hearing.{listed}
-use Rattle.kq_model.specs.Limits.{IsVersion}
 use Rattle.kq_model.specs.Objects as objects
-use Rattle.kq_model.specs.Reading.{Good, reading}
+use Rattle.kq_model.specs.Reading.{reading}
 use Rattle.kq_model.specs.Report.{call_count, calls_in, event_count, events_in, last_line, report, report_of, reply_line, row_lines}
-use Rattle.kq_model.specs.Spelling.{header_data, line_text, record_data, records_text, spelling}
+use Rattle.kq_model.specs.Spelling.{line_text, record_data, records_text, spelling}
 use Rattle.kq_model.specs.System.{System, empty_system, row_of, rows, rows_after, rows_by, step}
-use Rattle.kq_spell.specs.Again.{CanBeReadAgain, FitsRecord}
 use Rattle.kq_spell.proofs.ReadAgain.{FitRecords, read_again}
 use Rattle.libkqsim.specs.Logs.{Logged, begun, no_log, with_record}
 use Rattle.libkqsim.specs.Whole.{FitAll, IsWhole, log_of, whole_log}

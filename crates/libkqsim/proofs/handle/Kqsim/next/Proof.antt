@@ -23,9 +23,12 @@ use denote.Lend.{lends_ref, ref_back}
 use denote.RawPtr.{Ptr, null_ptr, in_a_block}
 use denote.Ref.{MutRef, mut_vals, mut_Tells, ShrRef, shr_vals, shr_Tells, MutBor}
 use denote.RattleType.{RattleType}
+use denote.Param.Laws.{of_field}
+use denote.Param.Shared.{copy_shared}
 use denote.Builtin.{RefOf, u8}
 use denote.Signature.{plain, type_at}
-use denote.Struct.Laws.{u8-laws}
+use denote.Struct.Field.{u8-field}
+use denote.Struct.Laws.{u8-copy, u8-laws}
 use denote.Steps.{nothing, opens, closes, peeks}
 use denote.Triple.Call.{calls_at_last}
 use denote.Triple.Clauses.{Lasts, lasts, at_exit}
@@ -74,7 +77,7 @@ next_spec 𝓤 𝓛 𝓜 𝓡 wired =
     let es = shr_vals a.1.0 in
     let y : W.Ghost = ((κs, qs, bounds, a, (vs, (es, tt))), tt) in
     let Out : RattleType = type_at f.ended.signature.result κs in
-    let LOut = option_laws u8 u8-laws in
+    let LOut = option_laws u8 (of_field u8-field u8-laws refl (copy_shared u8-field u8-copy)) in
     qed 𝓛 (((‵ (flft κs.0 qs.0) ⊛ ‵ (flft κs.1.0 qs.1.0) ⊛ ‵ ftrue) ⊛
     ‵ ((MutRef (named 0) κs.0 R).own_val a.0 vs) ⊛ ‵ ((ShrRef (named 1) κs.1.0 E).own_val a.1.0 es) ⊛ ‵ ftrue)
     ∷ ‵ ftrue ∷ []) ∵

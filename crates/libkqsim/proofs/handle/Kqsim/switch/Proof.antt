@@ -23,9 +23,12 @@ use denote.Lend.{lends_ref, ref_back}
 use denote.RawPtr.{Ptr, null_ptr, in_a_block}
 use denote.Ref.{MutRef, mut_vals, mut_Tells, ShrRef, shr_vals, shr_Tells, MutBor}
 use denote.RattleType.{RattleType}
+use denote.Param.Laws.{of_field}
+use denote.Param.Shared.{copy_shared}
 use denote.Builtin.{RefOf, unit}
 use denote.Signature.{plain, type_at}
-use denote.Struct.Laws.{unit-laws}
+use denote.Struct.Field.{unit-field}
+use denote.Struct.Laws.{unit-copy, unit-laws}
 use denote.Steps.{nothing, opens, closes, peeks}
 use denote.Triple.Call.{calls_at_last}
 use denote.Triple.Clauses.{Lasts, lasts, at_exit}
@@ -76,7 +79,8 @@ switch_spec 𝓤 𝓛 𝓜 𝓡 wired =
     let es = shr_vals a.1.0 in
     let y : W.Ghost = ((κs, qs, bounds, a, (vs, (es, tt))), tt) in
     let Out : RattleType = type_at f.ended.signature.result κs in
-    let LOut = result_laws unit Y unit-laws refusal_laws in
+    let nothing-laws = of_field unit-field unit-laws refl (copy_shared unit-field unit-copy) in
+    let LOut = result_laws unit Y nothing-laws refusal_laws in
     qed 𝓛 (((‵ (flft κs.0 qs.0) ⊛ ‵ (flft κs.1.0 qs.1.0) ⊛ ‵ ftrue) ⊛
     ‵ ((MutRef (named 0) κs.0 R).own_val a.0 vs) ⊛ ‵ ((ShrRef (named 1) κs.1.0 E).own_val a.1.0 es) ⊛ ‵ ftrue)
     ∷ ‵ ftrue ∷ []) ∵
